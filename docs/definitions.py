@@ -11,37 +11,37 @@ from pathlib import Path
 
 DOCS = Path(__file__).resolve().parent
 CRATES = DOCS.parent / "crates"
-SPECS = CRATES / "definitions/specs"
+SPECS = CRATES / "spec_api/specs"
 
 # The crates of definitions beside the first, each with those of its files that say what is meant.
 BESIDE = {
-    "line_protocol": ["Lines"],
+    "spec_line_protocol": ["Lines"],
     "chunked": ["Bodies"],
-    "connections": ["Heads", "Checks", "Connections", "Replies"],
-    "exchanges": ["Requests", "Answers"],
-    "following": ["Followers", "Recognized", "Answered", "Given", "Pauses"],
-    "client": ["Replies", "Bodies", "Calls", "Watches"],
-    "server_state": ["Snapshots", "Recorded", "Servers"],
-    "controllers": ["ReadFrames", "Reflectors", "WorkQueues", "Delays", "Expectations", "Informers", "Shifts", "OwnerReferences", "OwedKeys", "Hands", "Commands"],
+    "spec_http_server": ["Heads", "Checks", "Connections", "Replies"],
+    "spec_http_client": ["Requests", "Answers"],
+    "list_and_watch": ["Followers", "Recognized", "Answered", "Given", "Pauses"],
+    "http_client": ["Replies", "Bodies", "Calls", "Watches"],
+    "spec_server": ["Snapshots", "Recorded", "Servers"],
+    "spec_client_go": ["ReadFrames", "Reflectors", "WorkQueues", "Delays", "Expectations", "Informers", "Shifts", "OwnerReferences", "OwedKeys", "Hands", "Commands"],
     "keyed_queue": ["Queues"],
     "keyed_delays": ["Delays"],
     "keyed_backoff": ["Failures"],
-    "control": ["Boards"],
-    "simulation": ["Followers", "Moves", "Clusters", "OutcomeTexts", "StepLines"],
-    "reconciling": ["Turns", "NextSteps", "PodObservations", "Managers", "Outcomes", "ControlPlanes", "OutcomeTexts", "StepLines"],
-    "plans": ["Pods", "PodClaims", "PodRanks", "NewPods", "ReplicaSets", "Rollouts", "Templates", "Revisions", "Deployments", "Standings", "GarbageCollection", "MetadataEdits",
+    "spec_work_board": ["Boards"],
+    "spec_sim_cluster": ["Followers", "Moves", "Clusters", "OutcomeTexts", "StepLines"],
+    "spec_sim_control_plane": ["Turns", "NextSteps", "PodObservations", "Managers", "Outcomes", "ControlPlanes", "OutcomeTexts", "StepLines"],
+    "spec_reconcile": ["Pods", "PodClaims", "PodRanks", "NewPods", "ReplicaSets", "Rollouts", "Templates", "Revisions", "Deployments", "Standings", "GarbageCollection", "MetadataEdits",
               "Counts", "Statuses", "Orders"],
 }
 
 # The crates of laws, whose words stand in the index of words.
-LAWS = ["laws", "keyed_laws", "informer_laws", "plan_laws", "reconciling_laws", "simulation_laws", "control_plane_laws", "collector_laws", "overshoot_laws", "following_laws", "stream_laws", "exchanges"]
+LAWS = ["spec_laws", "keyed_laws", "informer_laws", "reconcile_laws", "sim_worker_laws", "sim_cluster_laws", "sim_control_plane_laws", "sim_collector_laws", "sim_overshoot_laws", "list_and_watch_laws", "streaming_list_laws", "spec_http_client"]
 
 HEAD = """# Definitions
 
 What a reader has to believe: the words by which contracts speak. What follows from them is in [LAWS.md](LAWS.md).
 `docs/definitions.py` makes both pages of the comments of the files.
 
-What the API server does is in `crates/definitions/specs`, in reading order; what is said over lines and over connections, what a
+What the API server does is in `crates/spec_api/specs`, in reading order; what is said over lines and over connections, what a
 server stores, and what controllers work by stand in crates of their own. A row has the words that other definitions or laws use.
 Texts are lists of bytes, and numbers are natural, unless a definition says otherwise.
 """
@@ -50,7 +50,7 @@ LAWS_HEAD = """# Laws
 
 What follows from the [definitions](DEFINITIONS.md), whatever code meets them, and what crates of code say of their own words. Each law is
 the contract of a public function with an empty body, and proved; a heading has its crate and its file, in the order of `crates.txt`.
-Single cases, computed, are in `crates/examples`, `crates/simulation_examples` and `crates/reconciling_examples`. `docs/definitions.py` makes
+Single cases, computed, are in `crates/spec_examples`, `crates/sim_cluster_examples` and `crates/sim_control_plane_examples`. `docs/definitions.py` makes
 this page.
 """
 
@@ -81,7 +81,7 @@ def modules_of(path):
 def used_words():
     """Returns the words that definitions and laws import of each module, by crate and module."""
     used = {}
-    paths = [path for crate in ["definitions", *LAWS, *BESIDE] for path in (CRATES / crate / "specs").rglob("*.antt")]
+    paths = [path for crate in ["spec_api", *LAWS, *BESIDE] for path in (CRATES / crate / "specs").rglob("*.antt")]
     for path in paths:
         for crate, module, words in re.findall(r"^use Rattle\.(\w+)\.specs\.(?:\w+\.)?(\w+)\.\{(.*)\}$", text_of(path), re.M):
             used.setdefault((crate, module), set()).update(re.findall(r"[^\s,]+", words))
@@ -103,9 +103,9 @@ def folder_rows(name, used):
     """Returns the heading of a folder, and a row for each of its files."""
     head = SPECS / f"{name}.antt"
     if not modules_of(head):
-        return ["", f"## {name}", "", comment_of(head) + words_of("definitions", head, used)]
-    rows = ["", f"## {name}", "", comment_of(head) + words_of("definitions", head, used), ""]
-    return rows + [row_of("definitions", SPECS / name / f"{module}.antt", used) for module in modules_of(head)]
+        return ["", f"## {name}", "", comment_of(head) + words_of("spec_api", head, used)]
+    rows = ["", f"## {name}", "", comment_of(head) + words_of("spec_api", head, used), ""]
+    return rows + [row_of("spec_api", SPECS / name / f"{module}.antt", used) for module in modules_of(head)]
 
 
 def crate_rows(crate, modules, used):
@@ -123,7 +123,7 @@ def laws_of(path):
 def law_rows():
     """Returns for each file of laws, crate by crate, its heading, its own sentence, and for each law its name and what it says."""
     crates, rows = re.findall(r"^(\w+):", text_of(DOCS.parent / "crates.txt"), re.M), []
-    for path in (path for crate in crates for path in sorted((CRATES / crate / "src").glob("*.rt")) if "examples" not in str(path)):
+    for path in (path for crate in crates for path in sorted((CRATES / crate / "src").glob("*.rt")) if "spec_examples" not in str(path)):
         if laws := laws_of(path):
             rows += ["", f"## `{path.parent.parent.name}`, `{path.name}`", "", sentence_of(path), ""]
             rows += [f"- `{name}`: {sentence}" for name, sentence in laws]

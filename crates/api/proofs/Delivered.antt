@@ -1,24 +1,24 @@
 -- What was done, and written.
 use Rattle.std.proofs.Common.{◌≡◌, ℕ, List, Bool, Option, Some, None, Result, Ok, Err, refl, sym, subst, ◌∙◌}
-use Rattle.definitions.specs.ListQueries.{ListOptions}
-use Rattle.definitions.specs.declared.versions.Start.{Start}
-use Rattle.definitions.specs.History.{View}
-use Rattle.definitions.specs.ObjectRequests.{Request}
-use Rattle.definitions.specs.Refusals.{Refusal}
-use Rattle.definitions.specs.Targets as targets
-use Rattle.definitions.specs.Verbs.{Outcome, refused}
-use Rattle.definitions.specs.Versions.{Listed}
+use Rattle.spec_api.specs.ListQueries.{ListOptions}
+use Rattle.spec_api.specs.declared.versions.Start.{Start}
+use Rattle.spec_api.specs.History.{View}
+use Rattle.spec_api.specs.ObjectRequests.{Request}
+use Rattle.spec_api.specs.Refusals.{Refusal}
+use Rattle.spec_api.specs.Targets as targets
+use Rattle.spec_api.specs.Verbs.{Outcome, refused}
+use Rattle.spec_api.specs.Versions.{Listed}
 use Rattle.chunked.specs.declared.watched.Watched.{Watched}
-use Rattle.keys.specs.Faults.{refusal_of}
-use Rattle.watch_service.proofs.Going.{opened_follows}
-use Rattle.watch_service.specs.Opened.{Refuses, IsOpened, opening_of}
-use Rattle.watch_service.specs.Served.{Follows, Serves}
-use Rattle.watch_service.specs.Watches.{Look, opening_text}
-use Rattle.watch_service.specs.declared.fault.Cut.{Cut}
-use Rattle.watch_service.specs.declared.fault.Cut.TheVariants as cut
-use Rattle.watch_service.specs.declared.fault.WatchFault.{WatchFault}
-use Rattle.watch_service.specs.declared.fault.WatchFault.TheVariants as left
-use Rattle.watch_service.specs.declared.opening.Opened.{Opened}
+use Rattle.object_keys.specs.Faults.{refusal_of}
+use Rattle.http_watch.proofs.Going.{opened_follows}
+use Rattle.http_watch.specs.Opened.{Refuses, IsOpened, opening_of}
+use Rattle.http_watch.specs.Served.{Follows, Serves}
+use Rattle.http_watch.specs.Watches.{Look, opening_text}
+use Rattle.http_watch.specs.declared.fault.Cut.{Cut}
+use Rattle.http_watch.specs.declared.fault.Cut.TheVariants as cut
+use Rattle.http_watch.specs.declared.fault.WatchFault.{WatchFault}
+use Rattle.http_watch.specs.declared.fault.WatchFault.TheVariants as left
+use Rattle.http_watch.specs.declared.opening.WatchStart.{WatchStart}
 use Rattle.api.proofs.Written.{replied}
 use Rattle.api.specs.Delivering.{after_watch, GoesOn, Delivers}
 use Rattle.api.specs.Replying.{Sends}
@@ -43,7 +43,7 @@ module _ {D : Type 0} (contents : D → Option (List ℕ)) (new : Watched D) whe
 
 module _ {S D : Type 0} (begins : S → View → Option ℕ → Result Listed Refusal → S → Type 0) (watches : S → View → ℕ → ℕ → Look → S → Type 0) (v : View) (bookmarks : Bool)
     (contents : D → Option (List ℕ)) (s mid t : S) (old new : Watched D) (start : Start) where
-  serves : (w : Opened) (followed : Result (Unit {0}) Cut) → IsOpened begins watches v bookmarks start s mid (Ok w)
+  serves : (w : WatchStart) (followed : Result (Unit {0}) Cut) → IsOpened begins watches v bookmarks start s mid (Ok w)
       → Follows watches v bookmarks contents mid t old new (opening_of w) w.at.revision w.at.idle followed → Serves begins watches v bookmarks contents s t old new start (served_as followed)
   serves w (Ok u) (o, opens, stands, idle, is) follows =
       (o, mid, opens, opened_follows watches v bookmarks contents mid t old new (opening_of w) (opening_text v.kind o) w.at.revision w.at.idle o.stands o.idle (Ok u) stands idle is follows)

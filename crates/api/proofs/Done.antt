@@ -1,23 +1,23 @@
 -- What was done, and how a connection is left then.
 use Rattle.std.proofs.Common.{◌≡◌, ℕ, List, Bool, true, false, Option, Some, None, Result, Ok, Err, sym, ap, true≢false, ◌∙◌}
-use Rattle.definitions.specs.ListQueries.{ListOptions}
-use Rattle.definitions.specs.History.{View}
-use Rattle.definitions.specs.ObjectRequests.{Request}
-use Rattle.definitions.specs.Refusals.{Refusal}
-use Rattle.definitions.specs.Targets as targets
-use Rattle.definitions.specs.Targets.{Asked}
-use Rattle.definitions.specs.Verbs.{Outcome, refused}
-use Rattle.definitions.specs.Versions.{Listed}
+use Rattle.spec_api.specs.ListQueries.{ListOptions}
+use Rattle.spec_api.specs.History.{View}
+use Rattle.spec_api.specs.ObjectRequests.{Request}
+use Rattle.spec_api.specs.Refusals.{Refusal}
+use Rattle.spec_api.specs.Targets as targets
+use Rattle.spec_api.specs.Targets.{Asked}
+use Rattle.spec_api.specs.Verbs.{Outcome, refused}
+use Rattle.spec_api.specs.Versions.{Listed}
 use Rattle.chunked.specs.declared.watched.Watched.{Watched}
-use Rattle.keys.specs.Faults.{refusal_of}
-use Rattle.received.specs.Receiving as received
-use Rattle.received.specs.Receiving.{IsNeeded, IsWhole, Needs}
-use Rattle.received.specs.declared.received.Received.{Received}
-use Rattle.request_heads.specs.declared.fault.ReadFault.TheVariants as read
-use Rattle.watch_service.specs.Watches.{Look}
-use Rattle.watch_service.specs.declared.fault.Cut.TheVariants as cut
-use Rattle.watch_service.specs.declared.fault.WatchFault.{WatchFault}
-use Rattle.watch_service.specs.declared.fault.WatchFault.TheVariants as left
+use Rattle.object_keys.specs.Faults.{refusal_of}
+use Rattle.http_request_reader.specs.Receiving as received
+use Rattle.http_request_reader.specs.Receiving.{IsNeeded, IsWhole, Needs}
+use Rattle.http_request_reader.specs.declared.received.Received.{Received}
+use Rattle.http_request_head.specs.declared.fault.ReadFault.TheVariants as read
+use Rattle.http_watch.specs.Watches.{Look}
+use Rattle.http_watch.specs.declared.fault.Cut.TheVariants as cut
+use Rattle.http_watch.specs.declared.fault.WatchFault.{WatchFault}
+use Rattle.http_watch.specs.declared.fault.WatchFault.TheVariants as left
 use Rattle.api.proofs.Written.{replies_fault}
 use Rattle.api.specs.Serving.{AsksKnown, Concludes, Answers, Does, Reads, has_reader_failed, served_of}
 use Rattle.api.specs.declared.fault.ServeFault.{ServeFault}

@@ -1,18 +1,18 @@
 -- What was written.
 use Rattle.std.proofs.Common.{◌≡◌, inl, inr, false, ℕ, List, [], Option, Some, None, Result, Ok, Err, refl, sym, ap, subst, ◌∙◌, append-nil, string_bytes}
 use Rattle.std.specs.Io.KnownBytes.{Appends}
-use Rattle.definitions.specs.Replies.{outcome}
-use Rattle.definitions.specs.Verbs.{Outcome, answered, refused}
+use Rattle.spec_api.specs.Replies.{outcome}
+use Rattle.spec_api.specs.Verbs.{Outcome, answered, refused}
 use Rattle.chunked.specs.Devices.{device_of, has_failed}
 use Rattle.chunked.specs.Writing.{WritesInPlace}
 use Rattle.chunked.specs.declared.fault.ChunkFault.{ChunkFault}
 use Rattle.chunked.specs.declared.fault.ChunkFault.TheVariants as chunk
 use Rattle.chunked.specs.declared.watched.Watched.{Watched}
-use Rattle.connections.specs.Replies.{response_text, reply_text}
-use Rattle.keys.specs.Faults.{refusal_of}
-use Rattle.keys.specs.declared.fault.Fault.{Fault}
+use Rattle.spec_http_server.specs.Replies.{response_text, reply_text}
+use Rattle.object_keys.specs.Faults.{refusal_of}
+use Rattle.object_keys.specs.declared.fault.Fault.{Fault}
 use Rattle.reply.specs.declared.reply.Reply as replies
-use Rattle.sites.specs.Told.{Tells}
+use Rattle.http_backend.specs.Told.{Tells}
 use Rattle.api.specs.Replying.{Sends, Replies}
 use Rattle.api.specs.Responding.{IsReplyTo, IsReplyOf}
 use Rattle.api.specs.Serving.{has_reader_failed}

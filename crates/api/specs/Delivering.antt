@@ -1,13 +1,13 @@
 -- Responses that are written.
 use Rattle.std.specs.Prelude.{◌≡◌, ℕ, List, Option, Result, Ok, Err}
-use Rattle.definitions.specs.History.{View}
+use Rattle.spec_api.specs.History.{View}
 use Rattle.chunked.specs.declared.watched.Watched.{Watched}
 use Rattle.selector.specs.Views.{view_of}
-use Rattle.watch_service.specs.declared.fault.Cut.{Cut}
-use Rattle.watch_service.specs.declared.fault.Cut.TheVariants as cut
-use Rattle.watch_service.specs.Opened.{opening_of}
-use Rattle.watch_service.specs.Served.{Follows}
-use Rattle.watch_service.specs.Watches.{Look}
+use Rattle.http_watch.specs.declared.fault.Cut.{Cut}
+use Rattle.http_watch.specs.declared.fault.Cut.TheVariants as cut
+use Rattle.http_watch.specs.Opened.{opening_of}
+use Rattle.http_watch.specs.Served.{Follows}
+use Rattle.http_watch.specs.Watches.{Look}
 use Rattle.api.specs.Replying.{Sends}
 use Rattle.api.specs.Responding.{text_of}
 use Rattle.api.specs.declared.fault.ServeFault.{ServeFault}

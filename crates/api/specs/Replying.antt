@@ -1,12 +1,12 @@
 -- What is written for an answer.
 use Rattle.std.specs.Prelude.{◌≡◌, ◌⊎◌, ℕ, List, Option, true, false, Result, Ok, Err}
 use Rattle.std.specs.Io.KnownBytes.{Appends}
-use Rattle.definitions.specs.Refusals.{no_memory}
-use Rattle.definitions.specs.Replies.{outcome}
-use Rattle.definitions.specs.Verbs.{Outcome, answered, refused}
+use Rattle.spec_api.specs.Refusals.{no_memory}
+use Rattle.spec_api.specs.Replies.{outcome}
+use Rattle.spec_api.specs.Verbs.{Outcome, answered, refused}
 use Rattle.chunked.specs.Devices.{AppendsBeginning, device_of, has_failed}
 use Rattle.chunked.specs.declared.watched.Watched.{Watched}
-use Rattle.connections.specs.Replies.{reply_text}
+use Rattle.spec_http_server.specs.Replies.{reply_text}
 use Rattle.api.specs.declared.fault.ServeFault.{ServeFault}
 use Rattle.api.specs.declared.fault.ServeFault.TheVariants as fault
 

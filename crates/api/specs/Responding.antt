@@ -1,20 +1,20 @@
 -- What is to be written for what is asked.
 use Rattle.std.specs.Prelude.{◌≡◌, ◌⊎◌, ℕ, List, Option, Some, None, Result, Ok, Err, string_bytes}
-use Rattle.definitions.specs.ListQueries.{ListOptions}
-use Rattle.definitions.specs.History.{View}
-use Rattle.definitions.specs.ObjectRequests.{Request}
-use Rattle.definitions.specs.Refusals.{Refusal, no_memory}
-use Rattle.definitions.specs.Replies.{outcome}
-use Rattle.definitions.specs.Targets.{Asked, request, list, watch}
-use Rattle.definitions.specs.Verbs.{Outcome, answered, refused}
-use Rattle.definitions.specs.Versions.{Listed}
-use Rattle.connections.specs.Replies.{response_text, reply_text}
-use Rattle.keys.specs.Faults.{refusal_of}
-use Rattle.keys.specs.declared.fault.Fault.{Fault}
+use Rattle.spec_api.specs.ListQueries.{ListOptions}
+use Rattle.spec_api.specs.History.{View}
+use Rattle.spec_api.specs.ObjectRequests.{Request}
+use Rattle.spec_api.specs.Refusals.{Refusal, no_memory}
+use Rattle.spec_api.specs.Replies.{outcome}
+use Rattle.spec_api.specs.Targets.{Asked, request, list, watch}
+use Rattle.spec_api.specs.Verbs.{Outcome, answered, refused}
+use Rattle.spec_api.specs.Versions.{Listed}
+use Rattle.spec_http_server.specs.Replies.{response_text, reply_text}
+use Rattle.object_keys.specs.Faults.{refusal_of}
+use Rattle.object_keys.specs.declared.fault.Fault.{Fault}
 use Rattle.reply.specs.declared.reply.Reply as replies
 use Rattle.selector.specs.Views.{view_of}
-use Rattle.watch_service.specs.Opened.{Refuses, IsOpened}
-use Rattle.watch_service.specs.Watches.{Look}
+use Rattle.http_watch.specs.Opened.{Refuses, IsOpened}
+use Rattle.http_watch.specs.Watches.{Look}
 use Rattle.api.specs.declared.response.OpenWatch.{OpenWatch}
 use Rattle.api.specs.declared.response.Response.{Response}
 use Rattle.api.specs.declared.response.Response.TheVariants as response

@@ -1,24 +1,24 @@
 -- What becomes of a connection.
 use Rattle.std.specs.Prelude.{◌≡◌, ◌⊎◌, ℕ, List, Bool, true, false, Option, Some, None, Result, Ok, Err, ⊤}
 use Rattle.std.specs.Io.KnownBytes.{Consumes}
-use Rattle.definitions.specs.ListQueries.{ListOptions}
-use Rattle.definitions.specs.History.{View}
-use Rattle.definitions.specs.ObjectRequests.{Request}
-use Rattle.definitions.specs.Refusals.{Refusal, no_memory}
-use Rattle.definitions.specs.Replies.{outcome}
-use Rattle.definitions.specs.Targets.{Asked, request, list, watch}
-use Rattle.definitions.specs.Verbs.{Outcome, refused}
-use Rattle.definitions.specs.Versions.{Listed}
+use Rattle.spec_api.specs.ListQueries.{ListOptions}
+use Rattle.spec_api.specs.History.{View}
+use Rattle.spec_api.specs.ObjectRequests.{Request}
+use Rattle.spec_api.specs.Refusals.{Refusal, no_memory}
+use Rattle.spec_api.specs.Replies.{outcome}
+use Rattle.spec_api.specs.Targets.{Asked, request, list, watch}
+use Rattle.spec_api.specs.Verbs.{Outcome, refused}
+use Rattle.spec_api.specs.Versions.{Listed}
 use Rattle.chunked.specs.declared.watched.Watched.{Watched}
-use Rattle.connections.specs.Connections.{Asks}
-use Rattle.connections.specs.Replies.{reply_text}
-use Rattle.keys.specs.Faults.{refusal_of}
-use Rattle.received.specs.Receiving.{IsWhole, IsNeeded}
-use Rattle.watch_service.specs.Served.{Serves}
-use Rattle.watch_service.specs.Watches.{Look}
-use Rattle.watch_service.specs.declared.fault.Cut.TheVariants as cut
-use Rattle.watch_service.specs.declared.fault.WatchFault.{WatchFault}
-use Rattle.watch_service.specs.declared.fault.WatchFault.TheVariants as left
+use Rattle.spec_http_server.specs.Connections.{Asks}
+use Rattle.spec_http_server.specs.Replies.{reply_text}
+use Rattle.object_keys.specs.Faults.{refusal_of}
+use Rattle.http_request_reader.specs.Receiving.{IsWhole, IsNeeded}
+use Rattle.http_watch.specs.Served.{Serves}
+use Rattle.http_watch.specs.Watches.{Look}
+use Rattle.http_watch.specs.declared.fault.Cut.TheVariants as cut
+use Rattle.http_watch.specs.declared.fault.WatchFault.{WatchFault}
+use Rattle.http_watch.specs.declared.fault.WatchFault.TheVariants as left
 use Rattle.api.specs.Replying.{Sends, Replies}
 use Rattle.api.specs.declared.fault.ServeFault.{ServeFault}
 use Rattle.api.specs.declared.fault.ServeFault.TheVariants as fault

@@ -6,12 +6,12 @@ use crate::fault::ServeFault;
 use crate::replying::send_reply;
 use crate::response::{OpenWatch, Response};
 use chunked::Watched;
+use http_watch::{Cut, LookPace, WatchSource, go_on};
 use std::alloc::Global;
 use std::io::Write;
-use watch_service::{Cut, Pace, WatchSource, go_on};
 
 /// Writes what a watch opened with, and goes on with it up to its end.
-fn deliver_watch<S: WatchSource, P: Pace, W: Write + Drop>(
+fn deliver_watch<S: WatchSource, P: LookPace, W: Write + Drop>(
     alloc: Global,
     watch: OpenWatch,
     site: &mut S,
@@ -37,7 +37,7 @@ fn deliver_watch<S: WatchSource, P: Pace, W: Write + Drop>(
 }
 
 /// Writes a response: a reply at once, a watch up to its end.
-pub(crate) fn deliver<S: WatchSource, P: Pace, W: Write + Drop>(
+pub(crate) fn deliver<S: WatchSource, P: LookPace, W: Write + Drop>(
     alloc: Global,
     response: Response,
     site: &mut S,

@@ -1,15 +1,15 @@
 //! Replies, as bytes.
 ghost use Rattle.api.specs.Replying.{Sends};
 ghost use Rattle.api.specs.Responding.{IsReplyTo, IsReplyOf, text_of};
-ghost use Rattle.definitions.specs.Verbs.{refused};
-ghost use Rattle.keys.specs.Faults.{refusal_of};
+ghost use Rattle.spec_api.specs.Verbs.{refused};
+ghost use Rattle.object_keys.specs.Faults.{refusal_of};
 
 use crate::fault::ServeFault;
 use crate::response::Text;
 use chunked::Watched;
-use keys::Fault;
+use http_response::{out_of_memory, refusal, response, send_response};
+use object_keys::Fault;
 use reply::Reply;
-use responses::{out_of_memory, refusal, response, send_response};
 use std::alloc::Global;
 use std::io::Write;
 

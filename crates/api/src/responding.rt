@@ -1,25 +1,25 @@
 //! What is asked, done at a server.
 ghost use Rattle.std.specs.Prelude.{Ok, Some};
 ghost use Rattle.api.specs.Responding.{Responds};
-ghost use Rattle.asked.specs.Asked.{asked_seen};
-ghost use Rattle.definitions.specs.Targets as targets;
-ghost use Rattle.received.specs.Receiving.{said};
-ghost use Rattle.requests.specs.Collected.{list_seen, watch_seen};
+ghost use Rattle.request_decoding.specs.Asked.{asked_seen};
+ghost use Rattle.spec_api.specs.Targets as targets;
+ghost use Rattle.http_request_reader.specs.Receiving.{said};
+ghost use Rattle.request_parts.specs.Collected.{list_seen, watch_seen};
 ghost use Rattle.selector.specs.Views.{view_of};
-ghost use Rattle.requests.specs.Requests.{request_of};
+ghost use Rattle.request_parts.specs.Requests.{request_of};
 
 use crate::replying::{answer_text, refusal_text};
 use crate::response::{OpenWatch, Response};
-use asked::Asked;
-use received::Received;
-use requests::Request;
-use requests::list_options::ListOptions;
-use requests::watch_options::WatchOptions;
+use http_backend::Site;
+use http_request_reader::Received;
+use http_watch::open;
+use metadata_values::moments::Moment;
+use request_decoding::Asked;
+use request_parts::Request;
+use request_parts::list_options::ListOptions;
+use request_parts::watch_options::WatchOptions;
 use selector::View;
-use sites::Site;
-use stamps::moments::Moment;
 use std::alloc::Global;
-use watch_service::open;
 
 /// Does a request at a server, and returns its reply.
 fn respond_to_request<S: Site>(

@@ -1,7 +1,7 @@
 //! What is to be written over a connection.
+use http_watch::WatchStart;
 use reply::Reply;
 use selector::View;
-use watch_service::Opened;
 
 /// A whole reply.
 #[derive(Drop)]
@@ -22,7 +22,7 @@ pub struct OpenWatch {
     /// Whether bookmarks are shown.
     pub bookmarks: bool,
     /// What it opens with, and where it then stands.
-    pub opened: Opened,
+    pub opened: WatchStart,
 }
 
 /// What is to be written over a connection for what was received of it.

@@ -1,9 +1,9 @@
 //! What a connection came to.
 ghost use Rattle.api.specs.Serving.{served_of};
-ghost use Rattle.received.specs.Receiving.{said};
+ghost use Rattle.http_request_reader.specs.Receiving.{said};
 ghost use Rattle.std.specs.Prelude.{◌≡◌};
 
-use received::Received;
+use http_request_reader::Received;
 
 /// What a connection came to, where it was not left.
 #[derive(Debug, Clone, Copy, PartialEq, Eq)]

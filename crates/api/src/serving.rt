@@ -9,15 +9,15 @@ use crate::replying::send;
 use crate::responding::respond;
 use crate::served::{Served, served_by};
 use chunked::Watched;
-use received::receive;
-use request_heads::ReadFault;
-use responses::out_of_memory;
-use routes::table::Routes;
-use sites::Site;
-use stamps::moments::Moment;
+use http_backend::Site;
+use http_request_head::ReadFault;
+use http_request_reader::receive;
+use http_response::out_of_memory;
+use http_watch::LookPace;
+use metadata_values::moments::Moment;
+use request_routing::table::Routes;
 use std::alloc::Global;
 use std::io::{Read, Write};
-use watch_service::Pace;
 
 /// Serves one request of a connection: reads it, asks a server at a moment, and writes the reply. Half a request is neither done
 /// nor replied to. A reply to what was done never lacks memory; what is not done because memory ran out is replied to with that,
@@ -26,7 +26,7 @@ use watch_service::Pace;
 ///
 /// The error says why the connection is left: its reader failed, and nothing was done or written; its writer failed, and a
 /// beginning of the reply was written to what was done; or out of memory within a watch, whose end is then missing.
-pub fn serve_one<S: Site, P: Pace, R: Read + Drop, W: Write + Drop>(
+pub fn serve_one<S: Site, P: LookPace, R: Read + Drop, W: Write + Drop>(
     alloc: Global,
     routes: &Routes,
     reader: &mut Watched<R>,

@@ -6,16 +6,16 @@ use Rattle.collection_texts.specs.Scopes.{Scope, IsText, is_scope}
 use Rattle.collection_texts.specs.Seen.{scope_of}
 use Rattle.collection_texts.specs.Targets.{target}
 use Rattle.collection_texts.specs.Told.{Asks}
-use Rattle.connections.specs.Connections.{AsksOnly}
-use Rattle.definitions.specs.declared.kinds.Kind.{Kind}
-use Rattle.definitions.specs.declared.methods.Method.TheVariants.{Get}
-use Rattle.definitions.specs.Refusals.{no_such_path}
-use Rattle.definitions.specs.Targets.{Asked}
-use Rattle.exchanges.proofs.Asked.{written_asked}
-use Rattle.exchanges.specs.RequestLaws.{IsWritable}
-use Rattle.remote.specs.Laws.{IsAskedBy, AreAsked, CollectionsAreAsked}
-use Rattle.remote.specs.Outgoing.{get_text}
-use Rattle.remote.proofs.Written.{named, typed, takes, host_is_value, no_path}
+use Rattle.spec_http_server.specs.Connections.{AsksOnly}
+use Rattle.spec_api.specs.declared.kinds.Kind.{Kind}
+use Rattle.spec_api.specs.declared.methods.Method.TheVariants.{Get}
+use Rattle.spec_api.specs.Refusals.{no_such_path}
+use Rattle.spec_api.specs.Targets.{Asked}
+use Rattle.spec_http_client.proofs.Asked.{written_asked}
+use Rattle.spec_http_client.specs.RequestLaws.{IsWritable}
+use Rattle.api_client.specs.Laws.{IsAskedBy, AreAsked, CollectionsAreAsked}
+use Rattle.api_client.specs.Outgoing.{get_text}
+use Rattle.api_client.proofs.Written.{named, typed, takes, host_is_value, no_path}
 
 not_asked : (a : Asked) → Err no_such_path ≡ Ok a → ⊥
 not_asked a e = absurd (cc)

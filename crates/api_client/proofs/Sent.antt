@@ -1,15 +1,15 @@
 -- Requests that were sent over a connection.
 use Rattle.std.proofs.Common.{◌≡◌, ℕ, List, Option, true, subst}
 use Rattle.chunked.specs.declared.watched.Watched.{Watched}
-use Rattle.client.specs.Calls.{IsAnswered}
-use Rattle.client.specs.declared.answer.Answer.{Answer}
-use Rattle.client.specs.declared.answer.Answer.TheVariants as answer
-use Rattle.definitions.specs.ObjectRequests.{Request}
-use Rattle.request_texts.specs.Texts.{can_be_told}
-use Rattle.request_texts.specs.Told.{Asks}
-use Rattle.request_texts.specs.declared.text.RequestText.{RequestText}
-use Rattle.remote.specs.Asked.{IsSent, IsCalled}
-use Rattle.remote.specs.Outgoing.{written}
+use Rattle.http_client.specs.Calls.{IsAnswered}
+use Rattle.http_client.specs.declared.answer.Answer.{Answer}
+use Rattle.http_client.specs.declared.answer.Answer.TheVariants as answer
+use Rattle.spec_api.specs.ObjectRequests.{Request}
+use Rattle.request_encoding.specs.Texts.{can_be_told}
+use Rattle.request_encoding.specs.Told.{Asks}
+use Rattle.request_encoding.specs.declared.text.RequestText.{RequestText}
+use Rattle.api_client.specs.Asked.{IsSent, IsCalled}
+use Rattle.api_client.specs.Outgoing.{written}
 
 -- what a connection was used for
 pub sent_over : {R W : Type 0} → (remaining : R → Option (List ℕ)) (contents : W → Option (List ℕ)) (most : ℕ) (text : List ℕ) (reader : R) (old new : Watched W) (a : Answer)

@@ -3,21 +3,21 @@ use Rattle.std.proofs.Common.{◌≡◌, ◌<◌, ℕ, List, [], ◌∷◌, ◌+
 use Rattle.std.specs.List.{list_all}
 use Rattle.std.proofs.lemmas.Str.{IsUtf8-string_bytes}
 use Rattle.httparse.specs.Grammar.{is_uri_byte, trim_ows}
-use Rattle.definitions.proofs.Truths.{and_true, both_true, left_true}
-use Rattle.definitions.specs.declared.methods.Method.{Method}
-use Rattle.definitions.specs.declared.methods.Method.TheVariants.{Get, Post, Put, Patch, Delete}
-use Rattle.definitions.specs.ObjectRequests.{Request}
-use Rattle.definitions.specs.Refusals.{no_such_path, too_large}
-use Rattle.definitions.specs.Targets.{Asked, read_request, is_too_long}
-use Rattle.connections.proofs.OnLiterals.{http_on_literals}
-use Rattle.connections.specs.Connections.{AsksOnly}
-use Rattle.connections.specs.Heads.{method_named, takes_type, without_parameters}
-use Rattle.exchanges.specs.RequestLaws.{is_value, IsWritable}
-use Rattle.exchanges.proofs.Asked.{written_asked, long_refused}
-use Rattle.request_texts.specs.Texts.{is_of_path, is_visible}
-use Rattle.request_texts.specs.declared.text.RequestText.{RequestText}
-use Rattle.remote.specs.Outgoing.{method_text, media_type, written}
-use Rattle.remote.specs.Laws.{IsText, RequestsAreAsked, LongTargetsAreRefused}
+use Rattle.spec_api.proofs.Truths.{and_true, both_true, left_true}
+use Rattle.spec_api.specs.declared.methods.Method.{Method}
+use Rattle.spec_api.specs.declared.methods.Method.TheVariants.{Get, Post, Put, Patch, Delete}
+use Rattle.spec_api.specs.ObjectRequests.{Request}
+use Rattle.spec_api.specs.Refusals.{no_such_path, too_large}
+use Rattle.spec_api.specs.Targets.{Asked, read_request, is_too_long}
+use Rattle.spec_http_server.proofs.OnLiterals.{http_on_literals}
+use Rattle.spec_http_server.specs.Connections.{AsksOnly}
+use Rattle.spec_http_server.specs.Heads.{method_named, takes_type, without_parameters}
+use Rattle.spec_http_client.specs.RequestLaws.{is_value, IsWritable}
+use Rattle.spec_http_client.proofs.Asked.{written_asked, long_refused}
+use Rattle.request_encoding.specs.Texts.{is_of_path, is_visible}
+use Rattle.request_encoding.specs.declared.text.RequestText.{RequestText}
+use Rattle.api_client.specs.Outgoing.{method_text, media_type, written}
+use Rattle.api_client.specs.Laws.{IsText, RequestsAreAsked, LongTargetsAreRefused}
 
 pub named : (m : Method) → method_named (method_text m) ≡ Some m
 unfolding http_on_literals

@@ -1,21 +1,21 @@
 -- What becomes of a request that is asked over a connection.
 use Rattle.std.specs.Prelude.{◌≡◌, ◌⊎◌, ℕ, List, Option, true, ⊤}
-use Rattle.definitions.specs.ObjectRequests.{Request}
+use Rattle.spec_api.specs.ObjectRequests.{Request}
 use Rattle.chunked.specs.declared.watched.Watched.{Watched}
-use Rattle.client.specs.Calls.{IsExchanged}
-use Rattle.client.specs.declared.answer.Answer.{Answer}
-use Rattle.client.specs.declared.answer.Answer.TheVariants as answer
+use Rattle.http_client.specs.Calls.{IsExchanged}
+use Rattle.http_client.specs.declared.answer.Answer.{Answer}
+use Rattle.http_client.specs.declared.answer.Answer.TheVariants as answer
 use Rattle.collection_texts.specs.Scopes.{Scope}
 use Rattle.collection_texts.specs.Seen.{scope_of}
-use Rattle.request_texts.specs.Texts.{can_be_told}
-use Rattle.request_texts.specs.Told.{Asks}
-use Rattle.request_texts.specs.declared.text.RequestText.{RequestText}
-use Rattle.remote.specs.Outgoing.{written}
-use Rattle.remote.specs.Begun.{IsBegun}
-use Rattle.remote.specs.declared.api.Opened.{Opened}
-use Rattle.remote.specs.declared.api.Opened.TheVariants.{Lost}
-use Rattle.remote.specs.declared.asking.Remote.{Remote}
-use Rattle.remote.specs.declared.limits.Limits.{Limits}
+use Rattle.request_encoding.specs.Texts.{can_be_told}
+use Rattle.request_encoding.specs.Told.{Asks}
+use Rattle.request_encoding.specs.declared.text.RequestText.{RequestText}
+use Rattle.api_client.specs.Outgoing.{written}
+use Rattle.api_client.specs.Begun.{IsBegun}
+use Rattle.api_client.specs.declared.api.Opened.{Opened}
+use Rattle.api_client.specs.declared.api.Opened.TheVariants.{Lost}
+use Rattle.api_client.specs.declared.asking.Remote.{Remote}
+use Rattle.api_client.specs.declared.limits.Limits.{Limits}
 
 -- the limits of a server
 abbrev pub limits_of : {C I O : Type 0} → Remote C I O → Limits

@@ -1,12 +1,12 @@
 -- What becomes of the request for a watch.
 use Rattle.std.specs.Prelude.{◌≡◌, ◌⊎◌, ℕ, List, Option}
 use Rattle.chunked.specs.declared.watched.Watched.{Watched}
-use Rattle.client.specs.Calls as calls
-use Rattle.client.specs.Calls.{IsWritten}
-use Rattle.client.specs.Reading.{IfKnown}
-use Rattle.client.specs.Watches.{IsOpen, SaysCode}
-use Rattle.remote.specs.declared.api.Opened.{Opened}
-use Rattle.remote.specs.declared.api.Opened.TheVariants as opened
+use Rattle.http_client.specs.Calls as calls
+use Rattle.http_client.specs.Calls.{IsWritten}
+use Rattle.http_client.specs.Reading.{IfKnown}
+use Rattle.http_client.specs.Watches.{IsOpen, SaysCode}
+use Rattle.api_client.specs.declared.api.Opened.{Opened}
+use Rattle.api_client.specs.declared.api.Opened.TheVariants as opened
 
 -- the whole text was written, and the head of a watch was read and nothing beyond it, or the bytes that came say a reply of this code; or what was
 -- answered is lost, after the whole text was written or as the writer failed

@@ -5,16 +5,16 @@ use Rattle.collection_texts.specs.Seen.{scope_of}
 use Rattle.collection_texts.specs.Targets.{list_target, page_target, watch_target, stream_target}
 use Rattle.collection_texts.specs.Told.{IsPage, listed, paged, watched, streamed}
 use Rattle.collection_texts.specs.declared.scopes.Scope.{Scope}
-use Rattle.definitions.specs.declared.kinds.Kind.{Kind}
-use Rattle.definitions.specs.Targets.{Asked}
-use Rattle.definitions.specs.ObjectRequests.{Request}
-use Rattle.definitions.specs.Refusals.{too_large}
-use Rattle.connections.specs.Connections.{longest_head, AsksOnly}
-use Rattle.exchanges.specs.Requests.{request_head}
-use Rattle.request_texts.specs.Texts.{IsPath, taken}
-use Rattle.request_texts.specs.Told.{Asks}
-use Rattle.request_texts.specs.declared.text.RequestText.{RequestText}
-use Rattle.remote.specs.Outgoing.{get_text, method_text, media_type, written}
+use Rattle.spec_api.specs.declared.kinds.Kind.{Kind}
+use Rattle.spec_api.specs.Targets.{Asked}
+use Rattle.spec_api.specs.ObjectRequests.{Request}
+use Rattle.spec_api.specs.Refusals.{too_large}
+use Rattle.spec_http_server.specs.Connections.{longest_head, AsksOnly}
+use Rattle.spec_http_client.specs.Requests.{request_head}
+use Rattle.request_encoding.specs.Texts.{IsPath, taken}
+use Rattle.request_encoding.specs.Told.{Asks}
+use Rattle.request_encoding.specs.declared.text.RequestText.{RequestText}
+use Rattle.api_client.specs.Outgoing.{get_text, method_text, media_type, written}
 
 -- the head that is written for a request of one object
 abbrev pub head_written : RequestText → List ℕ

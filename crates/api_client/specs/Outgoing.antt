@@ -1,9 +1,9 @@
 -- A request of one object as it is written (RFC 9112, Message Format).
 use Rattle.std.specs.Prelude.{ℕ, List, [], codes, string_bytes}
-use Rattle.exchanges.specs.Requests.{request_text}
-use Rattle.definitions.specs.declared.methods.Method.{Method}
-use Rattle.definitions.specs.declared.methods.Method.TheVariants.{Get, Post, Put, Patch, Delete}
-use Rattle.request_texts.specs.declared.text.RequestText.{RequestText}
+use Rattle.spec_http_client.specs.Requests.{request_text}
+use Rattle.spec_api.specs.declared.methods.Method.{Method}
+use Rattle.spec_api.specs.declared.methods.Method.TheVariants.{Get, Post, Put, Patch, Delete}
+use Rattle.request_encoding.specs.declared.text.RequestText.{RequestText}
 
 -- the name of a method (RFC 9110, Methods)
 abbrev pub method_text : Method → List ℕ

@@ -1,13 +1,13 @@
 //! A server, as who asks it sees it.
 ghost use Rattle.std.specs.Prelude.{⊤};
-ghost use Rattle.client.specs.declared.answer.Answer as outcome;
-ghost use Rattle.definitions.specs.ObjectRequests as words;
-ghost use Rattle.definitions.specs.declared.kinds.Kind as kinds;
-ghost use Rattle.requests.specs.Requests.{request_of};
+ghost use Rattle.http_client.specs.declared.answer.Answer as outcome;
+ghost use Rattle.spec_api.specs.ObjectRequests as words;
+ghost use Rattle.spec_api.specs.declared.kinds.Kind as kinds;
+ghost use Rattle.request_parts.specs.Requests.{request_of};
 
-use client::{Answer, More};
-use definitions::kinds::Kind;
-use requests::Request;
+use http_client::{Answer, More};
+use request_parts::Request;
+use spec_api::kinds::Kind;
 use std::alloc::Global;
 
 /// What became of the request for a watch, or for a stream of initial events.
@@ -33,7 +33,7 @@ pub trait Api {
     ghost lists: { Self → kinds.Kind → outcome.Answer → Self → Type 0 } = { λ before kind answer after. ⊤ };
 
     /// Asks a request of one object, and returns what became of it. It is not sent where it cannot be told over HTTP
-    /// (`request_texts::can_be_told`), or memory runs out before a byte is written.
+    /// (`request_encoding::can_be_told`), or memory runs out before a byte is written.
     fn call(&mut self, alloc: Global, request: &Request) -> Answer
         ensures { answers self.old (request_of request.now) result self.new };
 

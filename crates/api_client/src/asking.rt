@@ -1,7 +1,7 @@
 //! A server behind connections.
 ghost use Rattle.std.specs.Prelude.{◌≡◌};
-ghost use Rattle.client.specs.Calls.{text_of};
-ghost use Rattle.remote.specs.Outgoing.{get_text};
+ghost use Rattle.http_client.specs.Calls.{text_of};
+ghost use Rattle.api_client.specs.Outgoing.{get_text};
 
 use crate::api::{Api, Opened};
 use crate::beginning::begin_watch;
@@ -9,12 +9,12 @@ use crate::connect::Connect;
 use crate::limits::Limits;
 use crate::outgoing::outgoing;
 use chunked::{Reader, Watched};
-use client::outgoing::text_of;
-use client::{Answer, More, Outgoing, call, read_more};
 use collection_texts::{Scope, list_target, page_target, stream_target, watch_target};
-use definitions::kinds::Kind;
-use request_texts::{can_be_told, request_text};
-use requests::Request;
+use http_client::outgoing::text_of;
+use http_client::{Answer, More, Outgoing, call, read_more};
+use request_encoding::{can_be_told, request_text};
+use request_parts::Request;
+use spec_api::kinds::Kind;
 use std::alloc::Global;
 
 /// A server that is asked over connections, one for each request, and the watch of it that is open, if one is. Lists, watches and streams are
@@ -42,11 +42,11 @@ fn get(target: &str) -> Outgoing<'_>
 
 impl<C: Connect + Drop> Remote<C> {
     ghost use Rattle.std.specs.Prelude.{◌≡◌};
-    ghost use Rattle.client.specs.Calls.{text_of};
+    ghost use Rattle.http_client.specs.Calls.{text_of};
     ghost use Rattle.collection_texts.specs.Scopes.{everything};
     ghost use Rattle.collection_texts.specs.Seen.{scope_of};
-    ghost use Rattle.remote.specs.Asked.{IsOpened, IsSent, Stays, limits_of, scope_at};
-    ghost use Rattle.remote.specs.Outgoing.{get_text};
+    ghost use Rattle.api_client.specs.Asked.{IsOpened, IsSent, Stays, limits_of, scope_at};
+    ghost use Rattle.api_client.specs.Outgoing.{get_text};
 
     /// Returns a server to which this connects, with no watch, whose lists and watches are of all namespaces, and the usual limits.
     pub fn new(connector: C) -> Remote<C>
@@ -124,8 +124,8 @@ impl<C: Connect + Drop> Remote<C> {
 impl<C: Connect + Drop> Api for Remote<C> {
     ghost use Rattle.std.specs.Prelude.{◌≡◌};
     ghost use Rattle.collection_texts.specs.Targets.{list_target, page_target, stream_target, watch_target};
-    ghost use Rattle.remote.specs.Asked.{IsCalled, IsOpened, IsSent, Stays, limits_of, scope_at};
-    ghost use Rattle.remote.specs.Outgoing.{get_text};
+    ghost use Rattle.api_client.specs.Asked.{IsCalled, IsOpened, IsSent, Stays, limits_of, scope_at};
+    ghost use Rattle.api_client.specs.Outgoing.{get_text};
 
     ghost answers = { λ before request answer after. IsCalled C.Reader.remaining C.Writer.contents (limits_of before).object request answer × Stays before after };
 

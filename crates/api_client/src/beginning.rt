@@ -1,11 +1,11 @@
 //! The request for a watch, written, and what comes back.
 ghost use Rattle.std.specs.Prelude.{◌≡◌, false};
 ghost use Rattle.chunked.specs.Devices.{device_of, has_failed};
-ghost use Rattle.remote.specs.Begun.{IsBegun};
+ghost use Rattle.api_client.specs.Begun.{IsBegun};
 
 use crate::api::Opened;
 use chunked::Watched;
-use client::{Opening, open_watch};
+use http_client::{WatchAnswer, open_watch};
 use std::alloc::Global;
 use std::io::{Read, Write};
 
@@ -27,9 +27,9 @@ pub fn begin_watch<R: Read + Drop, W: Write + Drop>(
         Err(_) => return Opened::Lost,
     }
     match open_watch(alloc, reader, most) {
-        Ok(Opening::Open) => Opened::Open,
-        Ok(Opening::Expired) => Opened::Expired,
-        Ok(Opening::Refused(code)) => Opened::Refused(code),
+        Ok(WatchAnswer::Open) => Opened::Open,
+        Ok(WatchAnswer::Expired) => Opened::Expired,
+        Ok(WatchAnswer::Refused(code)) => Opened::Refused(code),
         Err(_) => Opened::Lost,
     }
 }

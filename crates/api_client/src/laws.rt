@@ -1,5 +1,5 @@
 //! What follows for a server that is asked over connections.
-ghost use Rattle.remote.specs.Laws.{CollectionsAreAsked, LongTargetsAreRefused, RequestsAreAsked};
+ghost use Rattle.api_client.specs.Laws.{CollectionsAreAsked, LongTargetsAreRefused, RequestsAreAsked};
 
 /// What is written for a request of one object asks a server for that request, or is refused as its body is too large, and nothing else,
 /// whatever follows it.

@@ -1,5 +1,5 @@
 //! How much of an answer is taken in.
-use client::LARGEST_BODY;
+use http_client::LARGEST_BODY;
 
 /// How many bytes of the body of an answer are taken in at most.
 #[derive(Debug, Clone, Copy, PartialEq, Eq)]

@@ -1,11 +1,11 @@
 //! Requests as they are written.
 ghost use Rattle.std.specs.Prelude.{◌≡◌};
-ghost use Rattle.client.specs.Calls.{text_of};
-ghost use Rattle.remote.specs.Outgoing.{method_text, media_type, written};
+ghost use Rattle.http_client.specs.Calls.{text_of};
+ghost use Rattle.api_client.specs.Outgoing.{method_text, media_type, written};
 
-use client::Outgoing;
-use definitions::methods::Method;
-use request_texts::RequestText;
+use http_client::Outgoing;
+use request_encoding::RequestText;
+use spec_api::methods::Method;
 
 /// Returns the name of a method.
 pub fn method_text(method: Method) -> &'static str

@@ -1,9 +1,9 @@
 -- What numbers by work key say.
 use Rattle.std.specs.Prelude.{ℕ, List, Option}
 use Rattle.std.specs.FinMap as map
-use Rattle.controllers.specs.Delays.{Failures}
-use Rattle.controllers.specs.WorkQueues as queues
-use Rattle.controllers.specs.WorkQueues.{work_key_cmp}
+use Rattle.spec_client_go.specs.Delays.{Failures}
+use Rattle.spec_client_go.specs.WorkQueues as queues
+use Rattle.spec_client_go.specs.WorkQueues.{work_key_cmp}
 use Rattle.work_keys.specs.WorkKeys.{work_key_of}
 use Rattle.work_keys.specs.declared.work_key.WorkKey.{WorkKey}
 use Rattle.named_keys.specs.Numbers.{said}

@@ -1,7 +1,7 @@
 //! Delays that grow with each failure.
 ghost use Rattle.std.specs.Prelude.{◌≡◌, true, IfOk, OnOk, OnErr};
 ghost use Rattle.std.specs.FinMap as map;
-ghost use Rattle.controllers.specs.Delays.{failures, failed, delay_after};
+ghost use Rattle.spec_client_go.specs.Delays.{failures, failed, delay_after};
 ghost use Rattle.backoff.specs.Seen.{restored};
 ghost use Rattle.work_keys.specs.WorkKeys.{work_key_of};
 
@@ -17,8 +17,8 @@ pub struct Backoff {
 }
 
 impl Model for Backoff {
-    ghost use Rattle.controllers.specs.Delays.{Failures};
-    ghost use Rattle.controllers.specs.Codes.{coded_counts};
+    ghost use Rattle.spec_client_go.specs.Delays.{Failures};
+    ghost use Rattle.spec_client_go.specs.Codes.{coded_counts};
 
     ghost Value = { Failures };
 

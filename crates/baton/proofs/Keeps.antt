@@ -6,7 +6,7 @@ use lib.ListN.{get_elem?}
 use Rattle.crossbeam_queue.specs.Fifo.{Pushes, Pops, Learns}
 use Rattle.crossbeam_queue.proofs.Lists.{at_set, set_here}
 use Rattle.baton.specs.declared.views.Known.{Known}
-use Rattle.baton.specs.declared.views.View.{View}
+use Rattle.baton.specs.declared.views.PassView.{PassView}
 use Rattle.baton.specs.Marks.{entries, marked}
 use Rattle.baton.specs.Passes.{blank, alone, unopened, newcomer, owns, Fits, Stands, Placed, given, holding, SomePass, Open, Kept, Taken}
 use Rattle.baton.proofs.Seats.{all_set, within, nil_ne_cons, only, not_true, owns_self, owns_heir, elsewhere}
@@ -37,10 +37,10 @@ module _ {T E : Type 0} where
 module _ {T E : Type 0} (opens : T → Type 0) (gives : T → List E → T) (follows : List (ℕ × E) → ℕ → E → Type 0) where
   -- ---- take
 
-  takes_open : (pass : ℕ) (v : View T E) (x : T) (views : List (View T E)) → is_some v.own.opening ≡ true → Open opens gives follows (x ∷ []) views → get_elem? views pass ≡ some v
-      → (w : View T E) × Kept opens gives follows [] (set views pass w) × Taken opens gives follows v x w
+  takes_open : (pass : ℕ) (v : PassView T E) (x : T) (views : List (PassView T E)) → is_some v.own.opening ≡ true → Open opens gives follows (x ∷ []) views → get_elem? views pass ≡ some v
+      → (w : PassView T E) × Kept opens gives follows [] (set views pass w) × Taken opens gives follows v x w
   takes_open pass v x views named k at =
-      let opening = k.0 in let h = k.1 in let mine = k.7 pass v at in let fits : Fits opening h v.own = mine.own.0 named in let w : View T E = holding h v in (
+      let opening = k.0 in let h = k.1 in let mine = k.7 pass v at in let fits : Fits opening h v.own = mine.own.0 named in let w : PassView T E = holding h v in (
         w,
         inr (
           opening,
@@ -79,24 +79,24 @@ module _ {T E : Type 0} (opens : T → Type 0) (gives : T → List E → T) (fol
         },
       )
 
-  pub takes : (pass : ℕ) (v : View T E) → is_some v.own.opening ≡ true → Pops (Kept opens gives follows) pass v (Taken opens gives follows v)
+  pub takes : (pass : ℕ) (v : PassView T E) → is_some v.own.opening ≡ true → Pops (Kept opens gives follows) pass v (Taken opens gives follows v)
   takes pass v named x items views h at = ⊎_elim (λ (t : ((x ∷ items) ≡ []) × (views ≡ unopened ∷ [])). absurd (nil_ne_cons x items t.0))
-      (λ (k : Open opens gives follows (x ∷ items) views). subst (λ (l : List T). (w : View T E) × Kept opens gives follows l (set views pass w) × Taken opens gives follows v x w) (sym (k.6).0)
+      (λ (k : Open opens gives follows (x ∷ items) views). subst (λ (l : List T). (w : PassView T E) × Kept opens gives follows l (set views pass w) × Taken opens gives follows v x w) (sym (k.6).0)
       (takes_open pass v x views named (subst (λ (l : List T). Open opens gives follows (x ∷ l) views) (k.6).0 k) at)) h
 
   -- ---- give
 
   -- who gives an entry is there
-  signs : (change : Option E) (views : List (View T E)) (name : ℕ) → SomePass (λ other seen. other ≡ name) views → IfSome change (λ e. SomePass (λ other seen. other ≡ name) views)
+  signs : (change : Option E) (views : List (PassView T E)) (name : ℕ) → SomePass (λ other seen. other ≡ name) views → IfSome change (λ e. SomePass (λ other seen. other ≡ name) views)
   signs None views name s = tt
   signs (Some e) views name s = s
 
-  gives_open : (pass : ℕ) (v : View T E) (x : T) (change : Option E) (views : List (View T E)) → Open opens gives follows [] views → get_elem? views pass ≡ some v → is_some v.own.opening ≡ true → v.own.holds ≡ true
+  gives_open : (pass : ℕ) (v : PassView T E) (x : T) (change : Option E) (views : List (PassView T E)) → Open opens gives follows [] views → get_elem? views pass ≡ some v → is_some v.own.opening ≡ true → v.own.holds ≡ true
       → IfSome change (λ e. follows v.own.seen v.own.name e)
       → ((o : T) → v.own.opening ≡ Some o → x ≡ gives o (entries (given change v).own.seen))
       → Open opens gives follows (x ∷ []) (set views pass (given change v))
   gives_open pass v x change views k at named holds may value =
-      let opening = k.0 in let h = k.1 in let mine = k.7 pass v at in let fits : Fits opening h v.own = mine.own.0 named in let w : View T E = given change v in
+      let opening = k.0 in let h = k.1 in let mine = k.7 pass v at in let fits : Fits opening h v.own = mine.own.0 named in let w : PassView T E = given change v in
       let name = v.own.name in let same : v.own.seen ≡ h = fits.whole holds in let h' = h ++ marked name change in
       let here : k.2 name ≡ pass = mine.own.1 name (owns_self v.own named) in
       let keeper : pass ≡ (k.6).0 = (k.6).4 pass v at holds in (
@@ -108,7 +108,7 @@ module _ {T E : Type 0} (opens : T → Type 0) (gives : T → List E → T) (fol
         subst (λ (z : List (ℕ × E)). x ≡ gives opening (entries (z ++ marked name change))) same (value opening fits.opened),
         (
           refl,
-          λ seat u e. ⊎_elim (λ (t : (seat ≡ pass) × (w ≡ u)). ap (λ (z : View T E). z.own.holds) (sym t.1))
+          λ seat u e. ⊎_elim (λ (t : (seat ≡ pass) × (w ≡ u)). ap (λ (z : PassView T E). z.own.holds) (sym t.1))
               (λ (t : (seat ≢ pass) × (get_elem? views seat ≡ some u)). not_true u.own.holds (λ q. t.0 ((k.6).4 seat u t.1 q ∙ sym keeper))) (at_set views pass seat w u e),
         ),
         all_set (Placed opening h' k.2) views pass w
@@ -145,10 +145,10 @@ module _ {T E : Type 0} (opens : T → Type 0) (gives : T → List E → T) (fol
             (signs change (set views pass w) name (pass, w, set_here views pass w (within views pass v at), inl (named, refl))),
       )
 
-  unopened_has_none : (views : List (View T E)) (pass : ℕ) (v : View T E) → views ≡ unopened ∷ [] → get_elem? views pass ≡ some v → is_some v.own.opening ≡ true → ⊥
-  unopened_has_none views pass v is at named = true≢false (sym named ∙ ap (λ (z : View T E). is_some z.own.opening) (only views unopened pass v is at).1)
+  unopened_has_none : (views : List (PassView T E)) (pass : ℕ) (v : PassView T E) → views ≡ unopened ∷ [] → get_elem? views pass ≡ some v → is_some v.own.opening ≡ true → ⊥
+  unopened_has_none views pass v is at named = true≢false (sym named ∙ ap (λ (z : PassView T E). is_some z.own.opening) (only views unopened pass v is at).1)
 
-  pub gives_back : (n pass : ℕ) (v : View T E) (x : T) (change : Option E) → is_some v.own.opening ≡ true → v.own.holds ≡ true
+  pub gives_back : (n pass : ℕ) (v : PassView T E) (x : T) (change : Option E) → is_some v.own.opening ≡ true → v.own.holds ≡ true
       → IfSome change (λ e. follows v.own.seen v.own.name e)
       → ((o : T) → v.own.opening ≡ Some o → x ≡ gives o (entries (given change v).own.seen))
       → Pushes (Kept opens gives follows) n pass v x (λ w. w ≡ given change v)
@@ -160,7 +160,7 @@ module _ {T E : Type 0} (opens : T → Type 0) (gives : T → List E → T) (fol
   gives_back n pass v x change named holds may value (y ∷ items) views room h at = ⊎_elim (λ (t : ((y ∷ items) ≡ []) × (views ≡ unopened ∷ [])). absurd (nil_ne_cons y items t.0))
       (λ (k : Open opens gives follows (y ∷ items) views). absurd (true≢false (sym holds ∙ (k.6).1 pass v at))) h
 
-  pub finds_none : (pass : ℕ) (v : View T E) → v.own.holds ≡ true → Learns (Kept opens gives follows) pass v (λ items. items ≡ [])
+  pub finds_none : (pass : ℕ) (v : PassView T E) → v.own.holds ≡ true → Learns (Kept opens gives follows) pass v (λ items. items ≡ [])
   finds_none pass v holds [] views h at = refl
   finds_none pass v holds (y ∷ items) views h at = ⊎_elim (λ (t : ((y ∷ items) ≡ []) × (views ≡ unopened ∷ [])). absurd (nil_ne_cons y items t.0))
       (λ (k : Open opens gives follows (y ∷ items) views). absurd (true≢false (sym holds ∙ (k.6).1 pass v at))) h
@@ -175,7 +175,7 @@ module _ {T E : Type 0} (opens : T → Type 0) (gives : T → List E → T) (fol
     may,
     nothing_happened follows,
     begins,
-    (refl, λ seat u e. ap (λ (z : View T E). z.own.holds) (only (alone (newcomer 0 true x) ∷ []) (alone (newcomer 0 true x)) seat u refl e).1),
+    (refl, λ seat u e. ap (λ (z : PassView T E). z.own.holds) (only (alone (newcomer 0 true x) ∷ []) (alone (newcomer 0 true x)) seat u refl e).1),
     λ seat u e.
         let o = only (alone (newcomer 0 true x) ∷ []) (alone (newcomer 0 true x)) seat u refl e in
         let first : Placed x [] (λ _. 0) 0 (alone (newcomer {T = T} {E = E} 0 true x)) = record {
@@ -185,7 +185,7 @@ module _ {T E : Type 0} (opens : T → Type 0) (gives : T → List E → T) (fol
           alive = λ q. refl;
           waits = refl;
         } in
-        subst (λ (z : ℕ × View T E). Placed x [] (λ _. 0) z.0 z.1) (λ i. (sym o.0 i, sym o.1 i)) first,
+        subst (λ (z : ℕ × PassView T E). Placed x [] (λ _. 0) z.0 z.1) (λ i. (sym o.0 i, sym o.1 i)) first,
     (0, alone (newcomer 0 true x), refl, inl (refl, refl)),
     nothing_happened (λ before n e. SomePass (λ other seen. other ≡ n) (alone (newcomer 0 true x) ∷ [])),
   )
@@ -193,7 +193,7 @@ module _ {T E : Type 0} (opens : T → Type 0) (gives : T → List E → T) (fol
   pub begins_so : (n : ℕ) (x : T) → opens x → x ≡ gives x [] → Pushes (Kept opens gives follows) n 0 unopened x (λ w. w ≡ alone (newcomer 0 true x))
   begins_so n x may begins [] views room h at = (
     alone (newcomer 0 true x),
-    ⊎_elim (λ (t : ([] ≡ []) × (views ≡ unopened ∷ [])). subst (λ (l : List (View T E)). Kept opens gives follows (x ∷ []) (set l 0 (alone (newcomer 0 true x)))) (sym t.1) (inr (opened x may begins)))
+    ⊎_elim (λ (t : ([] ≡ []) × (views ≡ unopened ∷ [])). subst (λ (l : List (PassView T E)). Kept opens gives follows (x ∷ []) (set l 0 (alone (newcomer 0 true x)))) (sym t.1) (inr (opened x may begins)))
         (λ (k : Open opens gives follows [] views). absurd (true≢false (sym ((k.7 0 unopened at).alive refl)))) h,
     refl,
   )

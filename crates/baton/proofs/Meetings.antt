@@ -6,7 +6,7 @@ use lib.ListN.{get_elem?}
 use Rattle.crossbeam_queue.specs.Fifo.{Forks, Merges, Learns}
 use Rattle.crossbeam_queue.proofs.Lists.{at_set}
 use Rattle.baton.specs.declared.views.Known.{Known}
-use Rattle.baton.specs.declared.views.View.{View}
+use Rattle.baton.specs.declared.views.PassView.{PassView}
 use Rattle.baton.specs.Marks.{StartsWith, CanHappen}
 use Rattle.baton.specs.Passes.{blank, alone, unopened, owns, NoneAbove, Fits, Stands, Placed, hosting, settled, heir, Knows, Open, Kept, Met}
 use Rattle.baton.proofs.Seats.{All, all_set, only, at_longer_cases, if_true, if_false, if_either, not_true, owned, owns_self, owns_heir, elsewhere, keeper_set, keeper_snoc}
@@ -23,7 +23,7 @@ module _ {T E : Type 0} where
   stays : (opening : T) (h : List (ℕ × E)) (seat_of : ℕ → ℕ) (seat to : ℕ) (k r : Known T E) → ((n : ℕ) → owns k n ≡ true → owns r n ≡ false) → Stands opening h seat_of seat k → Stands opening h (moved r to seat_of) seat k
   stays opening h seat_of seat to k r apart s = (s.0, λ n q. if_false (owns r n) to (seat_of n) (apart n q) ∙ s.1 n q)
 
-  stays_placed : (opening : T) (h : List (ℕ × E)) (seat_of : ℕ → ℕ) (seat to : ℕ) (v : View T E) (r : Known T E) → ((n : ℕ) → seat_of n ≡ seat → owns r n ≡ false) → Placed opening h seat_of seat v → Placed opening h (moved r to seat_of) seat v
+  stays_placed : (opening : T) (h : List (ℕ × E)) (seat_of : ℕ → ℕ) (seat to : ℕ) (v : PassView T E) (r : Known T E) → ((n : ℕ) → seat_of n ≡ seat → owns r n ≡ false) → Placed opening h seat_of seat v → Placed opening h (moved r to seat_of) seat v
   stays_placed opening h seat_of seat to v r free p = record {
     own = stays opening h seat_of seat to v.own r (λ n q. free n (p.own.1 n q)) p.own;
     guest = stays opening h seat_of seat to v.guest r (λ n q. free n (p.guest.1 n q)) p.guest;
@@ -47,7 +47,7 @@ module _ {T E : Type 0} where
   blank_goes k l is q = absurd (true≢false (sym q ∙ ap (λ (z : Known T E). is_some z.opening) is))
 
   -- what two parts of a view have to be
-  pub record Splits (opening : T) (h : List (ℕ × E)) (v : View T E) (l r : Known T E) : Type 0 where
+  pub record Splits (opening : T) (h : List (ℕ × E)) (v : PassView T E) (l r : Known T E) : Type 0 where
     pub left : is_some l.opening ≡ true → Fits opening h l
     pub right : is_some r.opening ≡ true → Fits opening h r
     pub of_left : (n : ℕ) → owns l n ≡ true → (owns v.own n ≡ true) ⊎ (owns v.guest n ≡ true)
@@ -57,12 +57,12 @@ module _ {T E : Type 0} where
     pub guest_goes : GoesOn v.guest r
 
 module _ {T E : Type 0} (opens : T → Type 0) (gives : T → List E → T) (follows : List (ℕ × E) → ℕ → E → Type 0) where
-  still_open : (items : List T) (views : List (View T E)) (pass : ℕ) (v : View T E) → v.own.holds ≡ false → get_elem? views pass ≡ some v → Kept opens gives follows items views → Open opens gives follows items views
+  still_open : (items : List T) (views : List (PassView T E)) (pass : ℕ) (v : PassView T E) → v.own.holds ≡ false → get_elem? views pass ≡ some v → Kept opens gives follows items views → Open opens gives follows items views
   still_open items views pass v still at k = ⊎_elim
-      (λ (t : (items ≡ []) × (views ≡ unopened ∷ [])). absurd (true≢false (sym (ap (λ (z : View T E). z.own.holds) (only views unopened pass v t.1 at).1) ∙ still)))
+      (λ (t : (items ≡ []) × (views ≡ unopened ∷ [])). absurd (true≢false (sym (ap (λ (z : PassView T E). z.own.holds) (only views unopened pass v t.1 at).1) ∙ still)))
       (λ (o : Open opens gives follows items views). o) k
 
-  forks_open : (pass : ℕ) (v : View T E) (l r : Known T E) (items : List T) (views : List (View T E)) → v.own.holds ≡ false → l.holds ≡ false → r.holds ≡ false
+  forks_open : (pass : ℕ) (v : PassView T E) (l r : Known T E) (items : List T) (views : List (PassView T E)) → v.own.holds ≡ false → l.holds ≡ false → r.holds ≡ false
       → ((opening : T) (h : List (ℕ × E)) (seat_of : ℕ → ℕ) → Placed opening h seat_of pass v → Splits opening h v l r)
       → get_elem? views pass ≡ some v → Open opens gives follows items views → Open opens gives follows items (set views pass (alone l) ++ alone r ∷ [])
   forks_open pass v l r items views still still_l still_r splits at k =
@@ -80,21 +80,21 @@ module _ {T E : Type 0} (opens : T → Type 0) (gives : T → List E → T) (fol
         k.4,
         k.5,
         keeper_snoc items views' (alone r) still_r (keeper_set items views pass v (alone l) at still still_l k.6),
-        λ j u e. ⊎_elim (λ t. placed j u t) (λ (t : (j ≡ last) × (alone r ≡ u)). subst (λ (z : ℕ × View T E). Placed opening h seat_of' z.0 z.1) (λ i. (sym t.0 i, t.1 i)) right)
+        λ j u e. ⊎_elim (λ t. placed j u t) (λ (t : (j ≡ last) × (alone r ≡ u)). subst (λ (z : ℕ × PassView T E). Placed opening h seat_of' z.0 z.1) (λ i. (sym t.0 i, t.1 i)) right)
             (at_longer_cases views' (alone r) u j e),
         some_fork (λ name seen. seen ≡ h) views pass v l r at (goes (λ name seen. seen ≡ h) v.own l s.own_goes) (goes (λ name seen. seen ≡ h) v.guest r s.guest_goes) k.8,
         still_signed h views (views' ++ alone r ∷ [])
             (λ n. some_fork (λ other seen. other ≡ n) views pass v l r at (goes (λ other seen. other ≡ n) v.own l s.own_goes) (goes (λ other seen. other ≡ n) v.guest r s.guest_goes)) k.9,
       )
 
-  forks : (pass : ℕ) (v : View T E) (l r : Known T E) → v.own.holds ≡ false → l.holds ≡ false → r.holds ≡ false
+  forks : (pass : ℕ) (v : PassView T E) (l r : Known T E) → v.own.holds ≡ false → l.holds ≡ false → r.holds ≡ false
       → ((opening : T) (h : List (ℕ × E)) (seat_of : ℕ → ℕ) → Placed opening h seat_of pass v → Splits opening h v l r)
       → Forks (Kept opens gives follows) pass v (alone l) (alone r)
   forks pass v l r still still_l still_r splits items views k at = inr (forks_open pass v l r items views still still_l still_r splits at (still_open items views pass v still at k))
 
   -- ---- a pass for the next name
 
-  pub bequeaths : (pass : ℕ) (v : View T E) → is_some v.own.opening ≡ true → v.own.holds ≡ false → v.own.heirs ≡ true → v.guest ≡ blank → Forks (Kept opens gives follows) pass v (settled v) (heir v)
+  pub bequeaths : (pass : ℕ) (v : PassView T E) → is_some v.own.opening ≡ true → v.own.holds ≡ false → v.own.heirs ≡ true → v.guest ≡ blank → Forks (Kept opens gives follows) pass v (settled v) (heir v)
   bequeaths pass v named still heirs lone =
       let l : Known T E = record v.own { heirs = false } in let r : Known T E = record v.own { name = v.own.name + 1; made = []; holds = false } in
       let from_right : (n : ℕ) → owns r n ≡ true → v.own.name < n = λ n q. ⊎_elim (λ (e : n ≡ v.own.name + 1). omega arith) (λ (e : (v.own.heirs ≡ true) × (v.own.name + 1 < n)). let m = e.1 in omega arith) (owned r n q) in
@@ -123,15 +123,15 @@ module _ {T E : Type 0} (opens : T → Type 0) (gives : T → List E → T) (fol
 
   -- ---- meetings
 
-  pub spares : (pass : ℕ) (v : View T E) → v.own.holds ≡ false → v.guest ≡ blank → Forks (Kept opens gives follows) pass v (alone v.own) (alone blank)
+  pub spares : (pass : ℕ) (v : PassView T E) → v.own.holds ≡ false → v.guest ≡ blank → Forks (Kept opens gives follows) pass v (alone v.own) (alone blank)
   spares pass v still lone = forks pass v v.own blank still still refl
       (λ opening h seat_of p. record { left = p.own.0; right = λ q. absurd (true≢false (sym q)); of_left = λ n q. inl q; of_right = λ n q. absurd (true≢false (sym q)); apart = λ n q. refl; own_goes = λ q. (q, refl, refl); guest_goes = blank_goes v.guest blank lone })
 
-  pub parts : (pass : ℕ) (v : View T E) → v.own.holds ≡ false → v.guest.holds ≡ false → Forks (Kept opens gives follows) pass v (alone v.own) (alone v.guest)
+  pub parts : (pass : ℕ) (v : PassView T E) → v.own.holds ≡ false → v.guest.holds ≡ false → Forks (Kept opens gives follows) pass v (alone v.own) (alone v.guest)
   parts pass v still still' = forks pass v v.own v.guest still still still'
       (λ opening h seat_of p. record { left = p.own.0; right = p.guest.0; of_left = λ n q. inl q; of_right = λ n q. inr q; apart = p.apart; own_goes = λ q. (q, refl, refl); guest_goes = λ q. (q, refl, refl) })
 
-  hosts_open : (pass : ℕ) (v : View T E) (other : ℕ) (w : View T E) (items : List T) (views : List (View T E)) → v.own.holds ≡ false → w.own.holds ≡ false → v.guest ≡ blank → w.guest ≡ blank → ¬ (other ≡ pass)
+  hosts_open : (pass : ℕ) (v : PassView T E) (other : ℕ) (w : PassView T E) (items : List T) (views : List (PassView T E)) → v.own.holds ≡ false → w.own.holds ≡ false → v.guest ≡ blank → w.guest ≡ blank → ¬ (other ≡ pass)
       → get_elem? views pass ≡ some v → get_elem? (set views pass (hosting v w)) other ≡ some w → Open opens gives follows items views → Open opens gives follows items (set (set views pass (hosting v w)) other (alone blank))
   hosts_open pass v other w items views still still' lone lone' two at at' k =
       let opening = k.0 in let h = k.1 in let mine = k.7 pass v at in let seat_of' = moved w.own pass k.2 in let views' = set views pass (hosting v w) in
@@ -151,14 +151,14 @@ module _ {T E : Type 0} (opens : T → Type 0) (gives : T → List E → T) (fol
         k.5,
         keeper_set items views' other w (alone blank) at' still' refl (keeper_set items views pass v (hosting v w) at still still k.6),
         all_set (Placed opening h seat_of') views' other (alone blank) (placed_alone opening h seat_of' other blank refl (blank_stands opening h seat_of' other))
-            (λ j u away e. ⊎_elim (λ (t : (j ≡ pass) × (hosting v w ≡ u)). subst (λ (z : ℕ × View T E). Placed opening h seat_of' z.0 z.1) (λ i. (sym t.0 i, t.1 i)) both)
+            (λ j u away e. ⊎_elim (λ (t : (j ≡ pass) × (hosting v w ≡ u)). subst (λ (z : ℕ × PassView T E). Placed opening h seat_of' z.0 z.1) (λ i. (sym t.0 i, t.1 i)) both)
             (λ (t : (j ≢ pass) × (get_elem? views j ≡ some u)).
             stays_placed opening h k.2 j pass u w.own (λ n here. not_true (owns w.own n) (λ q. away (sym here ∙ theirs.own.1 n q))) (k.7 j u t.1)) (at_set views pass j (hosting v w) u e)),
         some_merge (λ name seen. seen ≡ h) views pass v other w at two at' lone lone' k.8,
         still_signed h views (set views' other (alone blank)) (λ n. some_merge (λ name seen. name ≡ n) views pass v other w at two at' lone lone') k.9,
       )
 
-  pub hosts : (pass : ℕ) (v : View T E) (other : ℕ) (w : View T E) → v.own.holds ≡ false → w.own.holds ≡ false → v.guest ≡ blank → w.guest ≡ blank → Merges (Kept opens gives follows) pass v other w (hosting v w) (alone blank)
+  pub hosts : (pass : ℕ) (v : PassView T E) (other : ℕ) (w : PassView T E) → v.own.holds ≡ false → w.own.holds ≡ false → v.guest ≡ blank → w.guest ≡ blank → Merges (Kept opens gives follows) pass v other w (hosting v w) (alone blank)
   hosts pass v other w still still' lone lone' items views k at two at' = inr (hosts_open pass v other w items views still still' lone lone' two at at' (still_open items views pass v still at k))
 
   none_above : (h front : List (ℕ × E)) (k : Known T E) → StartsWith h front → NoneAbove k h → NoneAbove k front
@@ -172,7 +172,7 @@ module _ {T E : Type 0} (opens : T → Type 0) (gives : T → List E → T) (fol
         (prefixes h k.seen l.seen a.seen b.seen),
   )
 
-  pub meets : (pass : ℕ) (v : View T E) → v.own.holds ≡ false → is_some v.own.opening ≡ true → is_some v.guest.opening ≡ true → Learns (Kept opens gives follows) pass v (λ items. Met opens gives follows v.own v.guest)
+  pub meets : (pass : ℕ) (v : PassView T E) → v.own.holds ≡ false → is_some v.own.opening ≡ true → is_some v.guest.opening ≡ true → Learns (Kept opens gives follows) pass v (λ items. Met opens gives follows v.own v.guest)
   meets pass v still named named' items views kept at =
       let k = still_open items views pass v still at kept in let p = k.7 pass v at in
       met k.0 k.1 v.own v.guest (λ e. true≢false (sym (owns_self v.guest named') ∙ ap (owns v.guest) (sym e) ∙ p.apart v.own.name (owns_self v.own named))) k.4 (p.own.0 named) (p.guest.0 named')

@@ -4,7 +4,7 @@ use Rattle.std.specs.List.{range_with_len}
 use Rattle.std.proofs.lemmas.List.{map-append}
 use Rattle.std.proofs.lemmas.List.Elements.{All-append}
 use Rattle.crossbeam_queue.specs.Passes.{Pass}
-use Rattle.baton.specs.declared.views.View.{View}
+use Rattle.baton.specs.declared.views.PassView.{PassView}
 use Rattle.baton.specs.Batons.{name_of, AreNumbered}
 
 one_more : (a n j : ℕ) → a + n ≡ j → range_with_len a (suc n) ≡ range_with_len a n ++ j ∷ []
@@ -12,7 +12,7 @@ one_more a zero j e = let same : a ≡ j = omega arith in ap (λ k. k ∷ []) sa
 one_more a (suc n) j e = ap (λ l. a ∷ l) (one_more (a + 1) n j (omega arith))
 
 module _ {T E : Type 0} where
-  pub numbered_more : (passes : List (Pass T (View T E))) (p : Pass T (View T E)) → AreNumbered passes → name_of p ≡ length passes → AreNumbered (passes ++ p ∷ [])
+  pub numbered_more : (passes : List (Pass T (PassView T E))) (p : Pass T (PassView T E)) → AreNumbered passes → name_of p ≡ length passes → AreNumbered (passes ++ p ∷ [])
   numbered_more passes p all is =
       let longer : suc (length passes) ≡ length (passes ++ p ∷ []) = omega (arith, length-append passes (p ∷ [])) in
       map-append name_of passes (p ∷ []) ∙ ap (λ l. l ++ name_of p ∷ []) all ∙ sym (one_more 0 (length passes) (name_of p) (omega (arith, is))) ∙ ap (range_with_len 0) longer

@@ -5,7 +5,7 @@ use mathlib.Core.Option.{some, some-ne-none, some-injective}
 use lib.ListN.{get_elem?}
 use Rattle.crossbeam_queue.proofs.Lists.{at_longer, at_last, set_here, set_else}
 use Rattle.baton.specs.declared.views.Known.{Known}
-use Rattle.baton.specs.declared.views.View.{View}
+use Rattle.baton.specs.declared.views.PassView.{PassView}
 use Rattle.baton.specs.Passes.{blank, alone, hosting, Knows, SomePass, IsSigned}
 use Rattle.baton.proofs.Seats.{within}
 
@@ -20,22 +20,22 @@ module _ {X : Type 0} where
 
 module _ {T E : Type 0} (Q : ℕ → List (ℕ × E) → Type 0) where
   -- either part of a view
-  abbrev Either : View T E → Type 0
+  abbrev Either : PassView T E → Type 0
   Either v = Knows Q v.own ⊎ Knows Q v.guest
 
   nobody : (k : Known T E) → k ≡ blank → ¬ (Knows Q k)
   nobody k is q = true≢false (sym q.0 ∙ ap (λ (z : Known T E). is_some z.opening) is)
 
-  same_view : (views : List (View T E)) (i j : ℕ) (v u : View T E) → i ≡ j → get_elem? views j ≡ some v → get_elem? views i ≡ some u → u ≡ v
+  same_view : (views : List (PassView T E)) (i j : ℕ) (v u : PassView T E) → i ≡ j → get_elem? views j ≡ some v → get_elem? views i ≡ some u → u ≡ v
   same_view views i j v u is at there = some-injective u v (sym there ∙ ap (get_elem? views) is ∙ at)
 
-  pub some_set : (views : List (View T E)) (pass : ℕ) (v w : View T E) → get_elem? views pass ≡ some v → (Knows Q v.own → Knows Q w.own) → (Knows Q v.guest → Knows Q w.guest) → SomePass Q views → SomePass Q (set views pass w)
+  pub some_set : (views : List (PassView T E)) (pass : ℕ) (v w : PassView T E) → get_elem? views pass ≡ some v → (Knows Q v.own → Knows Q w.own) → (Knows Q v.guest → Knows Q w.guest) → SomePass Q views → SomePass Q (set views pass w)
   some_set views pass v w at own guest s = ⊎_elim
       (λ (t : (s.0 ≡ pass) × (get_elem? (set views pass w) pass ≡ some w)).
       (pass, w, t.1, ⊎_elim (λ (q : Knows Q v.own). inl (own q)) (λ (q : Knows Q v.guest). inr (guest q)) (subst Either (same_view views s.0 pass v s.1 t.0 at s.2) s.3)))
       (λ (t : get_elem? (set views pass w) s.0 ≡ some s.1). (s.0, s.1, t, s.3)) (set_cases views pass s.0 w s.1 s.2)
 
-  pub some_fork : (views : List (View T E)) (pass : ℕ) (v : View T E) (l r : Known T E) → get_elem? views pass ≡ some v → (Knows Q v.own → Knows Q l) → (Knows Q v.guest → Knows Q r) → SomePass Q views
+  pub some_fork : (views : List (PassView T E)) (pass : ℕ) (v : PassView T E) (l r : Known T E) → get_elem? views pass ≡ some v → (Knows Q v.own → Knows Q l) → (Knows Q v.guest → Knows Q r) → SomePass Q views
       → SomePass Q (set views pass (alone l) ++ alone r ∷ [])
   some_fork views pass v l r at own guest s =
       let views' = set views pass (alone l) in ⊎_elim
@@ -44,7 +44,7 @@ module _ {T E : Type 0} (Q : ℕ → List (ℕ × E) → Type 0) where
       (λ (q : Knows Q v.guest). (length views', alone r, at_last views' (alone r) (length views') refl, inl (guest q))) (subst Either (same_view views s.0 pass v s.1 t.0 at s.2) s.3))
       (λ (t : get_elem? views' s.0 ≡ some s.1). (s.0, s.1, at_longer views' (alone r ∷ []) s.0 s.1 t, s.3)) (set_cases views pass s.0 (alone l) s.1 s.2)
 
-  pub some_merge : (views : List (View T E)) (pass : ℕ) (v : View T E) (other : ℕ) (w : View T E) → get_elem? views pass ≡ some v → ¬ (other ≡ pass) → get_elem? (set views pass (hosting v w)) other ≡ some w
+  pub some_merge : (views : List (PassView T E)) (pass : ℕ) (v : PassView T E) (other : ℕ) (w : PassView T E) → get_elem? views pass ≡ some v → ¬ (other ≡ pass) → get_elem? (set views pass (hosting v w)) other ≡ some w
       → v.guest ≡ blank → w.guest ≡ blank → SomePass Q views → SomePass Q (set (set views pass (hosting v w)) other (alone blank))
   some_merge views pass v other w at two at' lone lone' s =
       let views' = set views pass (hosting v w) in let views'' = set views' other (alone blank) in
@@ -57,5 +57,5 @@ module _ {T E : Type 0} (Q : ℕ → List (ℕ × E) → Type 0) where
       (λ (d : get_elem? views'' s.0 ≡ some s.1). (s.0, s.1, d, s.3)) (set_cases views' other s.0 (alone blank) s.1 t)) (set_cases views pass s.0 (hosting v w) s.1 s.2)
 
 module _ {T E : Type 0} where
-  pub still_signed : (h : List (ℕ × E)) (views views' : List (View T E)) → ((n : ℕ) → SomePass (λ other seen. other ≡ n) views → SomePass (λ other seen. other ≡ n) views') → IsSigned h views → IsSigned h views'
+  pub still_signed : (h : List (ℕ × E)) (views views' : List (PassView T E)) → ((n : ℕ) → SomePass (λ other seen. other ≡ n) views → SomePass (λ other seen. other ≡ n) views') → IsSigned h views → IsSigned h views'
   still_signed h views views' f s front n e rest is = f n (s front n e rest is)

@@ -3,7 +3,7 @@ use Rattle.std.specs.Prelude.{◌≡◌, ◌≢◌, ◌⊎◌, ℕ, ◌<◌, ◌
 use mathlib.Core.Option.{some}
 use lib.ListN.{get_elem?}
 use Rattle.baton.specs.declared.views.Known.{Known}
-use Rattle.baton.specs.declared.views.View.{View}
+use Rattle.baton.specs.declared.views.PassView.{PassView}
 use Rattle.baton.specs.Marks.{StartsWith, entries, made_by, marked, CanHappen}
 
 module _ {T E : Type 0} where
@@ -12,11 +12,11 @@ module _ {T E : Type 0} where
   blank = record { name = 0; heirs = false; opening = None; seen = []; made = []; holds = false }
 
   -- a pass that takes in no other
-  abbrev pub alone : Known T E → View T E
+  abbrev pub alone : Known T E → PassView T E
   alone k = record { own = k; guest = blank }
 
   -- the one pass of a baton that has no state yet
-  abbrev pub unopened : View T E
+  abbrev pub unopened : PassView T E
   unopened = alone (record { name = 0; heirs = true; opening = None; seen = []; made = []; holds = true })
 
   -- a pass of this name that has seen nothing
@@ -44,7 +44,7 @@ module _ {T E : Type 0} where
   abbrev pub Stands : T → List (ℕ × E) → (ℕ → ℕ) → ℕ → Known T E → Type 0
   Stands opening h seat_of seat k = (is_some k.opening ≡ true → Fits opening h k) × ((n : ℕ) → owns k n ≡ true → seat_of n ≡ seat)
 
-  pub record Placed (opening : T) (h : List (ℕ × E)) (seat_of : ℕ → ℕ) (seat : ℕ) (v : View T E) : Type 0 where
+  pub record Placed (opening : T) (h : List (ℕ × E)) (seat_of : ℕ → ℕ) (seat : ℕ) (v : PassView T E) : Type 0 where
     pub own : Stands opening h seat_of seat v.own
     pub guest : Stands opening h seat_of seat v.guest
     pub apart : (n : ℕ) → owns v.own n ≡ true → owns v.guest n ≡ false
@@ -52,49 +52,49 @@ module _ {T E : Type 0} where
     pub waits : v.guest.holds ≡ false
 
   -- an empty baton is held by exactly one pass, and another by none
-  abbrev pub Keeper : List T → List (View T E) → Type 0
+  abbrev pub Keeper : List T → List (PassView T E) → Type 0
   Keeper [] views =
-      (holder : ℕ) × (v : View T E) × (get_elem? views holder ≡ some v) × (v.own.holds ≡ true)
-      × ((seat : ℕ) (w : View T E) → get_elem? views seat ≡ some w → w.own.holds ≡ true → seat ≡ holder)
-  Keeper (x ∷ items) views = (items ≡ []) × ((seat : ℕ) (w : View T E) → get_elem? views seat ≡ some w → w.own.holds ≡ false)
+      (holder : ℕ) × (v : PassView T E) × (get_elem? views holder ≡ some v) × (v.own.holds ≡ true)
+      × ((seat : ℕ) (w : PassView T E) → get_elem? views seat ≡ some w → w.own.holds ≡ true → seat ≡ holder)
+  Keeper (x ∷ items) views = (items ≡ []) × ((seat : ℕ) (w : PassView T E) → get_elem? views seat ≡ some w → w.own.holds ≡ false)
 
   -- the pass has this name and has seen this history
   abbrev pub Knows : (ℕ → List (ℕ × E) → Type 0) → Known T E → Type 0
   Knows Q k = (is_some k.opening ≡ true) × Q k.name k.seen
 
   -- so it is of some pass
-  abbrev pub SomePass : (ℕ → List (ℕ × E) → Type 0) → List (View T E) → Type 0
-  SomePass Q views = (seat : ℕ) × (v : View T E) × (get_elem? views seat ≡ some v) × (Knows Q v.own ⊎ Knows Q v.guest)
+  abbrev pub SomePass : (ℕ → List (ℕ × E) → Type 0) → List (PassView T E) → Type 0
+  SomePass Q views = (seat : ℕ) × (v : PassView T E) × (get_elem? views seat ≡ some v) × (Knows Q v.own ⊎ Knows Q v.guest)
 
   -- some pass has seen the whole history, so of those that were seen it is the longest
-  abbrev pub IsLongest : List (ℕ × E) → List (View T E) → Type 0
+  abbrev pub IsLongest : List (ℕ × E) → List (PassView T E) → Type 0
   IsLongest h views = SomePass (λ name seen. seen ≡ h) views
 
   -- each entry is marked with the name of a pass, so none is invented
-  abbrev pub IsSigned : List (ℕ × E) → List (View T E) → Type 0
+  abbrev pub IsSigned : List (ℕ × E) → List (PassView T E) → Type 0
   IsSigned h views = CanHappen (λ before name e. SomePass (λ other seen. other ≡ name) views) h
 
   -- the view after a give
-  abbrev pub given : Option E → View T E → View T E
+  abbrev pub given : Option E → PassView T E → PassView T E
   given change v =
       record v {
         own = record v.own { seen = v.own.seen ++ marked v.own.name change; made = v.own.made ++ entries (marked v.own.name change); holds = false };
       }
 
   -- the view after a take, where this is the history
-  abbrev pub holding : List (ℕ × E) → View T E → View T E
+  abbrev pub holding : List (ℕ × E) → PassView T E → PassView T E
   holding h v = record v { own = record v.own { seen = h; holds = true } }
 
   -- one pass takes in what another knows
-  abbrev pub hosting : View T E → View T E → View T E
+  abbrev pub hosting : PassView T E → PassView T E → PassView T E
   hosting v w = record { own = v.own; guest = w.own }
 
   -- a pass that may give names away keeps its own alone
-  abbrev pub settled : View T E → View T E
+  abbrev pub settled : PassView T E → PassView T E
   settled v = record v { own = record v.own { heirs = false } }
 
   -- and the next one goes to a pass that has seen as much, and made nothing
-  abbrev pub heir : View T E → View T E
+  abbrev pub heir : PassView T E → PassView T E
   heir v = alone (record v.own { name = v.own.name + 1; made = []; holds = false })
 
 module _ {T E : Type 0} (opens : T → Type 0) (gives : T → List E → T) (follows : List (ℕ × E) → ℕ → E → Type 0) where
@@ -103,17 +103,17 @@ module _ {T E : Type 0} (opens : T → Type 0) (gives : T → List E → T) (fol
   Value opening h [] = Unit {0}
   Value opening h (x ∷ items) = x ≡ gives opening (entries h)
 
-  abbrev pub Open : List T → List (View T E) → Type 0
+  abbrev pub Open : List T → List (PassView T E) → Type 0
   Open items views =
       (opening : T) × (h : List (ℕ × E)) × (seat_of : ℕ → ℕ) × opens opening × CanHappen follows h × Value opening h items × Keeper items views
-      × ((seat : ℕ) (v : View T E) → get_elem? views seat ≡ some v → Placed opening h seat_of seat v) × IsLongest h views × IsSigned h views
+      × ((seat : ℕ) (v : PassView T E) → get_elem? views seat ≡ some v → Placed opening h seat_of seat v) × IsLongest h views × IsSigned h views
 
-  abbrev pub Kept : List T → List (View T E) → Type 0
+  abbrev pub Kept : List T → List (PassView T E) → Type 0
   Kept items views = ((items ≡ []) × (views ≡ unopened ∷ [])) ⊎ Open items views
 
   -- the pass learns the whole history, which begins with all that it had seen and has of its entries just what it made;
   -- the state is what this history gives
-  pub record Taken (v : View T E) (x : T) (w : View T E) : Type 0 where
+  pub record Taken (v : PassView T E) (x : T) (w : PassView T E) : Type 0 where
     pub history : List (ℕ × E)
     pub knows : w ≡ holding history v
     pub later : StartsWith history v.own.seen

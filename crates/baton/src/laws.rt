@@ -22,10 +22,10 @@ pub trait Law<T> {
 }
 
 /// The entry that a give makes, if it makes one.
-pub trait Change<E> {
+pub trait EntryMade<E> {
     ghost entry: { Option E };
 }
 
-impl<E> Change<E> for Brand {
+impl<E> EntryMade<E> for Brand {
     ghost entry = { None };
 }

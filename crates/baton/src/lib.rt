@@ -15,4 +15,4 @@ pub mod views;
 
 pub use batons::{Baton, Pass};
 pub use held::Held;
-pub use laws::{Change, Law};
+pub use laws::{EntryMade, Law};

@@ -8,7 +8,7 @@ use crate::batons::Baton;
 use crate::event_count::EventCount;
 use crate::laws::Law;
 use crate::rules::{Heirs, Opens};
-use crate::views::View;
+use crate::views::PassView;
 use crossbeam_queue::{Pass, RuledArrayQueue};
 use std::alloc::{AllocError, Global};
 use std::mem;
@@ -20,7 +20,7 @@ impl<T: Drop, L: Law<T>> Baton<T, L> {
         alloc: Global,
         state: T,
         count: usize,
-    ) -> Result<(Baton<T, L>, Vec<Pass<T, View<T, L::Entry>>>), AllocError>
+    ) -> Result<(Baton<T, L>, Vec<Pass<T, PassView<T, L::Entry>>>), AllocError>
         requires count { 0 < count }
         requires state { L.opens state × (state ≡ L.gives state []) }
         ensures passes { IfOk result (λ r. All (IsNewOf count r.0 (Some state)) r.1.items) }
@@ -44,10 +44,10 @@ impl<T: Drop, L: Law<T>> Baton<T, L> {
     #[tactic(auto, using(crate::proofs::Numbers::numbered_more))]
     fn crew(
         &self,
-        first: Pass<T, View<T, L::Entry>>,
-        mut passes: Vec<Pass<T, View<T, L::Entry>>>,
+        first: Pass<T, PassView<T, L::Entry>>,
+        mut passes: Vec<Pass<T, PassView<T, L::Entry>>>,
         count: usize,
-    ) -> Vec<Pass<T, View<T, L::Entry>>>
+    ) -> Vec<Pass<T, PassView<T, L::Entry>>>
         requires first { IsFirst self.now (view first).own.opening first }
         requires name { name_of first ≡ 0 }
         requires none { passes.items ≡ [] }
@@ -65,7 +65,7 @@ impl<T: Drop, L: Law<T>> Baton<T, L> {
     }
 
     /// Returns a pass, and leaves the next one in its place.
-    fn hand_out(&self, next: &mut Pass<T, View<T, L::Entry>>) -> Pass<T, View<T, L::Entry>>
+    fn hand_out(&self, next: &mut Pass<T, PassView<T, L::Entry>>) -> Pass<T, PassView<T, L::Entry>>
         requires { IsFirst self.now (view next.old).own.opening next.old }
         ensures pass { IsNew self.now (view next.old).own.opening result }
         ensures next { IsFirst self.now (view next.old).own.opening next.new }

@@ -7,9 +7,9 @@ ghost use Rattle.baton.specs.Batons.{IsOf, IsFree};
 
 use crate::batons::Baton;
 use crate::held::Held;
-use crate::laws::{Change, Law};
+use crate::laws::{EntryMade, Law};
 use crate::rules::{Gives, Hosts, Meets, Parts, Spares, Takes};
-use crate::views::View;
+use crate::views::PassView;
 use crossbeam_queue::Pass;
 use std::mem;
 use std::sync::Wait;
@@ -17,7 +17,7 @@ use std::sync::Wait;
 impl<T: Drop, L: Law<T>> Baton<T, L> {
     /// Takes the state, and sleeps while another pass holds it. The pass learns the whole history, and the state is what this
     /// history gives.
-    pub fn take<R: Wait>(&self, rt: &R, pass: &mut Pass<T, View<T, L::Entry>>) -> Held<T>
+    pub fn take<R: Wait>(&self, rt: &R, pass: &mut Pass<T, PassView<T, L::Entry>>) -> Held<T>
         requires { IsFree self.now pass.old }
         ensures pass { IsSamePass pass.old pass.new × IsOf self.now pass.new }
         ensures taken { Taken L.opens L.gives L.follows (view pass.old) result (view pass.new) }
@@ -32,7 +32,7 @@ impl<T: Drop, L: Law<T>> Baton<T, L> {
     }
 
     /// Takes the state, and sleeps between two tries.
-    fn wait<R: Wait>(&self, rt: &R, pass: &mut Pass<T, View<T, L::Entry>>) -> Held<T>
+    fn wait<R: Wait>(&self, rt: &R, pass: &mut Pass<T, PassView<T, L::Entry>>) -> Held<T>
         requires { IsFree self.now pass.old }
         ensures pass { IsSamePass pass.old pass.new × IsOf self.now pass.new }
         ensures taken { Taken L.opens L.gives L.follows (view pass.old) result (view pass.new) }
@@ -49,10 +49,10 @@ impl<T: Drop, L: Law<T>> Baton<T, L> {
 
     /// Gives the state back, and wakes a thread that sleeps for it. The history is one entry longer at most: the entry may
     /// follow it, and with it gives the state.
-    pub fn give<M: Change<L::Entry>, R: Wait>(
+    pub fn give<M: EntryMade<L::Entry>, R: Wait>(
         &self,
         rt: &R,
-        pass: &mut Pass<T, View<T, L::Entry>>,
+        pass: &mut Pass<T, PassView<T, L::Entry>>,
         held: Held<T>,
     )
         requires pass { IsOf self.now pass.old }
@@ -76,7 +76,11 @@ impl<T: Drop, L: Law<T>> Baton<T, L> {
 impl<T: Drop, L: Law<T>> Baton<T, L> {
     /// Compares what two passes know: one has seen all that the other has, and in it stands what both made. It waits for
     /// nobody and changes nothing.
-    pub fn meet(&self, one: &mut Pass<T, View<T, L::Entry>>, other: &mut Pass<T, View<T, L::Entry>>)
+    pub fn meet(
+        &self,
+        one: &mut Pass<T, PassView<T, L::Entry>>,
+        other: &mut Pass<T, PassView<T, L::Entry>>,
+    )
         requires one { IsFree self.now one.old }
         requires other { IsFree self.now other.old }
         ensures passes { IsFree self.now one.new × IsFree self.now other.new }

@@ -1,7 +1,7 @@
 //! A patient reader.
-use bells::Stop;
 use std::io;
 use std::io::{ErrorKind, Read};
+use wakeups::Stop;
 
 /// How many milliseconds a stream whose reads end without bytes is to wait each time: let it have this read timeout.
 pub const PIECE_MILLISECONDS: u64 = 250;

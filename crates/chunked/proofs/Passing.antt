@@ -13,12 +13,12 @@ use Rattle.chunked.specs.Reading.{IsLeft, HasRest, HasAnyRest, Passes, Reaches, 
 use Rattle.chunked.specs.Parts.{HasLine, IsLine, HasText, IsText, ReadsSize}
 use Rattle.chunked.specs.declared.fault.ChunkFault.{ChunkFault}
 use Rattle.chunked.specs.declared.fault.ChunkFault.TheVariants as fault
-use Rattle.chunked.specs.declared.place.Place.{Place}
-use Rattle.chunked.specs.declared.place.Place.TheVariants as place
+use Rattle.chunked.specs.declared.place.BodyPlace.{BodyPlace}
+use Rattle.chunked.specs.declared.place.BodyPlace.TheVariants as place
 use Rattle.chunked.proofs.Lines.{fails_after, fails_at}
 
 -- one passage after another
-pub passes_then : (p q s : Place) (front back content : List ℕ) → Passes p front [] q → Passes q back content s → Passes p (front ++ back) content s
+pub passes_then : (p q s : BodyPlace) (front back content : List ℕ) → Passes p front [] q → Passes q back content s → Passes p (front ++ back) content s
 passes_then p q s front back content a b = (
   λ longest tail more rest le h. subst (λ t. IsLeft longest p t (content ++ more) rest) (sym (append_assoc front back tail)) (a.0 longest (back ++ tail) (content ++ more) rest le (b.0 longest tail more rest le h)),
   λ longest tail all rest h.
@@ -27,11 +27,11 @@ passes_then p q s front back content a b = (
       (second.0, first.1 ∙ second.1, second.2),
 )
 
-pub passes_stay : (p : Place) → Passes p [] [] p
+pub passes_stay : (p : BodyPlace) → Passes p [] [] p
 passes_stay p = (λ longest tail more rest le h. h, λ longest tail all rest h. (all, refl, h))
 
 -- what is left of a body after a passage
-pub passes_rest : (p q : Place) (read content : List ℕ) → Passes p read content q → (longest : ℕ) (tail : List ℕ) → HasRest p longest (read ++ tail) → HasRest q longest tail
+pub passes_rest : (p q : BodyPlace) (read content : List ℕ) → Passes p read content q → (longest : ℕ) (tail : List ℕ) → HasRest p longest (read ++ tail) → HasRest q longest tail
 passes_rest p q read content a longest tail h = let on = a.1 longest tail h.0 h.1 h.2 in (on.0, h.1, on.2)
 
 -- a body is one within any greater length of lines
@@ -39,13 +39,13 @@ pub longer_body : (m n : ℕ) → m ≤ n → (chunks : List (List ℕ)) (input 
 longer_body m n le [] input rest (l, reads, none, short) = (l, reads, none, omega (arith, le, short))
 longer_body m n le (bytes ∷ chunks) input rest (l, tail, reads, long, short, pos, body) = (l, tail, reads, long, omega (arith, le, short), pos, longer_body m n le chunks tail rest body)
 
-pub longer_left : (m n : ℕ) → m ≤ n → (p : Place) (input content rest : List ℕ) → IsLeft m p input content rest → IsLeft n p input content rest
+pub longer_left : (m n : ℕ) → m ≤ n → (p : BodyPlace) (input content rest : List ℕ) → IsLeft m p input content rest → IsLeft n p input content rest
 longer_left m n le place.Line input content rest h = (h.0, longer_body m n le h.0 input rest h.1, h.2)
 longer_left m n le (place.Within k) input content rest h = (h.0, h.1, h.2, h.3, h.4, longer_body m n le h.2 h.1 rest h.5, h.6)
 longer_left m n le place.Ended input content rest h = h
 
 -- what may be continued at the second place may be so at the first
-pub passes_any : (p q : Place) (read content : List ℕ) → Passes p read content q → (tail : List ℕ) → HasAnyRest q tail → (more : List ℕ) × HasAnyRest p (read ++ (tail ++ more))
+pub passes_any : (p q : BodyPlace) (read content : List ℕ) → Passes p read content q → (tail : List ℕ) → HasAnyRest q tail → (more : List ℕ) × HasAnyRest p (read ++ (tail ++ more))
 passes_any p q read content a tail (n, (inner, rest, h)) =
     let le : n ≤ n + longest_line = omega arith in
     let some : longest_line ≤ n + longest_line = omega arith in
@@ -221,10 +221,10 @@ reaches_chunk before after n r some = (print_chunk_line r.0, r.1, passes_line r.
 pub reaches_end : (before mid after : Option (List ℕ)) (n : ℕ) → n ≡ 0 → ReadsSize before mid n → Consumes mid after crlf → Reaches place.Line before [] place.Ended after
 reaches_end before mid after n none r e = (print_chunk_line r.0 ++ crlf, Consumes-trans before mid after (print_chunk_line r.0) crlf r.1 e, passes_end r.0 r.2 (sym none ∙ r.3) r.4)
 
-pub reaches_next : (before mid after : Option (List ℕ)) (p : Place) → Consumes before mid crlf → Reaches place.Line mid [] p after → Reaches (place.Within 0) before [] p after
+pub reaches_next : (before mid after : Option (List ℕ)) (p : BodyPlace) → Consumes before mid crlf → Reaches place.Line mid [] p after → Reaches (place.Within 0) before [] p after
 reaches_next before mid after p e r = (crlf ++ r.0, Consumes-trans before mid after crlf r.0 e r.1, passes_then (place.Within 0) place.Line p crlf r.0 [] passes_close r.2)
 
-pub reaches_then : (before mid after : Option (List ℕ)) (p q s : Place) (content : List ℕ) → Reaches p before [] q mid → Reaches q mid content s after → Reaches p before content s after
+pub reaches_then : (before mid after : Option (List ℕ)) (p q s : BodyPlace) (content : List ℕ) → Reaches p before [] q mid → Reaches q mid content s after → Reaches p before content s after
 reaches_then before mid after p q s content a b = (a.0 ++ b.0, Consumes-trans before mid after a.0 b.0 a.1 b.1, passes_then p q s a.0 b.0 content a.2 b.2)
 
 pub reaches_bytes : (before after : Option (List ℕ)) (n k : ℕ) (taken : List ℕ) → length taken ≡ k → k ≤ n → Consumes before after taken → Reaches (place.Within n) before taken (place.Within (n - k)) after
@@ -241,14 +241,14 @@ end_fails a b c n f none r h =
 pub close_fails : (a b : Option (List ℕ)) (f : ChunkFault) → Fails (HasText crlf) (IsText crlf) a b f → Stops (place.Within 0) a b f
 close_fails a b f h = fails_at (HasRest (place.Within 0)) (HasText crlf) (HasAnyRest (place.Within 0)) (IsText crlf) a b f rest_has_close close_is_rest h
 
-pub stops_then : (p q : Place) (front : List ℕ) (a b c : Option (List ℕ)) (f : ChunkFault) → Consumes a b front → Passes p front [] q → Stops q b c f → Stops p a c f
+pub stops_then : (p q : BodyPlace) (front : List ℕ) (a b c : Option (List ℕ)) (f : ChunkFault) → Consumes a b front → Passes p front [] q → Stops q b c f → Stops p a c f
 stops_then p q front a b c f r passes h =
     fails_after (HasRest p) (HasRest q) (HasAnyRest p) (HasAnyRest q) a b c front f r (passes_rest p q front [] passes) (passes_any p q front [] passes) h
 
 pub next_fails : (a b c : Option (List ℕ)) (f : ChunkFault) → Consumes a b crlf → Stops place.Line b c f → Stops (place.Within 0) a c f
 next_fails a b c f r h = stops_then (place.Within 0) place.Line crlf a b c f r passes_close h
 
-pub reaches_stay : (known : Option (List ℕ)) (p : Place) → Reaches p known [] p known
+pub reaches_stay : (known : Option (List ℕ)) (p : BodyPlace) → Reaches p known [] p known
 reaches_stay known p = ([], Consumes-nil known, passes_stay p)
 
 -- bytes that were read into a part of a buffer

@@ -5,8 +5,8 @@ use Rattle.httparse.specs.Grammar.{ChunkLine, IsChunkLine, print_chunk_line, Rea
 use Rattle.chunked.specs.Reading.{longest_line}
 use Rattle.chunked.specs.declared.fault.ChunkFault.{ChunkFault}
 use Rattle.chunked.specs.declared.fault.ChunkFault.TheVariants as fault
-use Rattle.chunked.specs.declared.place.Place.{Place}
-use Rattle.chunked.specs.declared.place.Place.TheVariants as place
+use Rattle.chunked.specs.declared.place.BodyPlace.{BodyPlace}
+use Rattle.chunked.specs.declared.place.BodyPlace.TheVariants as place
 
 -- the input begins with the line of a chunk, which is no longer than this
 abbrev pub HasLine : ℕ → List ℕ → Type 0
@@ -36,7 +36,7 @@ IsCutLine bytes fault.Device = ⊥
 IsCutLine bytes fault.Want = ⊥
 
 -- there are bytes to read, or the body has ended
-abbrev pub IsReady : Place → Type 0
+abbrev pub IsReady : BodyPlace → Type 0
 IsReady place.Line = ⊥
 IsReady (place.Within n) = 0 < n
 IsReady place.Ended = ⊤

@@ -4,8 +4,8 @@ use Rattle.std.specs.Io.KnownBytes.{Consumes, IsAtEnd}
 use Rattle.chunked.specs.Bodies.{IsBodyWithin, crlf, joined}
 use Rattle.chunked.specs.declared.fault.ChunkFault.{ChunkFault}
 use Rattle.chunked.specs.declared.fault.ChunkFault.TheVariants as fault
-use Rattle.chunked.specs.declared.place.Place.{Place}
-use Rattle.chunked.specs.declared.place.Place.TheVariants as place
+use Rattle.chunked.specs.declared.place.BodyPlace.{BodyPlace}
+use Rattle.chunked.specs.declared.place.BodyPlace.TheVariants as place
 use Rattle.chunked.specs.declared.reader.Reader.{Reader}
 use Rattle.chunked.specs.Devices.{device_of, has_failed}
 
@@ -14,7 +14,7 @@ abbrev pub longest_line : ℕ
 longest_line = 256
 
 -- at this place the input is what is left of a body, with these bytes, and then rest; no chunk's line is longer than this
-abbrev pub IsLeft : ℕ → Place → List ℕ → List ℕ → List ℕ → Type 0
+abbrev pub IsLeft : ℕ → BodyPlace → List ℕ → List ℕ → List ℕ → Type 0
 IsLeft longest place.Line input content rest = (chunks : List (List ℕ)) × IsBodyWithin longest chunks input rest × (content ≡ joined chunks)
 IsLeft longest (place.Within n) input content rest =
     (bytes : List ℕ) × (tail : List ℕ) × (chunks : List (List ℕ)) × (length bytes ≡ n) × (input ≡ bytes ++ (crlf ++ tail)) × IsBodyWithin longest chunks tail rest
@@ -22,22 +22,22 @@ IsLeft longest (place.Within n) input content rest =
 IsLeft longest place.Ended input content rest = (content ≡ []) × (input ≡ rest)
 
 -- the input is what is left of a body, and more
-abbrev pub HasRest : Place → ℕ → List ℕ → Type 0
+abbrev pub HasRest : BodyPlace → ℕ → List ℕ → Type 0
 HasRest p longest input = (content : List ℕ) × (rest : List ℕ) × IsLeft longest p input content rest
 
 -- the same, with lines of any length
-abbrev pub HasAnyRest : Place → List ℕ → Type 0
+abbrev pub HasAnyRest : BodyPlace → List ℕ → Type 0
 HasAnyRest p input = (longest : ℕ) × HasRest p longest input
 
 -- what begins with the bytes read is left of a body at one place just where what follows them is so at the other, with this content before;
 -- lines of up to `longest_line` bytes are read
-abbrev pub Passes : Place → List ℕ → List ℕ → Place → Type 0
+abbrev pub Passes : BodyPlace → List ℕ → List ℕ → BodyPlace → Type 0
 Passes old read content new =
     ((longest : ℕ) (tail more rest : List ℕ) → longest_line ≤ longest → IsLeft longest new tail more rest → IsLeft longest old (read ++ tail) (content ++ more) rest)
     × ((longest : ℕ) (tail all rest : List ℕ) → IsLeft longest old (read ++ tail) all rest → (more : List ℕ) × (all ≡ content ++ more) × IsLeft longest new tail more rest)
 
 -- content was read from one place to another
-abbrev pub Reaches : Place → Option (List ℕ) → List ℕ → Place → Option (List ℕ) → Type 0
+abbrev pub Reaches : BodyPlace → Option (List ℕ) → List ℕ → BodyPlace → Option (List ℕ) → Type 0
 Reaches old before content new after = (read : List ℕ) × Consumes before after read × Passes old read content new
 
 -- what was read is malformed: nothing that begins with it is P, with lines of up to `longest_line` bytes;
@@ -50,7 +50,7 @@ Fails P Whole before after fault.Device = ⊤
 Fails P Whole before after fault.Want = ⊥
 
 -- no rest of a body can be read on from this place
-abbrev pub Stops : Place → Option (List ℕ) → Option (List ℕ) → ChunkFault → Type 0
+abbrev pub Stops : BodyPlace → Option (List ℕ) → Option (List ℕ) → ChunkFault → Type 0
 Stops p before after f = Fails (HasRest p) (HasAnyRest p) before after f
 
 -- the fault that is answered by a reader with this one, if any, and this flag
@@ -60,7 +60,7 @@ fault_at None true = Some fault.Device
 fault_at None false = None
 
 -- where a reader stands in the body
-abbrev pub place_of : {R : Type 0} → Reader R → Place
+abbrev pub place_of : {R : Type 0} → Reader R → BodyPlace
 place_of r = r.place
 
 -- the fault that a call of a reader has met, if one has

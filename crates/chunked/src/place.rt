@@ -2,7 +2,7 @@
 
 /// Where a reader stands in a body in chunks.
 #[derive(Debug, Clone, Copy, PartialEq, Eq)]
-pub enum Place {
+pub enum BodyPlace {
     /// At the line before a chunk.
     Line,
     /// At this many bytes of a chunk, and the end of a line after them.

@@ -5,11 +5,11 @@ ghost use Rattle.chunked.specs.Devices.{has_failed};
 ghost use Rattle.chunked.specs.Reading.{Reaches, Stops, IsWatched, place_of, fault_of, answered_fault, left_of};
 ghost use Rattle.chunked.specs.Parts.{IsReady};
 ghost use Rattle.chunked.specs.declared.fault.ChunkFault.TheVariants as fault;
-ghost use Rattle.chunked.specs.declared.place.Place.TheVariants as place;
+ghost use Rattle.chunked.specs.declared.place.BodyPlace.TheVariants as place;
 
 use crate::fault::ChunkFault;
 use crate::line::{read_end, read_size};
-use crate::place::Place;
+use crate::place::BodyPlace;
 use crate::watched::Watched;
 use std::io::Read;
 
@@ -18,13 +18,13 @@ use std::io::Read;
 pub struct Reader<R: Drop> {
     /// What is read from.
     pub device: Watched<R>,
-    place: Place,
+    place: BodyPlace,
     fault: Option<ChunkFault>,
 }
 
 /// Reads the line before a chunk; of the last one the end of the body too.
 #[tactic(auto, using(crate::proofs::Passing::reaches_chunk, crate::proofs::Passing::reaches_end, crate::proofs::Passing::line_fails, crate::proofs::Passing::end_fails))]
-fn next_chunk<R: Read + Drop>(device: &mut Watched<R>) -> Result<Place, ChunkFault>
+fn next_chunk<R: Read + Drop>(device: &mut Watched<R>) -> Result<BodyPlace, ChunkFault>
     requires { device.old.failed ≡ false }
     ensures place { IfOk result (λ p. Reaches place.Line (R.remaining device.old.device) [] p (R.remaining device.new.device)) }
     ensures ready { IfOk result (λ p. IsReady p) }
@@ -34,17 +34,17 @@ fn next_chunk<R: Read + Drop>(device: &mut Watched<R>) -> Result<Place, ChunkFau
     let size = read_size(device)?;
     if size == 0 {
         match read_end(device) {
-            Ok(()) => Ok(Place::Ended),
+            Ok(()) => Ok(BodyPlace::Ended),
             Err(fault) => Err(fault),
         }
     } else {
-        Ok(Place::Within(size))
+        Ok(BodyPlace::Within(size))
     }
 }
 
 /// Reads the end of a chunk and the line after it.
 #[tactic(auto, using(crate::proofs::Passing::reaches_next, crate::proofs::Passing::close_fails, crate::proofs::Passing::next_fails))]
-fn after_chunk<R: Read + Drop>(device: &mut Watched<R>) -> Result<Place, ChunkFault>
+fn after_chunk<R: Read + Drop>(device: &mut Watched<R>) -> Result<BodyPlace, ChunkFault>
     requires { device.old.failed ≡ false }
     ensures place { IfOk result (λ p. Reaches (place.Within 0) (R.remaining device.old.device) []
         p (R.remaining device.new.device)) }
@@ -86,7 +86,7 @@ fn read_bytes<R: Read + Drop>(
 
 /// Reads on to where there are bytes of a chunk, or to the end of the body.
 #[tactic(auto, using(crate::proofs::Passing::reaches_stay))]
-fn ready<R: Read + Drop>(device: &mut Watched<R>, here: Place) -> Result<Place, ChunkFault>
+fn ready<R: Read + Drop>(device: &mut Watched<R>, here: BodyPlace) -> Result<BodyPlace, ChunkFault>
     requires { device.old.failed ≡ false }
     ensures place { IfOk result (λ p. Reaches here (R.remaining device.old.device) [] p (R.remaining device.new.device)) }
     ensures ready { IfOk result (λ p. IsReady p) }
@@ -94,10 +94,10 @@ fn ready<R: Read + Drop>(device: &mut Watched<R>, here: Place) -> Result<Place, 
     ensures watched { IsWatched device.new.failed result }
 {
     match here {
-        Place::Line => next_chunk(device),
-        Place::Within(0) => after_chunk(device),
-        Place::Within(left) => Ok(Place::Within(left)),
-        Place::Ended => Ok(Place::Ended),
+        BodyPlace::Line => next_chunk(device),
+        BodyPlace::Within(0) => after_chunk(device),
+        BodyPlace::Within(left) => Ok(BodyPlace::Within(left)),
+        BodyPlace::Ended => Ok(BodyPlace::Ended),
     }
 }
 
@@ -105,12 +105,12 @@ impl<R: Read + Drop> Reader<R> {
     /// Returns a reader of the body that begins where this device stands.
     pub fn new(device: Watched<R>) -> Reader<R>
         ensures device { result.device ≡ device }
-        ensures place { place_of result ≡ Place.Line }
+        ensures place { place_of result ≡ BodyPlace.Line }
         ensures fault { fault_of result ≡ None }
     {
         Reader {
             device,
-            place: Place::Line,
+            place: BodyPlace::Line,
             fault: None,
         }
     }
@@ -149,9 +149,9 @@ impl<R: Read + Drop> Reader<R> {
         ensures watched { IsWatched (has_failed self.new.device) result }
     {
         match self.place {
-            Place::Within(left) => match read_bytes(&mut self.device, left, buf) {
+            BodyPlace::Within(left) => match read_bytes(&mut self.device, left, buf) {
                 Ok(n) => {
-                    self.place = Place::Within(left - n as u64);
+                    self.place = BodyPlace::Within(left - n as u64);
                     Ok(n)
                 }
                 Err(fault) => {

@@ -1,9 +1,9 @@
 //! Requests written to writers that fail or are interrupted, and replies that are cut, of whose bytes no contract speaks.
 use chunked::Watched;
-use client::{Answer, LARGEST_BODY, Outgoing, call};
+use http_client::{Answer, LARGEST_BODY, Outgoing, call};
 use std::alloc::Global;
 use std::io::ErrorKind;
-use test_devices::{Sink, Source};
+use test_devices::{Source, TestSink};
 
 /// A reply.
 const CREATED: &[u8] = b"HTTP/1.1 201 Created\r\nContent-Length: 2\r\n\r\n{}";
@@ -24,7 +24,7 @@ fn create(alloc: Global, reply: &[u8], bad: u64, kind: ErrorKind) -> (&'static s
         media_type: "application/json",
         body: b"{}",
     };
-    let sink = Sink {
+    let sink = TestSink {
         written: Vec::new(alloc),
         bad,
         kind,

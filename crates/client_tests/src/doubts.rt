@@ -1,9 +1,9 @@
 //! How a follower knows a server again, after a watch that was cut.
 use crate::scenes::{
-    EMPTY, EXPIRED, LATER, LIST, SAME, SAME_LATER, Scene, UNTIL_NINE, first_unlike,
+    EMPTY, EXPIRED, FollowerScene, LATER, LIST, SAME, SAME_LATER, UNTIL_NINE, first_unlike,
 };
-use crate::scripts::{First, Watch};
-use remote::Opened;
+use crate::scripts::{First, ScriptedWatch};
+use api_client::Opened;
 
 /// The first object at revision 5, created at another moment; written at another revision; and none.
 const CREATED_ANEW: First<'static> = First {
@@ -59,13 +59,13 @@ const TOO_NEW: First<'static> = First {
 };
 
 /// Watches that expire, and that name a revision below the last one.
-const EXPIRES: Watch<'static> = Watch {
+const EXPIRES: ScriptedWatch<'static> = ScriptedWatch {
     opened: Opened::Open,
     pieces: &[EXPIRED],
     ends: false,
 };
 
-const FALLS: Watch<'static> = Watch {
+const FALLS: ScriptedWatch<'static> = ScriptedWatch {
     opened: Opened::Open,
     pieces: &[
         "{\"type\":\"BOOKMARK\",\"object\":{\"kind\":\"ConfigMap\",\"apiVersion\":\"v1\",",
@@ -74,9 +74,9 @@ const FALLS: Watch<'static> = Watch {
     ends: false,
 };
 
-const SCENES: [Scene; 10] = [
+const SCENES: [FollowerScene; 10] = [
     // another first object, or none, is another server's
-    Scene {
+    FollowerScene {
         lists: &[LIST, LATER],
         firsts: &[CREATED_ANEW],
         watches: &[EMPTY],
@@ -88,7 +88,7 @@ const SCENES: [Scene; 10] = [
         counts: (2, 1, 0),
         told: (0, 1),
     },
-    Scene {
+    FollowerScene {
         lists: &[LIST, LATER],
         firsts: &[WRITTEN_LATER],
         watches: &[EMPTY],
@@ -100,7 +100,7 @@ const SCENES: [Scene; 10] = [
         counts: (2, 1, 0),
         told: (0, 1),
     },
-    Scene {
+    FollowerScene {
         lists: &[LIST, LATER],
         firsts: &[NONE],
         watches: &[EMPTY],
@@ -113,7 +113,7 @@ const SCENES: [Scene; 10] = [
         told: (0, 1),
     },
     // where the revision is not known there, a list is asked for
-    Scene {
+    FollowerScene {
         lists: &[LIST, LATER],
         firsts: &[GONE],
         watches: &[EMPTY],
@@ -125,7 +125,7 @@ const SCENES: [Scene; 10] = [
         counts: (2, 1, 0),
         told: (0, 0),
     },
-    Scene {
+    FollowerScene {
         lists: &[LIST, LATER],
         firsts: &[FORBIDDEN],
         watches: &[EMPTY],
@@ -137,7 +137,7 @@ const SCENES: [Scene; 10] = [
         counts: (2, 1, 0),
         told: (0, 0),
     },
-    Scene {
+    FollowerScene {
         lists: &[LIST, LATER],
         firsts: &[TOO_NEW],
         watches: &[EMPTY],
@@ -149,7 +149,7 @@ const SCENES: [Scene; 10] = [
         counts: (2, 1, 0),
         told: (0, 0),
     },
-    Scene {
+    FollowerScene {
         lists: &[LIST, LATER],
         firsts: &[SAME_LATER],
         watches: &[EMPTY],
@@ -162,7 +162,7 @@ const SCENES: [Scene; 10] = [
         told: (0, 0),
     },
     // it is asked again until it is said
-    Scene {
+    FollowerScene {
         lists: &[LIST],
         firsts: &[LOST, BUSY, FAILED, NO_LIST, SAME],
         watches: &[EMPTY, UNTIL_NINE],
@@ -175,7 +175,7 @@ const SCENES: [Scene; 10] = [
         told: (1, 0),
     },
     // also after a list that was lost
-    Scene {
+    FollowerScene {
         lists: &[LIST, "", LATER],
         firsts: &[SAME],
         watches: &[EXPIRES],
@@ -188,7 +188,7 @@ const SCENES: [Scene; 10] = [
         told: (0, 0),
     },
     // a revision below the last one is another server's
-    Scene {
+    FollowerScene {
         lists: &[LIST, LATER],
         firsts: &[SAME],
         watches: &[FALLS],

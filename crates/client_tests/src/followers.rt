@@ -1,57 +1,58 @@
 //! What a follower asks, publishes and waits, of which no contract speaks.
 use crate::scenes::{
-    EMPTY, EXPIRED, LATER, LIST, SAME, SAME_LATER, SEVEN_AND_HALF, Scene, UNTIL_NINE, first_unlike,
+    EMPTY, EXPIRED, FollowerScene, LATER, LIST, SAME, SAME_LATER, SEVEN_AND_HALF, UNTIL_NINE,
+    first_unlike,
 };
-use crate::scripts::Watch;
-use remote::Opened;
+use crate::scripts::ScriptedWatch;
+use api_client::Opened;
 
 /// A watch that is not opened.
-const LOST: Watch<'static> = Watch {
+const LOST: ScriptedWatch<'static> = ScriptedWatch {
     opened: Opened::Lost,
     pieces: &[],
     ends: false,
 };
 
-const REFUSED_FOR_NOW: Watch<'static> = Watch {
+const REFUSED_FOR_NOW: ScriptedWatch<'static> = ScriptedWatch {
     opened: Opened::Refused(429),
     pieces: &[],
     ends: false,
 };
 
-const GONE: Watch<'static> = Watch {
+const GONE: ScriptedWatch<'static> = ScriptedWatch {
     opened: Opened::Expired,
     pieces: &[],
     ends: false,
 };
 
-const TOO_NEW: Watch<'static> = Watch {
+const TOO_NEW: ScriptedWatch<'static> = ScriptedWatch {
     opened: Opened::Refused(504),
     pieces: &[],
     ends: false,
 };
 
 /// A watch that is open, and expires, is no watch, or ends at once.
-const EXPIRES: Watch<'static> = Watch {
+const EXPIRES: ScriptedWatch<'static> = ScriptedWatch {
     opened: Opened::Open,
     pieces: &[EXPIRED],
     ends: false,
 };
 
-const NO_FRAMES: Watch<'static> = Watch {
+const NO_FRAMES: ScriptedWatch<'static> = ScriptedWatch {
     opened: Opened::Open,
     pieces: &["no frame\n"],
     ends: false,
 };
 
-const ENDED: Watch<'static> = Watch {
+const ENDED: ScriptedWatch<'static> = ScriptedWatch {
     opened: Opened::Open,
     pieces: &[],
     ends: true,
 };
 
-const SCENES: [Scene; 12] = [
+const SCENES: [FollowerScene; 12] = [
     // a watch goes on after a cut
-    Scene {
+    FollowerScene {
         lists: &[LIST],
         firsts: &[SAME_LATER],
         watches: &[SEVEN_AND_HALF, UNTIL_NINE],
@@ -64,7 +65,7 @@ const SCENES: [Scene; 12] = [
         told: (0, 0),
     },
     // an expiry leads to a list
-    Scene {
+    FollowerScene {
         lists: &[LIST, LATER],
         firsts: &[],
         watches: &[EXPIRES],
@@ -76,7 +77,7 @@ const SCENES: [Scene; 12] = [
         counts: (2, 1, 0),
         told: (0, 0),
     },
-    Scene {
+    FollowerScene {
         lists: &[LIST, LATER],
         firsts: &[SAME],
         watches: &[NO_FRAMES],
@@ -88,7 +89,7 @@ const SCENES: [Scene; 12] = [
         counts: (2, 1, 0),
         told: (1, 0),
     },
-    Scene {
+    FollowerScene {
         lists: &[LIST, LATER],
         firsts: &[],
         watches: &[GONE],
@@ -100,7 +101,7 @@ const SCENES: [Scene; 12] = [
         counts: (2, 1, 0),
         told: (0, 0),
     },
-    Scene {
+    FollowerScene {
         lists: &[LIST, LATER],
         firsts: &[],
         watches: &[TOO_NEW],
@@ -113,7 +114,7 @@ const SCENES: [Scene; 12] = [
         told: (0, 0),
     },
     // a watch that gives nothing is asked for after a pause
-    Scene {
+    FollowerScene {
         lists: &[LIST],
         firsts: &[SAME, SAME],
         watches: &[EMPTY, EMPTY, UNTIL_NINE],
@@ -125,7 +126,7 @@ const SCENES: [Scene; 12] = [
         counts: (1, 1, 1),
         told: (0, 0),
     },
-    Scene {
+    FollowerScene {
         lists: &[LIST],
         firsts: &[],
         watches: &[ENDED, ENDED, UNTIL_NINE],
@@ -137,7 +138,7 @@ const SCENES: [Scene; 12] = [
         counts: (1, 1, 1),
         told: (0, 0),
     },
-    Scene {
+    FollowerScene {
         lists: &[LIST],
         firsts: &[SAME, SAME],
         watches: &[LOST, LOST, UNTIL_NINE],
@@ -149,7 +150,7 @@ const SCENES: [Scene; 12] = [
         counts: (1, 1, 1),
         told: (0, 0),
     },
-    Scene {
+    FollowerScene {
         lists: &[LIST],
         firsts: &[SAME, SAME],
         watches: &[REFUSED_FOR_NOW, REFUSED_FOR_NOW, UNTIL_NINE],
@@ -162,7 +163,7 @@ const SCENES: [Scene; 12] = [
         told: (0, 0),
     },
     // lists that fail are asked for after longer pauses
-    Scene {
+    FollowerScene {
         lists: &["", "{}", "", "", "", "", "", LATER],
         firsts: &[],
         watches: &[],
@@ -175,7 +176,7 @@ const SCENES: [Scene; 12] = [
         told: (1, 0),
     },
     // changes that were not taken are given again
-    Scene {
+    FollowerScene {
         lists: &[LIST],
         firsts: &[SAME_LATER],
         watches: &[SEVEN_AND_HALF, UNTIL_NINE],
@@ -188,7 +189,7 @@ const SCENES: [Scene; 12] = [
         told: (0, 0),
     },
     // a clock stops a follower that waits
-    Scene {
+    FollowerScene {
         lists: &[],
         firsts: &[],
         watches: &[],

@@ -1,14 +1,14 @@
 //! A server over a table of streams, of whose bytes no contract speaks.
-use client::{Answer, More};
-use definitions::kinds::Kind;
-use keys::Key;
+use api_client::{Api, Connect, Opened, Remote};
+use http_client::{Answer, More};
 use lifecycle::DeleteOptions;
-use remote::{Api, Connect, Opened, Remote};
-use requests::Request;
+use object_keys::Key;
+use request_parts::Request;
+use spec_api::kinds::Kind;
 use std::alloc::{AllocError, Global};
 use std::io;
 use std::io::ErrorKind;
-use test_devices::{Sink, Source};
+use test_devices::{Source, TestSink};
 
 const LIST: &[u8] = b"HTTP/1.1 200 OK\r\nContent-Length: 2\r\n\r\n{}";
 
@@ -30,14 +30,14 @@ struct Table<'a> {
 impl<'a> Connect for Table<'a> {
     type Reader = Source<'a>;
 
-    type Writer = Sink;
+    type Writer = TestSink;
 
-    fn connect(&mut self) -> io::Result<(Source<'a>, Sink)> {
+    fn connect(&mut self) -> io::Result<(Source<'a>, TestSink)> {
         let next = self.next;
         self.next = next.saturating_add(1);
         match self.streams.get(next) {
             Some(&stream) => {
-                let sink = Sink {
+                let sink = TestSink {
                     written: Vec::new(self.alloc),
                     bad: u64::MAX,
                     kind: ErrorKind::BrokenPipe,

@@ -1,6 +1,6 @@
 //! Replies over readers of whose bytes no contract speaks.
 use chunked::Watched;
-use client::{LARGEST_BODY, ReplyFault, read_reply, read_whole};
+use http_client::{LARGEST_BODY, ReplyFault, read_reply, read_whole};
 use std::alloc::Global;
 use std::io::ErrorKind;
 use test_devices::Source;

@@ -1,9 +1,9 @@
 //! Scripts that are followed, and what is to come of each.
-use crate::scripts::{First, Script, Seen, Waits, Watch};
-use definitions::kinds::Kind;
-use following::{Follower, follow};
-use informer::PlainInformer;
-use remote::Opened;
+use crate::scripts::{First, RecordingSink, Script, ScriptedWatch, Waits};
+use api_client::Opened;
+use list_and_watch::{Follower, follow};
+use plain_informer::PlainInformer;
+use spec_api::kinds::Kind;
 use std::alloc::Global;
 
 /// A list at revision 5 with one object, and one at revision 9 with none.
@@ -37,19 +37,19 @@ pub const SAME: First<'static> = First {
 };
 
 /// Watches that show a change of the server's, and then are cut: none, two bookmarks, and one.
-pub const EMPTY: Watch<'static> = Watch {
+pub const EMPTY: ScriptedWatch<'static> = ScriptedWatch {
     opened: Opened::Open,
     pieces: &[],
     ends: false,
 };
 
-pub const SEVEN_AND_HALF: Watch<'static> = Watch {
+pub const SEVEN_AND_HALF: ScriptedWatch<'static> = ScriptedWatch {
     opened: Opened::Open,
     pieces: &[HALF, REST, HALF],
     ends: false,
 };
 
-pub const UNTIL_NINE: Watch<'static> = Watch {
+pub const UNTIL_NINE: ScriptedWatch<'static> = ScriptedWatch {
     opened: Opened::Open,
     pieces: &[NINE],
     ends: false,
@@ -58,10 +58,10 @@ pub const UNTIL_NINE: Watch<'static> = Watch {
 /// A script that is followed until revision 9: what is answered, how many changes the sink refuses, and at how many pauses the clock stops
 /// it; then what was asked, published and waited, how many changes, first ones and objects there were, and how often it was told that something
 /// is not understood, and that there is another server.
-pub struct Scene {
+pub struct FollowerScene {
     pub lists: &'static [&'static str],
     pub firsts: &'static [First<'static>],
-    pub watches: &'static [Watch<'static>],
+    pub watches: &'static [ScriptedWatch<'static>],
     pub refusals: u64,
     pub most: usize,
     pub asked: &'static [u64],
@@ -82,7 +82,7 @@ fn begin(alloc: Global, is_streaming: bool) -> Follower<PlainInformer> {
 }
 
 /// Returns whether a script is followed as it says.
-fn is_followed(alloc: Global, scene: &Scene, is_streaming: bool) -> bool {
+fn is_followed(alloc: Global, scene: &FollowerScene, is_streaming: bool) -> bool {
     let mut script = Script {
         lists: scene.lists,
         firsts: scene.firsts,
@@ -100,7 +100,7 @@ fn is_followed(alloc: Global, scene: &Scene, is_streaming: bool) -> bool {
         most: scene.most,
         pauses: Vec::new(alloc),
     };
-    let mut seen = Seen {
+    let mut seen = RecordingSink {
         until: 9,
         refusals: scene.refusals,
         changes: 0,
@@ -126,7 +126,7 @@ fn is_followed(alloc: Global, scene: &Scene, is_streaming: bool) -> bool {
 }
 
 /// Returns the first script that is not followed as it says, with streams of initial events or with lists.
-pub fn first_unlike(alloc: Global, scenes: &[Scene], is_streaming: bool) -> Option<usize> {
+pub fn first_unlike(alloc: Global, scenes: &[FollowerScene], is_streaming: bool) -> Option<usize> {
     for (place, scene) in scenes.iter().enumerate() {
         if !is_followed(alloc, scene, is_streaming) {
             return Some(place);

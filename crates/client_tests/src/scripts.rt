@@ -1,11 +1,11 @@
 //! A server, a clock and a sink that play a script.
 ghost use Rattle.std.specs.Prelude.{⊤};
 
-use client::{Answer, More, Reply};
-use definitions::kinds::Kind;
-use following::{Indexed, Onward, Shift, Sink, Timer};
-use remote::{Api, Opened};
-use requests::Request;
+use api_client::{Api, Opened};
+use http_client::{Answer, HttpReply, More};
+use list_and_watch::{Indexed, Onward, Shift, Sink, Timer};
+use request_parts::Request;
+use spec_api::kinds::Kind;
 use std::alloc::{AllocError, Global};
 
 /// What is recorded where a stream of initial events is asked for.
@@ -13,7 +13,7 @@ pub const STREAM: u64 = 1_000;
 
 /// What is answered to who asks for a watch, or for a stream of initial events: what becomes of it, and the pieces that it gives before it is cut, or ends.
 #[derive(Clone, Copy)]
-pub struct Watch<'a> {
+pub struct ScriptedWatch<'a> {
     pub opened: Opened,
     pub pieces: &'a [&'a str],
     pub ends: bool,
@@ -32,7 +32,7 @@ fn replied(alloc: Global, code: u16, body: &str) -> Answer {
     if body.is_empty() || bytes.extend_from_slice(body.as_bytes()).is_err() {
         return Answer::Lost;
     }
-    Answer::Replied(Reply { code, body: bytes })
+    Answer::Replied(HttpReply { code, body: bytes })
 }
 
 /// Answers lists, first objects and watches in their order, and then no more. What is empty is lost.
@@ -40,7 +40,7 @@ fn replied(alloc: Global, code: u16, body: &str) -> Answer {
 pub struct Script<'a> {
     pub lists: &'a [&'a str],
     pub firsts: &'a [First<'a>],
-    pub watches: &'a [Watch<'a>],
+    pub watches: &'a [ScriptedWatch<'a>],
     /// How many lists, first objects and watches were answered, and how many pieces the last watch gave.
     pub listed: usize,
     pub looked: usize,
@@ -146,7 +146,7 @@ impl Timer for Waits {
 
 /// Records the revisions that are published and counts the changes, and stops at a revision. It refuses some changes at first.
 #[derive(Drop)]
-pub struct Seen {
+pub struct RecordingSink {
     pub until: u64,
     pub refusals: u64,
     pub changes: usize,
@@ -157,7 +157,7 @@ pub struct Seen {
     pub others: usize,
 }
 
-impl Sink for Seen {
+impl Sink for RecordingSink {
     ghost takes = { λ before changes objects is_first after. ⊤ };
 
     fn changed(

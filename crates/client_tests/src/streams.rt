@@ -1,7 +1,7 @@
 //! What a follower makes of streams of initial events, of which no contract speaks.
-use crate::scenes::{LIST, SAME, Scene, UNTIL_NINE, first_unlike};
-use crate::scripts::{STREAM, Watch};
-use remote::Opened;
+use crate::scenes::{FollowerScene, LIST, SAME, UNTIL_NINE, first_unlike};
+use crate::scripts::{STREAM, ScriptedWatch};
+use api_client::Opened;
 
 /// An object as an initial event, and the bookmarks that close the initial events at the revisions 5 and 9.
 const A: &str =
@@ -18,58 +18,58 @@ const A_AND_NO_FRAME: &str =
     "{\"type\":\"ADDED\",\"object\":{\"kind\":\"ConfigMap\",\"apiVersion\":\"v1\",\"metadata\":{\"name\":\"a\",\"namespace\":\"b\",\"uid\":\"c\",\"resourceVersion\":\"4\"}}}\nno frame\n";
 
 /// Streams that are cut: once their initial events are closed, before that, and after what is no frame.
-const UNTIL_FIVE: Watch<'static> = Watch {
+const UNTIL_FIVE: ScriptedWatch<'static> = ScriptedWatch {
     opened: Opened::Open,
     pieces: &[A, CLOSED],
     ends: false,
 };
 
-const UNTIL_NINE_WITH_A: Watch<'static> = Watch {
+const UNTIL_NINE_WITH_A: ScriptedWatch<'static> = ScriptedWatch {
     opened: Opened::Open,
     pieces: &[A, CLOSED_LATER],
     ends: false,
 };
 
-const EMPTY_UNTIL_NINE: Watch<'static> = Watch {
+const EMPTY_UNTIL_NINE: ScriptedWatch<'static> = ScriptedWatch {
     opened: Opened::Open,
     pieces: &[CLOSED_LATER],
     ends: false,
 };
 
-const UNCLOSED: Watch<'static> = Watch {
+const UNCLOSED: ScriptedWatch<'static> = ScriptedWatch {
     opened: Opened::Open,
     pieces: &[A],
     ends: false,
 };
 
-const UNREADABLE: Watch<'static> = Watch {
+const UNREADABLE: ScriptedWatch<'static> = ScriptedWatch {
     opened: Opened::Open,
     pieces: &[A_AND_NO_FRAME],
     ends: false,
 };
 
 /// Streams that are refused, with either code by which servers refuse them, and a watch that has expired.
-const BAD_REQUEST: Watch<'static> = Watch {
+const BAD_REQUEST: ScriptedWatch<'static> = ScriptedWatch {
     opened: Opened::Refused(400),
     pieces: &[],
     ends: false,
 };
 
-const UNPROCESSABLE: Watch<'static> = Watch {
+const UNPROCESSABLE: ScriptedWatch<'static> = ScriptedWatch {
     opened: Opened::Refused(422),
     pieces: &[],
     ends: false,
 };
 
-const GONE: Watch<'static> = Watch {
+const GONE: ScriptedWatch<'static> = ScriptedWatch {
     opened: Opened::Expired,
     pieces: &[],
     ends: false,
 };
 
-const SCENES: [Scene; 5] = [
+const SCENES: [FollowerScene; 5] = [
     // a watch goes on where the stream was cut
-    Scene {
+    FollowerScene {
         lists: &[],
         firsts: &[SAME],
         watches: &[UNTIL_FIVE, UNTIL_NINE],
@@ -82,7 +82,7 @@ const SCENES: [Scene; 5] = [
         told: (0, 0),
     },
     // a list follows at once where streams are refused
-    Scene {
+    FollowerScene {
         lists: &[LIST],
         firsts: &[],
         watches: &[BAD_REQUEST, UNTIL_NINE],
@@ -95,7 +95,7 @@ const SCENES: [Scene; 5] = [
         told: (0, 0),
     },
     // and a stream is tried again after the next expiry
-    Scene {
+    FollowerScene {
         lists: &[LIST],
         firsts: &[],
         watches: &[UNPROCESSABLE, GONE, EMPTY_UNTIL_NINE],
@@ -108,7 +108,7 @@ const SCENES: [Scene; 5] = [
         told: (0, 0),
     },
     // a stream that is cut before its initial events are closed has given nothing
-    Scene {
+    FollowerScene {
         lists: &[],
         firsts: &[],
         watches: &[UNCLOSED, UNTIL_NINE_WITH_A],
@@ -121,7 +121,7 @@ const SCENES: [Scene; 5] = [
         told: (0, 0),
     },
     // initial events may name any revision, so that they show no other server
-    Scene {
+    FollowerScene {
         lists: &[],
         firsts: &[SAME, SAME],
         watches: &[UNTIL_FIVE, GONE, UNREADABLE, EMPTY_UNTIL_NINE],

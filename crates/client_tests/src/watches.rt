@@ -1,6 +1,6 @@
 //! Watches over readers of whose bytes no contract speaks.
 use chunked::{Reader, Watched};
-use client::{LARGEST_BODY, More, Opening, ReplyFault, open_watch, read_more};
+use http_client::{LARGEST_BODY, More, ReplyFault, WatchAnswer, open_watch, read_more};
 use std::alloc::Global;
 use test_devices::Source;
 
@@ -18,7 +18,7 @@ const REST: usize = 4;
 const GONE: &[u8] = b"HTTP/1.1 410 Gone\r\nContent-Length: 2\r\n\r\n{}";
 
 /// Opens the watch of a source.
-fn opening(alloc: Global, text: &[u8], most: usize) -> Result<Opening, ReplyFault> {
+fn opening(alloc: Global, text: &[u8], most: usize) -> Result<WatchAnswer, ReplyFault> {
     open_watch(
         alloc,
         &mut Watched::new(Source::new(text, most)),
@@ -31,7 +31,7 @@ fn opening(alloc: Global, text: &[u8], most: usize) -> Result<Opening, ReplyFaul
 fn watched(alloc: Global, source: Source<'_>) -> (More, usize) {
     let mut reader = Watched::new(source);
     let mut left = FRAMES;
-    if open_watch(alloc, &mut reader, LARGEST_BODY) != Ok(Opening::Open) {
+    if open_watch(alloc, &mut reader, LARGEST_BODY) != Ok(WatchAnswer::Open) {
         return (More::Cut, left.len());
     }
     let mut watch = Reader::new(reader);
@@ -78,11 +78,11 @@ fn a_watch_that_is_cut_has_no_end(rt: HostRuntime) {
 }
 
 /// Replies to who asks for a watch, and what they come to.
-const REFUSALS: [(&[u8], Result<Opening, ReplyFault>); 5] = [
-    (GONE, Ok(Opening::Expired)),
+const REFUSALS: [(&[u8], Result<WatchAnswer, ReplyFault>); 5] = [
+    (GONE, Ok(WatchAnswer::Expired)),
     (
         b"HTTP/1.1 504 Gateway Timeout\r\nContent-Length: 2\r\n\r\n{}",
-        Ok(Opening::Refused(504)),
+        Ok(WatchAnswer::Refused(504)),
     ),
     (
         b"HTTP/1.1 410 Gone\r\nContent-Length: 2\r\n\r\n",

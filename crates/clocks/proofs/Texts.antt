@@ -5,7 +5,7 @@ use Rattle.jiff_core.specs.declared.timestamp.Timestamp.{Timestamp}
 use Rattle.jiff_core.specs.Timestamp.{nanos_of_seconds}
 use Rattle.jiff_fmt.specs.declared.temporal.printer.DateTimePrinter.{DateTimePrinter}
 use Rattle.jiff_fmt.specs.Printer.{options, IsTimestampText}
-use Rattle.definitions.specs.Moments.{is_moment}
+use Rattle.spec_api.specs.Moments.{is_moment}
 use Rattle.clocks.specs.Seconds.{IsTextOf, IsTextSince1970}
 
 -- the plain printer writes the text of the second

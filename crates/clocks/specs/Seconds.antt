@@ -5,7 +5,7 @@ use Rattle.jiff_core.specs.declared.civil.datetime.DateTime.{DateTime}
 use Rattle.jiff_core.specs.DateTime.{civil_nanos}
 use Rattle.jiff_core.specs.Timestamp.{nanos_of_seconds}
 use Rattle.jiff_fmt.specs.Text.{datetime_text}
-use Rattle.definitions.specs.Moments.{is_moment}
+use Rattle.spec_api.specs.Moments.{is_moment}
 
 -- the date and the time of the second since 1970, with a T between them and a Z after them
 abbrev pub IsTextOf : ℤ → List ℕ → Type 0

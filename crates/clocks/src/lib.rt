@@ -10,7 +10,7 @@ ghost use Rattle.clocks.specs.Seconds.{IsTextOf, IsMomentOf, IsTextSince1970};
 
 use jiff::Timestamp;
 use jiff_fmt::temporal::DateTimePrinter;
-use stamps::moments::Moment;
+use metadata_values::moments::Moment;
 use std::time::Clock;
 
 /// Returns the moment of the second since 1970, which may be before it; none where no moment has its text.

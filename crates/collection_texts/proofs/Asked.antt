@@ -5,15 +5,15 @@ use Rattle.std.specs.Prelude.{unwrap_or}
 use Rattle.std.specs.Result.{result_map_both}
 use Rattle.std.specs.Str.{is_utf8}
 use Rattle.form_urlencoded.specs.Form.{raw_pairs}
-use Rattle.definitions.proofs.Truths.{both_true}
-use Rattle.definitions.specs.declared.kinds.Kind.{Kind}
-use Rattle.definitions.specs.declared.methods.Method.TheVariants.{Get}
-use Rattle.definitions.specs.declared.policies.StatedPolicy.TheVariants.{Nothing}
-use Rattle.definitions.specs.ListQueries.{Read, Collection, read_by, collection_of}
-use Rattle.definitions.specs.Queries.{Pairs, parameter, has_any, or_empty}
-use Rattle.definitions.specs.Selectors.{Requirement}
-use Rattle.definitions.specs.SelectorTexts.{selector_of_text}
-use Rattle.definitions.specs.Targets.{Asked, collection, collection_text, route, path_of, read_as, asked_with, asked_at, decoded}
+use Rattle.spec_api.proofs.Truths.{both_true}
+use Rattle.spec_api.specs.declared.kinds.Kind.{Kind}
+use Rattle.spec_api.specs.declared.methods.Method.TheVariants.{Get}
+use Rattle.spec_api.specs.declared.policies.StatedPolicy.TheVariants.{Nothing}
+use Rattle.spec_api.specs.ListQueries.{Read, Collection, read_by, collection_of}
+use Rattle.spec_api.specs.Queries.{Pairs, parameter, has_any, or_empty}
+use Rattle.spec_api.specs.Selectors.{Requirement}
+use Rattle.spec_api.specs.SelectorTexts.{selector_of_text}
+use Rattle.spec_api.specs.Targets.{Asked, collection, collection_text, route, path_of, read_as, asked_with, asked_at, decoded}
 use Rattle.collection_texts.specs.Scopes.{Scope, IsText, required, names_namespace, is_scope, view_in}
 use Rattle.collection_texts.specs.Targets.{Parameters, selecting, target, list_target, page_target, watch_target, stream_target}
 use Rattle.collection_texts.specs.Told.{Asks, IsPage, listed, paged, watched, streamed}

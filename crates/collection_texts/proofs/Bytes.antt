@@ -7,14 +7,14 @@ use Rattle.std.proofs.lemmas.Str.Ascii.{IsAscii-from_all}
 use Rattle.std.specs.List.{list_all}
 use Rattle.form_urlencoded.specs.Form.{byte_serialize, is_nonempty, separator, append_pair, extend_pairs}
 use Rattle.form_urlencoded.proofs.FormLemmas.{IsSerializedByte, All-byte_serialize}
-use Rattle.definitions.proofs.Truths.{and_true, both_true, left_true, right_true}
-use Rattle.definitions.specs.declared.kinds.Kind.{Kind}
-use Rattle.definitions.specs.declared.kinds.Kind.TheVariants.{ConfigMap, Pod, ReplicaSet, Deployment}
-use Rattle.definitions.specs.Keys.{is_letter_or_digit, is_label, is_namespace}
-use Rattle.definitions.specs.Kinds.{group, plural}
-use Rattle.definitions.specs.Targets.{collection, collection_text, names_namespace, prefix}
-use Rattle.request_texts.specs.Texts.{is_visible}
-use Rattle.request_texts.proofs.Segments.{is_domain_byte}
+use Rattle.spec_api.proofs.Truths.{and_true, both_true, left_true, right_true}
+use Rattle.spec_api.specs.declared.kinds.Kind.{Kind}
+use Rattle.spec_api.specs.declared.kinds.Kind.TheVariants.{ConfigMap, Pod, ReplicaSet, Deployment}
+use Rattle.spec_api.specs.Keys.{is_letter_or_digit, is_label, is_namespace}
+use Rattle.spec_api.specs.Kinds.{group, plural}
+use Rattle.spec_api.specs.Targets.{collection, collection_text, names_namespace, prefix}
+use Rattle.request_encoding.specs.Texts.{is_visible}
+use Rattle.request_encoding.proofs.Segments.{is_domain_byte}
 use Rattle.collection_texts.specs.Targets.{Parameters, query_text}
 
 -- a visible byte of ASCII

@@ -7,13 +7,13 @@ use Rattle.std.proofs.lemmas.Fmt.{decimal_is_IsNumeral, decimal_nonempty, length
 use Rattle.std.proofs.lemmas.Str.{IsUtf8-from_ascii}
 use Rattle.std.proofs.lemmas.Str.Parse.{digit_from_value}
 use Rattle.form_urlencoded.specs.Form.{raw_pairs, extend_pairs}
-use Rattle.definitions.proofs.RevisionTexts.{revision_is}
-use Rattle.definitions.specs.declared.refusals.Part.{Part}
-use Rattle.definitions.specs.declared.versions.At.TheVariants.{Present, Exact}
-use Rattle.definitions.specs.declared.versions.Start.TheVariants.{Streamed}
-use Rattle.definitions.specs.ListQueries.{ListOptions, WatchOptions, Read, list, watch, understood, limit_of, version_of, match_of, list_at, by_token, list_options, start_of, initial_of, is_true_value, plain_start, watch_options, read_by}
-use Rattle.definitions.specs.Moments.{is_digit}
-use Rattle.definitions.specs.Queries.{Pairs, parameter, has_any}
+use Rattle.spec_api.proofs.RevisionTexts.{revision_is}
+use Rattle.spec_api.specs.declared.refusals.Part.{Part}
+use Rattle.spec_api.specs.declared.versions.At.TheVariants.{Present, Exact}
+use Rattle.spec_api.specs.declared.versions.Start.TheVariants.{Streamed}
+use Rattle.spec_api.specs.ListQueries.{ListOptions, WatchOptions, Read, list, watch, understood, limit_of, version_of, match_of, list_at, by_token, list_options, start_of, initial_of, is_true_value, plain_start, watch_options, read_by}
+use Rattle.spec_api.specs.Moments.{is_digit}
+use Rattle.spec_api.specs.Queries.{Pairs, parameter, has_any}
 use Rattle.collection_texts.specs.Scopes.{IsText}
 use Rattle.collection_texts.specs.Targets.{Parameters, selecting}
 use Rattle.collection_texts.specs.Told.{IsPage}

@@ -7,8 +7,8 @@ use Rattle.std.specs.Str.Lossy.{utf8_lossy}
 use Rattle.percent_encoding.proofs.PercentLemmas.{IsByte}
 use Rattle.form_urlencoded.specs.Form.{raw_pairs, decode, extend_pairs}
 use Rattle.form_urlencoded.proofs.FormLemmas.{IsBytePair, round_trip}
-use Rattle.definitions.proofs.TokenTexts.{IsBytes-utf8}
-use Rattle.definitions.specs.Queries.{Pairs, decoded_text, parameter, has_any}
+use Rattle.spec_api.proofs.TokenTexts.{IsBytes-utf8}
+use Rattle.spec_api.specs.Queries.{Pairs, decoded_text, parameter, has_any}
 use Rattle.collection_texts.specs.Targets.{Parameters}
 
 -- names and values are texts

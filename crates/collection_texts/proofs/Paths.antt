@@ -2,14 +2,14 @@
 use Rattle.std.proofs.Common.{◌≡◌, ℕ, suc, ◌+◌, List, [], ◌∷◌, ◌++◌, true, not, ◌==◌, length, take, drop, Option, Some, None, refl, ap, ◌∙◌, arith, append-nil}
 use Rattle.std.specs.List.{prefix_len}
 use Rattle.form_urlencoded.specs.Form.{extend_pairs}
-use Rattle.definitions.proofs.Truths.{both_true, right_true}
-use Rattle.definitions.specs.declared.kinds.Kind.{Kind}
-use Rattle.definitions.specs.declared.kinds.Kind.TheVariants.{ConfigMap, Pod, ReplicaSet, Deployment}
-use Rattle.definitions.specs.Queries.{query_of}
-use Rattle.definitions.specs.Targets.{collection, collection_text, names_namespace, path_of, route}
-use Rattle.request_texts.specs.Texts.{is_visible, is_of_path}
-use Rattle.request_texts.proofs.Segments.{is_path, whole_path, no_query}
-use Rattle.request_texts.proofs.Routed.{collection_routed, collection_clear}
+use Rattle.spec_api.proofs.Truths.{both_true, right_true}
+use Rattle.spec_api.specs.declared.kinds.Kind.{Kind}
+use Rattle.spec_api.specs.declared.kinds.Kind.TheVariants.{ConfigMap, Pod, ReplicaSet, Deployment}
+use Rattle.spec_api.specs.Queries.{query_of}
+use Rattle.spec_api.specs.Targets.{collection, collection_text, names_namespace, path_of, route}
+use Rattle.request_encoding.specs.Texts.{is_visible, is_of_path}
+use Rattle.request_encoding.proofs.Segments.{is_path, whole_path, no_query}
+use Rattle.request_encoding.proofs.Routed.{collection_routed, collection_clear}
 use Rattle.collection_texts.specs.Targets.{Parameters, query_text}
 
 before_mark : (t q : List ℕ) → is_path t ≡ true → prefix_len (λ b. not (b == 63)) (t ++ 63 ∷ q) ≡ length t

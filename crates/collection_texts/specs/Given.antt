@@ -1,6 +1,6 @@
 -- A scope as it is given, and why there is none.
 use Rattle.std.specs.Prelude.{◌≡◌, false, ℕ, List, Option, None}
-use Rattle.definitions.specs.Selectors.{Requirement}
+use Rattle.spec_api.specs.Selectors.{Requirement}
 use Rattle.collection_texts.specs.Scopes.{Scope, names_namespace, required}
 use Rattle.collection_texts.specs.declared.faults.ScopeFault.{ScopeFault}
 use Rattle.collection_texts.specs.declared.faults.ScopeFault.TheVariants.{Namespace, Selector, NoMemory}

@@ -1,12 +1,12 @@
 -- Which objects of a kind a client lists and watches.
 use Rattle.std.specs.Prelude.{ℕ, List, [], Bool, true, ◌&&◌, Option, Some, None, is_some, unwrap_or, IsUtf8, ⊤}
 use Rattle.std.specs.Option.{option_map_or}
-use Rattle.definitions.specs.declared.kinds.Kind.{Kind}
-use Rattle.definitions.specs.History.{View}
-use Rattle.definitions.specs.Keys.{is_namespace}
-use Rattle.definitions.specs.Queries.{or_empty}
-use Rattle.definitions.specs.Selectors.{Requirement}
-use Rattle.definitions.specs.SelectorTexts.{selector_of_text}
+use Rattle.spec_api.specs.declared.kinds.Kind.{Kind}
+use Rattle.spec_api.specs.History.{View}
+use Rattle.spec_api.specs.Keys.{is_namespace}
+use Rattle.spec_api.specs.Queries.{or_empty}
+use Rattle.spec_api.specs.Selectors.{Requirement}
+use Rattle.spec_api.specs.SelectorTexts.{selector_of_text}
 
 -- those of one namespace or of all, and of these all or those that a selector's text selects (Kubernetes, Labels and Selectors)
 pub record Scope : Type 0 where

@@ -1,8 +1,8 @@
 -- The targets by which a server is asked for collections.
 use Rattle.std.specs.Prelude.{ℕ, List, [], ◌∷◌, ◌++◌, Option, Some, None, codes, decimal}
 use Rattle.form_urlencoded.specs.Form.{extend_pairs}
-use Rattle.definitions.specs.declared.kinds.Kind.{Kind}
-use Rattle.definitions.specs.Targets.{collection, path_text}
+use Rattle.spec_api.specs.declared.kinds.Kind.{Kind}
+use Rattle.spec_api.specs.Targets.{collection, path_text}
 use Rattle.collection_texts.specs.Scopes.{Scope}
 
 -- names and values of a query

@@ -1,11 +1,11 @@
 -- What a server takes the targets for.
 use Rattle.std.specs.Prelude.{◌≡◌, ◌<◌, ◌^◌, ℕ, List, [], true, Some, None, Ok}
-use Rattle.definitions.specs.declared.kinds.Kind.{Kind}
-use Rattle.definitions.specs.declared.methods.Method.TheVariants.{Get}
-use Rattle.definitions.specs.declared.versions.At.TheVariants.{Present, Exact}
-use Rattle.definitions.specs.declared.versions.Start.TheVariants.{Streamed}
-use Rattle.definitions.specs.ListQueries.{plain_start}
-use Rattle.definitions.specs.Targets.{Asked, list, watch, read_request}
+use Rattle.spec_api.specs.declared.kinds.Kind.{Kind}
+use Rattle.spec_api.specs.declared.methods.Method.TheVariants.{Get}
+use Rattle.spec_api.specs.declared.versions.At.TheVariants.{Present, Exact}
+use Rattle.spec_api.specs.declared.versions.Start.TheVariants.{Streamed}
+use Rattle.spec_api.specs.ListQueries.{plain_start}
+use Rattle.spec_api.specs.Targets.{Asked, list, watch, read_request}
 use Rattle.collection_texts.specs.Scopes.{Scope, view_in}
 
 -- a server that is asked by a GET of the target takes it for this

@@ -1,14 +1,14 @@
 //! Whether there is such a scope.
 ghost use Rattle.std.specs.Prelude.{◌≡◌, true, IfOk, IfErr, OnOk, is_some, option_map, string_bytes};
 ghost use Rattle.std.specs.Option.{option_map_or};
-ghost use Rattle.definitions.specs.Keys.{is_namespace};
-ghost use Rattle.definitions.specs.Queries.{or_empty};
-ghost use Rattle.definitions.specs.SelectorTexts.{selector_of_text};
+ghost use Rattle.spec_api.specs.Keys.{is_namespace};
+ghost use Rattle.spec_api.specs.Queries.{or_empty};
+ghost use Rattle.spec_api.specs.SelectorTexts.{selector_of_text};
 ghost use Rattle.collection_texts.specs.Given.{RefusesSelector};
 
 use crate::faults::ScopeFault;
-use names::is_namespace;
-use selector::{Fault, Selector};
+use name_syntax::is_namespace;
+use selector::{Selector, SelectorFault};
 use std::alloc::{AllocError, Global};
 
 /// Returns whether a namespace, if one is given, can be called so.
@@ -31,8 +31,8 @@ pub(crate) fn check_selector(alloc: Global, selector: Option<&str>) -> Result<()
     };
     match Selector::parse(alloc, text) {
         Ok(_) => Ok(()),
-        Err(Fault::Malformed | Fault::Invalid) => Err(ScopeFault::Selector),
-        Err(Fault::NoMemory) => Err(ScopeFault::NoMemory),
+        Err(SelectorFault::Malformed | SelectorFault::Invalid) => Err(ScopeFault::Selector),
+        Err(SelectorFault::NoMemory) => Err(ScopeFault::NoMemory),
     }
 }
 

@@ -7,8 +7,8 @@ ghost use Rattle.collection_texts.specs.Told.{Asks, IsPage, listed, paged, strea
 
 use crate::queries::push_query;
 use crate::scopes::Scope;
-use definitions::kinds::Kind;
-use request_texts::targets::collection_target;
+use request_encoding::targets::collection_target;
+use spec_api::kinds::Kind;
 use std::alloc::{AllocError, Global};
 
 /// Returns the target of the collection of a kind in a scope, with further parameters.

@@ -1,11 +1,11 @@
 -- Commands by cases, each a Boolean.
 use Rattle.std.proofs.Common.{◌≡◌, List, [], Bool, true, false, cond, not, ◌&&◌, refl, sym, ap, ◌∙◌, Some}
 use Rattle.serde_json.specs.Data.{Data}
-use Rattle.definitions.specs.Metadata.{is_being_deleted}
-use Rattle.controllers.specs.Commands.{Command}
-use Rattle.controllers.specs.Hands.{Hand, live}
-use Rattle.plans.specs.GarbageCollection.{finish, collect, plan_for, plan}
-use Rattle.plans.specs.Standings.{dependents}
+use Rattle.spec_api.specs.Metadata.{is_being_deleted}
+use Rattle.spec_client_go.specs.Commands.{Command}
+use Rattle.spec_client_go.specs.Hands.{Hand, live}
+use Rattle.spec_reconcile.specs.GarbageCollection.{finish, collect, plan_for, plan}
+use Rattle.spec_reconcile.specs.Standings.{dependents}
 
 -- with the second finalizer alone
 pub waited : (o f b : Bool) (x y : List Command) → o ≡ false → f ≡ true → cond b [] y ≡ cond o x (cond (f && not b) y [])

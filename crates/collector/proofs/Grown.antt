@@ -6,11 +6,11 @@ use Rattle.serde_json.specs.Data.{Data, Items, no_items, item, boolean}
 use Rattle.serde_json.specs.View.{view, items_of, items_view}
 use Rattle.serde_json.specs.Written.{has_float, items_have_float}
 use Rattle.serde_json.specs.declared.value.Value.{Value}
-use Rattle.definitions.specs.Values.{members_of}
-use Rattle.definitions.proofs.NoFloatsRead.{both_false, members_have_float-put}
-use Rattle.definitions.proofs.Truths.{left_false, right_false}
+use Rattle.spec_api.specs.Values.{members_of}
+use Rattle.spec_api.proofs.NoFloatsRead.{both_false, members_have_float-put}
+use Rattle.spec_api.proofs.Truths.{left_false, right_false}
 use Rattle.json_values.proofs.NoFloats.{members_of-no_float}
-use Rattle.plans.specs.MetadataEdits.{only, unblocked, all_unblocked}
+use Rattle.spec_reconcile.specs.MetadataEdits.{only, unblocked, all_unblocked}
 
 -- ---- any loop
 

@@ -2,9 +2,9 @@
 use Rattle.std.proofs.Common.{◌≡◌, List, [], ◌∷◌, ◌++◌, Bool, true, false, cond, not, ◌&&◌, ◌||◌, refl, sym, ap, subst, ◌∙◌, append-nil, append_assoc}
 use Rattle.std.proofs.lemmas.List.Folds.{list_any-append}
 use Rattle.std.specs.List.{filter, list_any}
-use Rattle.definitions.specs.Keys.{Key, is_same_key}
-use Rattle.definitions.proofs.PutLaws.{same_name}
-use Rattle.controllers.specs.Hands.{Read, is_read, each_once, unread}
+use Rattle.spec_api.specs.Keys.{Key, is_same_key}
+use Rattle.spec_api.proofs.PutLaws.{same_name}
+use Rattle.spec_client_go.specs.Hands.{Read, is_read, each_once, unread}
 use Rattle.collector.specs.Asked.{added, all_added}
 
 -- a key that is not among these

@@ -1,8 +1,8 @@
 -- Keys that are asked for, one after another.
 use Rattle.std.specs.Prelude.{List, ◌∷◌, ◌++◌, [], ◌||◌, if◌then◌else◌}
 use Rattle.std.specs.List.{list_any}
-use Rattle.definitions.specs.Keys.{Key, is_same_key}
-use Rattle.controllers.specs.Hands.{Read, is_read}
+use Rattle.spec_api.specs.Keys.{Key, is_same_key}
+use Rattle.spec_client_go.specs.Hands.{Read, is_read}
 
 -- the keys with one more, unless that was read or is there
 abbrev pub added : List Read → List Key → Key → List Key

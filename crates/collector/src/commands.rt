@@ -1,16 +1,16 @@
 //! Commands of the collector.
 ghost use Rattle.std.specs.Prelude.{◌≡◌, ◌∷◌, [], IfOk, Some, map, option_map, string_bytes};
-ghost use Rattle.definitions.specs.Metadata.{uid, version};
-ghost use Rattle.controllers.specs.Commands.{update, delete, seen};
-ghost use Rattle.keys.specs.Keys.{key_of};
-ghost use Rattle.turns.specs.Commands.{command_of, version_of};
-ghost use Rattle.plans.specs.GarbageCollection.{remove};
+ghost use Rattle.spec_api.specs.Metadata.{uid, version};
+ghost use Rattle.spec_client_go.specs.Commands.{update, delete, seen};
+ghost use Rattle.object_keys.specs.Keys.{key_of};
+ghost use Rattle.reconcile_types.specs.Commands.{command_of, version_of};
+ghost use Rattle.spec_reconcile.specs.GarbageCollection.{remove};
 
-use definitions::policies::Policy;
-use keys::Key;
 use meta::Object;
+use object_keys::Key;
+use reconcile_types::{Command, Version};
+use spec_api::policies::Policy;
 use std::alloc::{AllocError, Global};
-use turns::{Command, Version};
 
 /// Returns a copy of a text, if it is there.
 fn copied(alloc: Global, text: Option<&str>) -> Result<Option<String>, AllocError>

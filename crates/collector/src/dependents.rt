@@ -2,20 +2,20 @@
 ghost use Rattle.std.specs.Prelude.{◌≡◌, ◌++◌, ◌&&◌, IfOk, OnOk, map};
 ghost use Rattle.std.specs.List.{list_any};
 ghost use Rattle.serde_json.specs.View.{items_view};
-ghost use Rattle.definitions.specs.Metadata.{owners_in};
-ghost use Rattle.controllers.specs.Informers.{of_owner};
-ghost use Rattle.turns.specs.Entries.{entry_of};
-ghost use Rattle.turns.specs.Hands.{looks_by, members_of};
-ghost use Rattle.plans.specs.GarbageCollection.{is_blocked};
-ghost use Rattle.plans.specs.Standings.{is_to, waits_for_dependents, with_owner, dependents, blocks};
+ghost use Rattle.spec_api.specs.Metadata.{owners_in};
+ghost use Rattle.spec_client_go.specs.Informers.{of_owner};
+ghost use Rattle.reconcile_types.specs.Entries.{entry_of};
+ghost use Rattle.reconcile_types.specs.Hands.{looks_by, members_of};
+ghost use Rattle.spec_reconcile.specs.GarbageCollection.{is_blocked};
+ghost use Rattle.spec_reconcile.specs.Standings.{is_to, waits_for_dependents, with_owner, dependents, blocks};
 
 use crate::standings::{is_to, waits_for_dependents};
 use meta::Object;
 use meta::owners::owner;
-use owners::edits::references;
+use owner_references::edits::references;
+use reconcile_types::{Entry, Looks, Seen};
 use serde_json::Value;
 use std::alloc::{AllocError, Global};
-use turns::{Entry, Looks, Seen};
 
 /// Returns the objects of a look with an owner of this uid; a look that was not taken shows none.
 fn of_owner<'a, S: Seen>(

@@ -2,11 +2,11 @@
 ghost use Rattle.std.specs.Prelude.{◌≡◌, ◌++◌, IfOk, OnOk, map, not, option_map};
 ghost use Rattle.std.specs.Str.{bytes_eq};
 ghost use Rattle.serde_json.specs.View.{view, items_view};
-ghost use Rattle.definitions.specs.Checks.{text_is};
-ghost use Rattle.definitions.specs.Metadata.{owner};
-ghost use Rattle.turns.specs.Hands.{reads_of};
-ghost use Rattle.plans.specs.MetadataEdits.{only, without_finalizer, keeping_owners, unblocked, all_unblocked, blocking_nobody};
-ghost use Rattle.plans.specs.Standings.{is_to, standing, is_solid};
+ghost use Rattle.spec_api.specs.Checks.{text_is};
+ghost use Rattle.spec_api.specs.Metadata.{owner};
+ghost use Rattle.reconcile_types.specs.Hands.{reads_of};
+ghost use Rattle.spec_reconcile.specs.MetadataEdits.{only, without_finalizer, keeping_owners, unblocked, all_unblocked, blocking_nobody};
+ghost use Rattle.spec_reconcile.specs.Standings.{is_to, standing, is_solid};
 ghost use Rattle.collector.specs.Picked.{picked_if};
 
 use crate::standings::{is_solid, is_to, standing};
@@ -14,10 +14,10 @@ use json_values::members::into_members;
 use meta::Object;
 use meta::finalizers::is_text;
 use meta::owners::owner;
-use owners::edits::{references, with_list};
+use owner_references::edits::{references, with_list};
+use reconcile_types::Read;
 use serde_json::Value;
 use std::alloc::{AllocError, Global};
-use turns::Read;
 
 /// Adds a copy of a value, if it is picked.
 fn pick(is_picked: bool, value: &Value, picked: &mut Vec<Value>) -> Result<(), AllocError>

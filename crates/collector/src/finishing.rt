@@ -1,23 +1,23 @@
 //! What the collector asks of an object that is being deleted.
 ghost use Rattle.std.specs.Prelude.{◌≡◌, ◌++◌, ◌∷◌, [], IfOk, map, if◌then◌else◌};
-ghost use Rattle.definitions.specs.Deletion.{orphan, foreground};
-ghost use Rattle.controllers.specs.Commands.{update};
-ghost use Rattle.keys.specs.Keys.{key_of};
-ghost use Rattle.turns.specs.Commands.{command_of};
-ghost use Rattle.turns.specs.Entries.{entry_of};
-ghost use Rattle.turns.specs.Hands.{looks_by, members_of};
-ghost use Rattle.plans.specs.GarbageCollection.{orphaned, is_blocked, finish};
-ghost use Rattle.plans.specs.MetadataEdits.{without_finalizer};
-ghost use Rattle.plans.specs.Standings.{dependents};
+ghost use Rattle.spec_api.specs.Deletion.{orphan, foreground};
+ghost use Rattle.spec_client_go.specs.Commands.{update};
+ghost use Rattle.object_keys.specs.Keys.{key_of};
+ghost use Rattle.reconcile_types.specs.Commands.{command_of};
+ghost use Rattle.reconcile_types.specs.Entries.{entry_of};
+ghost use Rattle.reconcile_types.specs.Hands.{looks_by, members_of};
+ghost use Rattle.spec_reconcile.specs.GarbageCollection.{orphaned, is_blocked, finish};
+ghost use Rattle.spec_reconcile.specs.MetadataEdits.{without_finalizer};
+ghost use Rattle.spec_reconcile.specs.Standings.{dependents};
 
 use crate::commands::{one, update};
 use crate::dependents::{dependents, is_blocked};
 use crate::edits::{without_finalizer, without_owner};
-use keys::Key;
 use meta::Object;
 use meta::finalizers::has_text;
+use object_keys::Key;
+use reconcile_types::{Command, Entry, Looks, Seen};
 use std::alloc::{AllocError, Global};
-use turns::{Command, Entry, Looks, Seen};
 
 /// Returns the updates of dependents without their references to an object.
 fn orphaned(

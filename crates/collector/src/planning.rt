@@ -1,13 +1,13 @@
 //! What the collector asks of the server.
 ghost use Rattle.std.specs.Prelude.{◌≡◌, IfOk, map, if◌then◌else◌};
-ghost use Rattle.definitions.specs.Metadata.{owners};
-ghost use Rattle.keys.specs.Keys.{key_of};
-ghost use Rattle.controllers.specs.OwnerReferences.{namespace_of};
-ghost use Rattle.turns.specs.Commands.{command_of, commands_of};
-ghost use Rattle.turns.specs.Entries.{entry_of};
-ghost use Rattle.turns.specs.Hands.{hand_of, reads_of, looks_by, members_of};
-ghost use Rattle.plans.specs.GarbageCollection.{plan, collect, own_policy, remove, remove_after, is_between};
-ghost use Rattle.plans.specs.Standings.{standing, standings, dependents};
+ghost use Rattle.spec_api.specs.Metadata.{owners};
+ghost use Rattle.object_keys.specs.Keys.{key_of};
+ghost use Rattle.spec_client_go.specs.OwnerReferences.{namespace_of};
+ghost use Rattle.reconcile_types.specs.Commands.{command_of, commands_of};
+ghost use Rattle.reconcile_types.specs.Entries.{entry_of};
+ghost use Rattle.reconcile_types.specs.Hands.{hand_of, reads_of, looks_by, members_of};
+ghost use Rattle.spec_reconcile.specs.GarbageCollection.{plan, collect, own_policy, remove, remove_after, is_between};
+ghost use Rattle.spec_reconcile.specs.Standings.{standing, standings, dependents};
 ghost use Rattle.collector.specs.Removed.{remove_by};
 
 use crate::commands::{delete, one, remove, update};
@@ -15,15 +15,15 @@ use crate::dependents::{any_waits, dependents};
 use crate::edits::{blocking_nobody, with_solid_owners};
 use crate::finishing::finish;
 use crate::standings::{all_solid, any_solid, any_waiting, standings};
-use definitions::policies::Policy;
-use keys::Key;
 use meta::Object;
 use meta::finalizers::has_text;
-use owners::references::namespace_of;
-use plans::Standing;
+use object_keys::Key;
+use owner_references::references::namespace_of;
+use reconcile_types::hands::live;
+use reconcile_types::{Command, Entry, Hand, Looks, Plan, Read, Seen, Version};
+use spec_api::policies::Policy;
+use spec_reconcile::Standing;
 use std::alloc::{AllocError, Global};
-use turns::hands::live;
-use turns::{Command, Entry, Hand, Looks, Plan, Read, Seen, Version};
 
 /// Returns the policy that an object's finalizers stand for.
 fn own_policy(object: &Object) -> Policy

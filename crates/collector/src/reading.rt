@@ -1,18 +1,18 @@
 //! What the collector reads live.
 ghost use Rattle.std.specs.Prelude.{◌≡◌, IfOk, OnOk, map, option_map};
 ghost use Rattle.std.specs.List.{list_any};
-ghost use Rattle.definitions.specs.Keys.{is_same_key};
-ghost use Rattle.keys.specs.Keys.{key_of};
-ghost use Rattle.turns.specs.Hands.{hand_of, reads_of};
-ghost use Rattle.plans.specs.GarbageCollection.{owner_keys_if, asks};
+ghost use Rattle.spec_api.specs.Keys.{is_same_key};
+ghost use Rattle.object_keys.specs.Keys.{key_of};
+ghost use Rattle.reconcile_types.specs.Hands.{hand_of, reads_of};
+ghost use Rattle.spec_reconcile.specs.GarbageCollection.{owner_keys_if, asks};
 ghost use Rattle.collector.specs.Asked.{added, all_added};
 
-use keys::Key;
 use meta::Object;
-use owners::references::owner_keys;
+use object_keys::Key;
+use owner_references::references::owner_keys;
+use reconcile_types::hands::{is_read, live};
+use reconcile_types::{Hand, Read, Seen};
 use std::alloc::{AllocError, Global};
-use turns::hands::{is_read, live};
-use turns::{Hand, Read, Seen};
 
 /// Returns whether a key is among others.
 fn has_key(keys: &[Key], wanted: &Key) -> bool

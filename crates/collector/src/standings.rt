@@ -1,19 +1,19 @@
 //! How the owners of an object stand.
 ghost use Rattle.std.specs.Prelude.{◌≡◌, IfOk, map, option_map};
 ghost use Rattle.std.specs.List.{list_all, list_any};
-ghost use Rattle.keys.specs.Keys.{key_of};
+ghost use Rattle.object_keys.specs.Keys.{key_of};
 ghost use Rattle.meta.specs.Owners.{owner_of};
-ghost use Rattle.turns.specs.Hands.{reads_of};
-ghost use Rattle.plans.specs.Standings.{is_to, waits_for_dependents, standing_of, standing, is_solid, is_waiting};
+ghost use Rattle.reconcile_types.specs.Hands.{reads_of};
+ghost use Rattle.spec_reconcile.specs.Standings.{is_to, waits_for_dependents, standing_of, standing, is_solid, is_waiting};
 
 use meta::finalizers::has_text;
 use meta::{Object, OwnerReference};
-use owners::owned_by::is_text;
-use owners::references::owner_key;
-use plans::Standing;
+use owner_references::owned_by::is_text;
+use owner_references::references::owner_key;
+use reconcile_types::Read;
+use reconcile_types::hands::live;
+use spec_reconcile::Standing;
 use std::alloc::{AllocError, Global};
-use turns::Read;
-use turns::hands::live;
 
 /// Returns whether a reference is to this object, by its uid.
 pub fn is_to(object: &Object, owner: &OwnerReference<'_>) -> bool

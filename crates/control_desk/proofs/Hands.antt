@@ -6,9 +6,9 @@ use Rattle.std.specs.Cmp.{Equal-is, tied_itself}
 use Rattle.std.specs.Ordering.{eq_by_cmp, is_eq}
 use Rattle.std.specs.FinSet as set
 use Rattle.std.specs.FinSet.{contains-insert, contains-remove}
-use Rattle.controllers.specs.WorkQueues.{WorkKey, WorkKeys, work_key_cmp}
-use Rattle.controllers.proofs.WorkKeyOrder.{work_key_total, work_key_tells}
-use Rattle.shared_board.specs.Hands.{AreHands}
+use Rattle.spec_client_go.specs.WorkQueues.{WorkKey, WorkKeys, work_key_cmp}
+use Rattle.spec_client_go.proofs.WorkKeyOrder.{work_key_total, work_key_tells}
+use Rattle.control_desk.specs.Hands.{AreHands}
 
 abbrev pub same : WorkKey → WorkKey → Bool
 same = eq_by_cmp work_key_cmp

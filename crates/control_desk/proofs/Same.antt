@@ -3,10 +3,10 @@ use Rattle.std.proofs.Common.{◌≡◌, ◌≢◌, ℕ, refl, sym, ap, ◌∙�
 use Rattle.std.specs.Prelude.{Some, None}
 use Rattle.std.proofs.lemmas.Bool.Decides.{nat_tests}
 use base.Stored.{Gv, gnil, gnum, gcons}
-use Rattle.control.specs.Boards.{Board}
-use Rattle.control_desk.specs.Seen.{board_code}
-use Rattle.shared_board.specs.Hands.{ChangesAreTold}
-use Rattle.shared_board.specs.Steps.{after, same_code, is_same}
+use Rattle.spec_work_board.specs.Boards.{Board}
+use Rattle.work_board.specs.Seen.{board_code}
+use Rattle.control_desk.specs.Hands.{ChangesAreTold}
+use Rattle.control_desk.specs.Steps.{after, same_code, is_same}
 
 both : (a b : Bool) → (a && b) ≡ true → (a ≡ true) × (b ≡ true)
 both true b e = (refl, e)

@@ -5,14 +5,14 @@ use Rattle.std.specs.FinSet as set
 use Rattle.std.specs.FinSet.{contains-empty}
 use Rattle.baton.specs.Marks.{entries, made_by, CanHappen}
 use Rattle.baton.proofs.Entries.{made_here_one, made_else_one, made_none}
-use Rattle.control.specs.Boards.{Board, begun, all_added, may_tick, passed, ticked}
-use Rattle.controllers.specs.Delays.{due}
-use Rattle.controllers.specs.WorkQueues as queues
-use Rattle.controllers.specs.WorkQueues.{WorkKey, work_key_cmp, WorkQueue, added, got, got_from, handed, front}
-use Rattle.laws.proofs.WorkQueueRuns.{IsSound, after-sound, runs_are_sound, idle-sound, queued_is_free, front_is_queued}
-use Rattle.shared_board.specs.Steps.{Step, take, finish, requeue, observe, expect_creations, expect_deletions, forget, tick, after, after_steps, in_hand, in_hand_from, in_hand_after}
-use Rattle.shared_board.specs.Hands.{board, MayFollow, hand, AreHands, HandsAreApart}
-use Rattle.shared_board.proofs.Hands.{same_name, some_same, not_both, kept_hands, taken_hands, emptied_hands}
+use Rattle.spec_work_board.specs.Boards.{Board, begun, all_added, may_tick, passed, ticked}
+use Rattle.spec_client_go.specs.Delays.{due}
+use Rattle.spec_client_go.specs.WorkQueues as queues
+use Rattle.spec_client_go.specs.WorkQueues.{WorkKey, work_key_cmp, WorkQueue, added, got, got_from, handed, front}
+use Rattle.spec_laws.proofs.WorkQueueRuns.{IsSound, after-sound, runs_are_sound, idle-sound, queued_is_free, front_is_queued}
+use Rattle.control_desk.specs.Steps.{Step, take, finish, requeue, observe, expect_creations, expect_deletions, forget, tick, after, after_steps, in_hand, in_hand_from, in_hand_after}
+use Rattle.control_desk.specs.Hands.{board, MayFollow, hand, AreHands, HandsAreApart}
+use Rattle.control_desk.proofs.Hands.{same_name, some_same, not_both, kept_hands, taken_hands, emptied_hands}
 
 -- ---- what steps do to the work
 

@@ -6,17 +6,17 @@ use Rattle.std.specs.FinSet.{contains-remove}
 use Rattle.baton.specs.Marks.{StartsWith, entries, made_by, marked, CanHappen}
 use Rattle.baton.specs.Passes.{Met, Longer, Taken}
 use Rattle.baton.specs.declared.views.Known.{Known}
-use Rattle.baton.specs.declared.views.View as views
-use Rattle.control.specs.Boards.{Board, Observation, begun, taken}
-use Rattle.controllers.specs.WorkQueues as queues
-use Rattle.controllers.specs.WorkQueues.{WorkKey, WorkQueue, got, got_from, handed, front}
-use Rattle.controllers.proofs.WorkKeyOrder.{work_key_total}
-use Rattle.shared_board.specs.Calls.{IsCall, HasTaken, after_give}
-use Rattle.shared_board.specs.Hands.{board, IsBegun, MayFollow}
-use Rattle.shared_board.specs.Steps.{Step, take, finish, requeue, after, after_steps, is_same, changing, taking, taking_of, in_hand, in_hand_after, IsAllowed}
-use Rattle.shared_board.proofs.Hands.{same_itself}
-use Rattle.shared_board.proofs.Same.{same_is, differs, apart}
-use Rattle.shared_board.proofs.Standing.{hands_apart, done_holds, in_hand_snoc}
+use Rattle.baton.specs.declared.views.PassView as views
+use Rattle.spec_work_board.specs.Boards.{Board, Observation, begun, taken}
+use Rattle.spec_client_go.specs.WorkQueues as queues
+use Rattle.spec_client_go.specs.WorkQueues.{WorkKey, WorkQueue, got, got_from, handed, front}
+use Rattle.spec_client_go.proofs.WorkKeyOrder.{work_key_total}
+use Rattle.control_desk.specs.Calls.{IsCall, HasTaken, after_give}
+use Rattle.control_desk.specs.Hands.{board, IsBegun, MayFollow}
+use Rattle.control_desk.specs.Steps.{Step, take, finish, requeue, after, after_steps, is_same, changing, taking, taking_of, in_hand, in_hand_after, IsAllowed}
+use Rattle.control_desk.proofs.Hands.{same_itself}
+use Rattle.control_desk.proofs.Same.{same_is, differs, apart}
+use Rattle.control_desk.proofs.Standing.{hands_apart, done_holds, in_hand_snoc}
 
 -- ---- one step more
 
@@ -150,11 +150,11 @@ meet_apart v w met k a b =
 
 -- ---- a take
 
-seen_then : (v w : views.View Board Step) (x : Board) (t : Taken IsBegun after_steps MayFollow v x w) → w.own.seen ≡ t.history
+seen_then : (v w : views.PassView Board Step) (x : Board) (t : Taken IsBegun after_steps MayFollow v x w) → w.own.seen ≡ t.history
 seen_then v w x t = ap (λ z. z.own.seen) t.knows
 
 -- what a take tells of the pass
-pub taken_by : (v w : views.View Board Step) (x : Board) → Taken IsBegun after_steps MayFollow v x w → v.own.holds ≡ false → HasTaken v.own w.own
+pub taken_by : (v w : views.PassView Board Step) (x : Board) → Taken IsBegun after_steps MayFollow v x w → v.own.holds ≡ false → HasTaken v.own w.own
 taken_by v w x t free =
     let seen : w.own.seen ≡ t.history = seen_then v w x t in
     record {
@@ -166,5 +166,5 @@ taken_by v w x t free =
     }
 
 -- and of the board
-pub board_of : (v w : views.View Board Step) (x : Board) (t : Taken IsBegun after_steps MayFollow v x w) → v.own.opening ≡ Some begun → x ≡ board w.own.seen
+pub board_of : (v w : views.PassView Board Step) (x : Board) (t : Taken IsBegun after_steps MayFollow v x w) → v.own.opening ≡ Some begun → x ≡ board w.own.seen
 board_of v w x t opened = (t.state begun opened).1 ∙ ap board (sym (seen_then v w x t))

@@ -2,9 +2,9 @@
 use Rattle.std.specs.Prelude.{◌≡◌, ℕ, List, ◌++◌, Option, None, true, false, Result, Ok, Err}
 use Rattle.baton.specs.Marks.{StartsWith, entries, made_by, marked, CanHappen}
 use Rattle.baton.specs.declared.views.Known.{Known}
-use Rattle.control.specs.Boards.{Board}
-use Rattle.shared_board.specs.Steps.{Step}
-use Rattle.shared_board.specs.Hands.{board, MayFollow}
+use Rattle.spec_work_board.specs.Boards.{Board}
+use Rattle.control_desk.specs.Steps.{Step}
+use Rattle.control_desk.specs.Hands.{board, MayFollow}
 
 -- what a pass knows once it has seen a history, and added this step to it
 abbrev pub having_seen : Known Board Step → List (ℕ × Step) → Option Step → Known Board Step

@@ -2,9 +2,9 @@
 use Rattle.std.specs.Prelude.{◌≡◌, ◌≢◌, ℕ, List, Option, Some, None, true}
 use Rattle.std.specs.FinSet as set
 use Rattle.baton.specs.Marks.{entries, made_by, CanHappen}
-use Rattle.control.specs.Boards.{Board, begun}
-use Rattle.controllers.specs.WorkQueues.{WorkKey, WorkKeys}
-use Rattle.shared_board.specs.Steps.{Step, after, after_steps, changing, in_hand, IsAllowed}
+use Rattle.spec_work_board.specs.Boards.{Board, begun}
+use Rattle.spec_client_go.specs.WorkQueues.{WorkKey, WorkKeys}
+use Rattle.control_desk.specs.Steps.{Step, after, after_steps, changing, in_hand, IsAllowed}
 
 abbrev pub IsBegun : Board → Type 0
 IsBegun b = b ≡ begun

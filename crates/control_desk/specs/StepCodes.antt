@@ -2,14 +2,14 @@
 use Rattle.std.specs.Prelude.{◌≡◌, ◌⊎◌, ℕ, List, refl}
 use Rattle.std.specs.Coded.{Coded, code_by, coded×, coded⊎, coded_ℕ, coded_list}
 use mathlib.Core.Logic.{inl, inr}
-use Rattle.codes.specs.HistoryCodes.{coded_key}
-use Rattle.control.specs.Boards.{Observation, creation_observed, deletion_observed}
-use Rattle.controllers.specs.Codes.{coded_work_key}
-use Rattle.controllers.specs.Expectations.{Owner}
-use Rattle.controllers.specs.WorkQueues.{WorkKey}
-use Rattle.definitions.specs.Keys.{Key}
+use Rattle.model_encodings.specs.HistoryCodes.{coded_key}
+use Rattle.spec_work_board.specs.Boards.{Observation, creation_observed, deletion_observed}
+use Rattle.spec_client_go.specs.Codes.{coded_work_key}
+use Rattle.spec_client_go.specs.Expectations.{Owner}
+use Rattle.spec_client_go.specs.WorkQueues.{WorkKey}
+use Rattle.spec_api.specs.Keys.{Key}
 use Rattle.expectations.specs.Seen.{owner_code}
-use Rattle.shared_board.specs.Steps.{Step, take, finish, requeue, observe, expect_creations, expect_deletions, forget, tick}
+use Rattle.control_desk.specs.Steps.{Step, take, finish, requeue, observe, expect_creations, expect_deletions, forget, tick}
 
 abbrev observation_cases : Observation → Owner ⊎ (Owner × List ℕ)
 observation_cases (creation_observed o) = inl o

@@ -1,11 +1,11 @@
 -- The steps of a board, what each makes of it, and which key a worker's own steps leave in its hands.
 use Rattle.std.specs.Prelude.{◌≡◌, ◌==◌, ◌&&◌, ℕ, List, [], ◌∷◌, Bool, true, false, Option, Some, None, if◌then◌else◌}
 use base.Stored.{Gv, gnil, gnum, gcons}
-use Rattle.control.specs.Boards.{Board, Observation, taken, finished, requeued, observed, expecting_creations, expecting_deletions, forgotten, ticked}
-use Rattle.control_desk.specs.Seen.{board_code}
-use Rattle.controllers.specs.Expectations.{Owner}
-use Rattle.controllers.specs.WorkQueues.{WorkKey, handed}
-use Rattle.definitions.specs.Keys.{Key}
+use Rattle.spec_work_board.specs.Boards.{Board, Observation, taken, finished, requeued, observed, expecting_creations, expecting_deletions, forgotten, ticked}
+use Rattle.work_board.specs.Seen.{board_code}
+use Rattle.spec_client_go.specs.Expectations.{Owner}
+use Rattle.spec_client_go.specs.WorkQueues.{WorkKey, handed}
+use Rattle.spec_api.specs.Keys.{Key}
 
 -- a key is taken, is done, or failed and is to be tried again; a change is handled; pods are expected, or no longer; time passes
 pub data Step : Type 0 where

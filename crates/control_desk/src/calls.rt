@@ -2,23 +2,23 @@
 ghost use Rattle.std.specs.Prelude.{◌≡◌, ◌≢◌, ◌<◌, None, Some, IfOk, OnOk, OnErr, All, is_some, length, map, option_map};
 ghost use Rattle.baton.specs.Batons.{AreNumbered};
 ghost use Rattle.baton.specs.Passes.{Met};
-ghost use Rattle.control_desk.specs.Seen.{observation_of};
-ghost use Rattle.controllers.specs.WorkQueues as queues;
-ghost use Rattle.controllers.specs.WorkQueues.{handed};
+ghost use Rattle.work_board.specs.Seen.{observation_of};
+ghost use Rattle.spec_client_go.specs.WorkQueues as queues;
+ghost use Rattle.spec_client_go.specs.WorkQueues.{handed};
 ghost use Rattle.work_keys.specs.WorkKeys.{work_key_of};
-ghost use Rattle.shared_board.specs.Calls.{IsCall, HasTaken, Nothing, after_give, once_ok};
-ghost use Rattle.shared_board.specs.Desks.{known, key_in_hand, IsPassAt, IsNewAt, IsHolding};
-ghost use Rattle.shared_board.specs.Hands.{board, IsBegun, MayFollow};
-ghost use Rattle.shared_board.specs.Steps.{after_steps, changing, taking, finish, requeue};
+ghost use Rattle.control_desk.specs.Calls.{IsCall, HasTaken, Nothing, after_give, once_ok};
+ghost use Rattle.control_desk.specs.Desks.{known, key_in_hand, IsPassAt, IsNewAt, IsHolding};
+ghost use Rattle.control_desk.specs.Hands.{board, IsBegun, MayFollow};
+ghost use Rattle.control_desk.specs.Steps.{after_steps, changing, taking, finish, requeue};
 
 use crate::desks::{ControlDesk, WorkPass};
-use crate::entries::Entry;
+use crate::entries::WorkEntry;
 use crate::steps;
-use baton::{Baton, Change, Held};
-use control_desk::{Board, Observation};
+use baton::{Baton, EntryMade, Held};
 use std::alloc::{AllocError, Global};
 use std::marker::Brand;
 use std::sync::Wait;
+use work_board::{Board, Observation};
 use work_keys::WorkKey;
 
 impl ControlDesk {
@@ -132,7 +132,7 @@ impl ControlDesk {
     }
 
     /// Takes a key from the board that the pass holds, and gives the board back.
-    fn take_key_held<M: Change<Entry>, R: Wait>(
+    fn take_key_held<M: EntryMade<WorkEntry>, R: Wait>(
         &self,
         rt: &R,
         pass: &mut WorkPass,
@@ -161,7 +161,7 @@ impl ControlDesk {
     }
 
     /// Gives a key back to the board that the pass holds, and gives the board back.
-    fn done_held<M: Change<Entry>, R: Wait>(
+    fn done_held<M: EntryMade<WorkEntry>, R: Wait>(
         &self,
         rt: &R,
         pass: &mut WorkPass,
@@ -181,7 +181,7 @@ impl ControlDesk {
     }
 
     /// Gives a key that failed back to the board that the pass holds, and gives the board back.
-    fn requeue_held<M: Change<Entry>, R: Wait>(
+    fn requeue_held<M: EntryMade<WorkEntry>, R: Wait>(
         &self,
         rt: &R,
         pass: &mut WorkPass,

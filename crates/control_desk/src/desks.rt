@@ -1,12 +1,12 @@
 //! A desk of work.
-use crate::entries::Entry;
+use crate::entries::WorkEntry;
 use crate::work_law::WorkLaw;
 use baton::Baton;
-use baton::views::View;
-use control_desk::Board;
+use baton::views::PassView;
+use work_board::Board;
 
 /// The right to work at a desk. What it has seen of the desk's history, and what it made of it, its calls say.
-pub type WorkPass = crossbeam_queue::Pass<Board, View<Board, Entry>>;
+pub type WorkPass = crossbeam_queue::Pass<Board, PassView<Board, WorkEntry>>;
 
 /// A board that threads share: one call at a time has it.
 #[derive(Drop)]

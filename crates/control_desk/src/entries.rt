@@ -3,13 +3,13 @@ use std::marker::Model;
 
 /// A step of a board.
 #[derive(Drop)]
-pub struct Entry {
+pub struct WorkEntry {
     milliseconds: u64,
 }
 
-impl Model for Entry {
-    ghost use Rattle.shared_board.specs.StepCodes.{step_code};
-    ghost use Rattle.shared_board.specs.Steps.{Step, tick};
+impl Model for WorkEntry {
+    ghost use Rattle.control_desk.specs.StepCodes.{step_code};
+    ghost use Rattle.control_desk.specs.Steps.{Step, tick};
 
     ghost Value = { Step };
 

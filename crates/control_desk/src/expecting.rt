@@ -1,24 +1,24 @@
 //! What is expected at a desk.
 ghost use Rattle.std.specs.Prelude.{◌≡◌, None, IfOk, map, string_bytes};
-ghost use Rattle.control.specs.Boards.{is_satisfied};
-ghost use Rattle.control_desk.specs.Aged.{HaveAgedOut};
-ghost use Rattle.control_desk.specs.Seen.{owner_of};
-ghost use Rattle.keys.specs.Keys.{key_of};
+ghost use Rattle.spec_work_board.specs.Boards.{is_satisfied};
+ghost use Rattle.work_board.specs.Aged.{HaveAgedOut};
+ghost use Rattle.work_board.specs.Seen.{owner_of};
+ghost use Rattle.object_keys.specs.Keys.{key_of};
 ghost use Rattle.work_keys.specs.WorkKeys.{work_key_of};
-ghost use Rattle.shared_board.specs.Calls.{IsCall, Nothing, after_give, once_ok};
-ghost use Rattle.shared_board.specs.Desks.{known, key_in_hand, IsPassAt, IsHolding};
-ghost use Rattle.shared_board.specs.Hands.{board};
-ghost use Rattle.shared_board.specs.Steps.{changing, expect_creations, expect_deletions, forget};
+ghost use Rattle.control_desk.specs.Calls.{IsCall, Nothing, after_give, once_ok};
+ghost use Rattle.control_desk.specs.Desks.{known, key_in_hand, IsPassAt, IsHolding};
+ghost use Rattle.control_desk.specs.Hands.{board};
+ghost use Rattle.control_desk.specs.Steps.{changing, expect_creations, expect_deletions, forget};
 
 use crate::desks::{ControlDesk, WorkPass};
-use crate::entries::Entry;
+use crate::entries::WorkEntry;
 use crate::steps;
-use baton::{Change, Held};
-use control_desk::{AgedOut, Board, Owner};
-use keys::Key;
+use baton::{EntryMade, Held};
+use object_keys::Key;
 use std::alloc::AllocError;
 use std::marker::Brand;
 use std::sync::Wait;
+use work_board::{AgedOut, Board, Owner};
 
 impl ControlDesk {
     /// Sets that a ReplicaSet expects so many pods to be created, from now on, and nothing else. The error is running out of memory,
@@ -110,7 +110,7 @@ impl ControlDesk {
     }
 
     /// Sets creations on the board that the pass holds, and gives the board back.
-    fn expect_creations_held<M: Change<Entry>, R: Wait>(
+    fn expect_creations_held<M: EntryMade<WorkEntry>, R: Wait>(
         &self,
         rt: &R,
         pass: &mut WorkPass,
@@ -138,7 +138,7 @@ impl ControlDesk {
     }
 
     /// Sets deletions on the board that the pass holds, and gives the board back.
-    fn expect_deletions_held<M: Change<Entry>, R: Wait>(
+    fn expect_deletions_held<M: EntryMade<WorkEntry>, R: Wait>(
         &self,
         rt: &R,
         pass: &mut WorkPass,
@@ -167,7 +167,7 @@ impl ControlDesk {
     }
 
     /// Removes what is expected from the board that the pass holds, and gives the board back.
-    fn forget_held<M: Change<Entry>, R: Wait>(
+    fn forget_held<M: EntryMade<WorkEntry>, R: Wait>(
         &self,
         rt: &R,
         pass: &mut WorkPass,

@@ -1,5 +1,5 @@
 //! Laws of the histories that passes see.
-ghost use Rattle.shared_board.specs.Hands.{HandsAreApart, ChangesAreTold};
+ghost use Rattle.control_desk.specs.Hands.{HandsAreApart, ChangesAreTold};
 
 /// In every history that a pass sees, the keys in process are just those in the hands of passes, and no key is in the hands of
 /// two.

@@ -1,21 +1,21 @@
 //! What is handled at a desk: changes, and time that passes.
 ghost use Rattle.std.specs.Prelude.{◌≡◌, IfOk, map};
-ghost use Rattle.control.specs.Boards.{may_tick};
-ghost use Rattle.control_desk.specs.Seen.{observation_of};
+ghost use Rattle.spec_work_board.specs.Boards.{may_tick};
+ghost use Rattle.work_board.specs.Seen.{observation_of};
 ghost use Rattle.work_keys.specs.WorkKeys.{work_key_of};
-ghost use Rattle.shared_board.specs.Calls.{IsCall, Nothing, after_give, once_ok};
-ghost use Rattle.shared_board.specs.Desks.{known, key_in_hand, IsPassAt, IsHolding};
-ghost use Rattle.shared_board.specs.Hands.{board};
-ghost use Rattle.shared_board.specs.Steps.{changing, observe, tick};
+ghost use Rattle.control_desk.specs.Calls.{IsCall, Nothing, after_give, once_ok};
+ghost use Rattle.control_desk.specs.Desks.{known, key_in_hand, IsPassAt, IsHolding};
+ghost use Rattle.control_desk.specs.Hands.{board};
+ghost use Rattle.control_desk.specs.Steps.{changing, observe, tick};
 
 use crate::desks::{ControlDesk, WorkPass};
-use crate::entries::Entry;
+use crate::entries::WorkEntry;
 use crate::steps;
-use baton::{Change, Held};
-use control_desk::{Board, Observation};
+use baton::{EntryMade, Held};
 use std::alloc::AllocError;
 use std::marker::Brand;
 use std::sync::Wait;
+use work_board::{Board, Observation};
 use work_keys::WorkKey;
 
 impl ControlDesk {
@@ -58,7 +58,7 @@ impl ControlDesk {
     }
 
     /// Notes a change on the board that the pass holds, and gives the board back.
-    fn observe_held<M: Change<Entry>, R: Wait>(
+    fn observe_held<M: EntryMade<WorkEntry>, R: Wait>(
         &self,
         rt: &R,
         pass: &mut WorkPass,
@@ -87,7 +87,7 @@ impl ControlDesk {
     }
 
     /// Lets time pass on the board that the pass holds, and gives the board back.
-    fn tick_held<M: Change<Entry>, R: Wait>(
+    fn tick_held<M: EntryMade<WorkEntry>, R: Wait>(
         &self,
         rt: &R,
         pass: &mut WorkPass,

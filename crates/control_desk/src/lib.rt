@@ -12,4 +12,5 @@ mod steps;
 pub mod work_law;
 
 pub use desks::{ControlDesk, WorkPass};
+pub use work_board::{AgedOut, Board, Observation, Owner};
 pub use work_law::WorkLaw;

@@ -1,15 +1,15 @@
 //! The steps of a board that a pass holds.
 ghost use Rattle.std.specs.Prelude.{◌≡◌, IfOk, OnOk, OnErr, map, option_map, string_bytes};
-ghost use Rattle.control.specs.Boards.{taken, finished, requeued, observed, expecting_creations, expecting_deletions, forgotten, may_tick, ticked};
-ghost use Rattle.control_desk.specs.Seen.{owner_of, observation_of};
-ghost use Rattle.controllers.specs.WorkQueues.{handed};
-ghost use Rattle.keys.specs.Keys.{key_of};
+ghost use Rattle.spec_work_board.specs.Boards.{taken, finished, requeued, observed, expecting_creations, expecting_deletions, forgotten, may_tick, ticked};
+ghost use Rattle.work_board.specs.Seen.{owner_of, observation_of};
+ghost use Rattle.spec_client_go.specs.WorkQueues.{handed};
+ghost use Rattle.object_keys.specs.Keys.{key_of};
 ghost use Rattle.work_keys.specs.WorkKeys.{work_key_of};
 
 use baton::Held;
-use control_desk::{Board, Observation, Owner};
-use keys::Key;
+use object_keys::Key;
 use std::alloc::AllocError;
+use work_board::{Board, Observation, Owner};
 use work_keys::WorkKey;
 
 /// Hands the key that waits longest to a worker, if one waits.

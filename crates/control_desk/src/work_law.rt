@@ -1,17 +1,17 @@
 //! The states of a board, and how they come of one another.
-use crate::entries::Entry;
+use crate::entries::WorkEntry;
 use baton::Law;
-use control_desk::Board;
+use work_board::Board;
 
 /// A board begins with nothing to be done and takes in step after step. A key is taken only by a pass that has none, and given
 /// back only by the pass that has it.
 pub struct WorkLaw;
 
 impl Law<Board> for WorkLaw {
-    ghost use Rattle.shared_board.specs.Hands.{IsBegun, MayFollow};
-    ghost use Rattle.shared_board.specs.Steps.{after_steps};
+    ghost use Rattle.control_desk.specs.Hands.{IsBegun, MayFollow};
+    ghost use Rattle.control_desk.specs.Steps.{after_steps};
 
-    type Entry = Entry;
+    type Entry = WorkEntry;
 
     ghost opens = { IsBegun };
 

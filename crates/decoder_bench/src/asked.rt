@@ -14,7 +14,7 @@ pub const LONGEST_FRAME: usize = 2_097_152;
 
 /// The sizes that the arguments give, in bytes.
 #[derive(Clone, Copy)]
-pub struct Asked {
+pub struct Sizes {
     pub piece: usize,
     /// The most that is fed in all.
     pub total: usize,
@@ -23,9 +23,9 @@ pub struct Asked {
     ghost frame_has_room: { 512 ≤ frame },
 }
 
-impl Asked {
+impl Sizes {
     /// Reads the bytes of a piece, the MiB in all and the bytes of a frame; none where one is no number or out of range.
-    pub fn read(piece: &str, mebibytes: &str, frame: &str) -> Option<Asked> {
+    pub fn read(piece: &str, mebibytes: &str, frame: &str) -> Option<Sizes> {
         let piece = piece.parse::<usize>().ok()?;
         let mebibytes = mebibytes.parse::<usize>().ok()?;
         let frame = frame.parse::<usize>().ok()?;
@@ -36,7 +36,7 @@ impl Asked {
         {
             return None;
         }
-        Some(Asked {
+        Some(Sizes {
             piece,
             total: mebibytes * MEBIBYTE,
             frame,

@@ -5,26 +5,26 @@
 mod asked;
 mod feeding;
 
-use asked::Asked;
+use asked::Sizes;
 use feeding::FeedFault;
 use std::alloc::Global;
 use std::process::ExitCode;
 use std::{env, io};
 
 /// Returns what the program is asked by its arguments.
-fn read_arguments(rt: &HostRuntime) -> io::Result<Option<Asked>> {
+fn read_arguments(rt: &HostRuntime) -> io::Result<Option<Sizes>> {
     let mut words = env::args(rt)?;
     let _program = words.next();
     match (words.next(), words.next(), words.next(), words.next()) {
         (Some(piece), Some(mebibytes), Some(frame), None) => {
-            Ok(Asked::read(piece.as_str(), mebibytes.as_str(), frame.as_str()))
+            Ok(Sizes::read(piece.as_str(), mebibytes.as_str(), frame.as_str()))
         }
         _ => Ok(None),
     }
 }
 
 /// Returns the number of frames that come out.
-fn frames(alloc: Global, asked: Asked) -> Result<u64, FeedFault> {
+fn frames(alloc: Global, asked: Sizes) -> Result<u64, FeedFault> {
     let input = feeding::input(alloc, asked.frame, asked.total)?;
     feeding::count(alloc, input.as_slice(), asked.piece)
 }

@@ -2,9 +2,9 @@
 use Rattle.std.proofs.Common.{◌≡◌, ℕ, List, true, Option, Some, None, is_some, unwrap_or, refl, ap, ◌∙◌}
 use Rattle.serde_json.specs.Data.{Data, null, object, Members, put}
 use Rattle.serde_json.specs.Find.{get, get_member}
-use Rattle.definitions.specs.Defaults.{with_changed}
-use Rattle.definitions.proofs.FoundMembers.{with_found}
-use Rattle.definitions.specs.Values.{members_of, found_or_null}
+use Rattle.spec_api.specs.Defaults.{with_changed}
+use Rattle.spec_api.proofs.FoundMembers.{with_found}
+use Rattle.spec_api.specs.Values.{members_of, found_or_null}
 use Rattle.json_values.proofs.PutAndTaken.{put-put}
 
 at : (found : Option Data) (k : List ℕ) (change : Data → Data) (ms : Members) → is_some found ≡ true

@@ -3,13 +3,13 @@ use Rattle.std.proofs.Common.{◌≡◌, ℕ, List, Bool, true, false, cond, cod
 use Rattle.serde_json.specs.Data.{Data, null, boolean, number, string, array, object}
 use Rattle.serde_json.specs.Find.{get, as_object}
 use Rattle.serde_json.specs.Written.{has_float}
-use Rattle.definitions.specs.declared.kinds.Kind.{Kind}
-use Rattle.definitions.specs.declared.kinds.Kind.TheVariants.{ConfigMap, Pod, ReplicaSet, Deployment}
-use Rattle.definitions.specs.Defaults.{unsigned_value, with_changed, rolling_defaults, is_rolling_update, with_rolling, strategy_defaults, replica_set_defaults, deployment_defaults, defaulted}
-use Rattle.definitions.proofs.FoundMembers.{with_found}
-use Rattle.definitions.specs.Reading.{empty}
-use Rattle.definitions.specs.Values.{with_member, with_default}
-use Rattle.definitions.proofs.NoFloatsRead.{has_float-with_member}
+use Rattle.spec_api.specs.declared.kinds.Kind.{Kind}
+use Rattle.spec_api.specs.declared.kinds.Kind.TheVariants.{ConfigMap, Pod, ReplicaSet, Deployment}
+use Rattle.spec_api.specs.Defaults.{unsigned_value, with_changed, rolling_defaults, is_rolling_update, with_rolling, strategy_defaults, replica_set_defaults, deployment_defaults, defaulted}
+use Rattle.spec_api.proofs.FoundMembers.{with_found}
+use Rattle.spec_api.specs.Reading.{empty}
+use Rattle.spec_api.specs.Values.{with_member, with_default}
+use Rattle.spec_api.proofs.NoFloatsRead.{has_float-with_member}
 use Rattle.json_values.proofs.NoFloats.{no_float, get_no_float}
 
 either : (b : Bool) (d e : Data) → has_float d ≡ false → has_float e ≡ false → has_float (cond b d e) ≡ false

@@ -1,14 +1,14 @@
 //! What is filled in where it is absent.
 ghost use Rattle.std.specs.Prelude.{◌≡◌, IfOk, codes};
 ghost use Rattle.serde_json.specs.View.{view};
-ghost use Rattle.definitions.specs.Defaults.{unsigned_value, with_changed, rolling_defaults, is_rolling_update, with_rolling, strategy_defaults, replica_set_defaults, deployment_defaults, defaulted};
-ghost use Rattle.definitions.specs.Values.{with_default};
+ghost use Rattle.spec_api.specs.Defaults.{unsigned_value, with_changed, rolling_defaults, is_rolling_update, with_rolling, strategy_defaults, replica_set_defaults, deployment_defaults, defaulted};
+ghost use Rattle.spec_api.specs.Values.{with_default};
 
-use definitions::kinds::Kind;
 use json_values::members::{into_members, take};
 use json_values::values::{with_member, with_object, with_text};
 use meta::Object;
 use serde_json::{Value, json};
+use spec_api::kinds::Kind;
 use std::alloc::{AllocError, Global};
 
 fn number(alloc: Global, n: u64) -> Result<Value, AllocError>

@@ -1,9 +1,9 @@
 -- Of cases, the first that commands something.
 use Rattle.std.proofs.Common.{◌≡◌, List, [], ◌∷◌, map, length, refl, ap, arith}
-use Rattle.controllers.specs.Commands as commands
-use Rattle.plans.specs.Deployments.{first_of}
-use Rattle.turns.specs.Commands.{command_of}
-use Rattle.turns.specs.declared.commands.Command.{Command}
+use Rattle.spec_client_go.specs.Commands as commands
+use Rattle.spec_reconcile.specs.Deployments.{first_of}
+use Rattle.reconcile_types.specs.Commands.{command_of}
+use Rattle.reconcile_types.specs.declared.commands.Command.{Command}
 
 pub first_case : (cs : List Command) (found later : List commands.Command) → map command_of cs ≡ found → (length cs ≡ 0 → ⊥) → map command_of cs ≡ first_of found later
 first_case [] found later is h = absurd (h refl)

@@ -1,9 +1,9 @@
 -- Two lists of which one is at its end.
 use Rattle.std.proofs.Common.{◌≡◌, ◌⊎◌, inl, inr, ℕ, List, [], ◌∷◌, ◌++◌, length, map, refl, sym, ap, ◌∙◌, arith}
-use Rattle.controllers.specs.Commands.{Command}
-use Rattle.plans.specs.Deployments.{scale_each}
-use Rattle.turns.specs.Entries.{entry_of}
-use Rattle.turns.specs.declared.entries.Entry.{Entry}
+use Rattle.spec_client_go.specs.Commands.{Command}
+use Rattle.spec_reconcile.specs.Deployments.{scale_each}
+use Rattle.reconcile_types.specs.Entries.{entry_of}
+use Rattle.reconcile_types.specs.declared.entries.Entry.{Entry}
 
 nothing : (ss : List Entry) (ns : List ℕ) → (length ss ≡ 0) ⊎ (length ns ≡ 0) → scale_each (map entry_of ss) ns ≡ []
 nothing [] ns h = refl

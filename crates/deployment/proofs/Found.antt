@@ -3,13 +3,13 @@ use Rattle.std.proofs.Common.{◌≡◌, ℕ, List, [], ◌∷◌, Bool, true, f
 use Rattle.std.specs.Prelude.{filter}
 use Rattle.std.specs.List.{list_any}
 use Rattle.serde_json.specs.Data.{Data}
-use Rattle.definitions.specs.History.{Entries}
-use Rattle.definitions.specs.Keys.{Key}
-use Rattle.definitions.specs.Metadata.{Owner, owners, uid}
-use Rattle.definitions.specs.SelectorValues.{is_some_and}
-use Rattle.controllers.specs.Informers.{of_namespace, of_owner}
-use Rattle.controllers.specs.OwnerReferences.{is_text, is_owned_by, is_controlled_by}
-use Rattle.plans.specs.Deployments.{managed}
+use Rattle.spec_api.specs.History.{Entries}
+use Rattle.spec_api.specs.Keys.{Key}
+use Rattle.spec_api.specs.Metadata.{Owner, owners, uid}
+use Rattle.spec_api.specs.SelectorValues.{is_some_and}
+use Rattle.spec_client_go.specs.Informers.{of_namespace, of_owner}
+use Rattle.spec_client_go.specs.OwnerReferences.{is_text, is_owned_by, is_controlled_by}
+use Rattle.spec_reconcile.specs.Deployments.{managed}
 
 -- a controller is an owner
 among : (t : Owner → Bool) (os : List Owner) → list_any t os ≡ false → list_any (λ o. o.is_controller && t o) os ≡ false

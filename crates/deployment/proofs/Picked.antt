@@ -2,9 +2,9 @@
 use Rattle.std.proofs.Common.{Bool, Option, Some, None}
 use Rattle.std.specs.Prelude.{find}
 use Rattle.serde_json.specs.Data.{Data}
-use Rattle.definitions.specs.History.{Entries}
-use Rattle.definitions.specs.Keys.{Key}
-use Rattle.plans.specs.Deployments.{without_first}
+use Rattle.spec_api.specs.History.{Entries}
+use Rattle.spec_api.specs.Keys.{Key}
+use Rattle.spec_reconcile.specs.Deployments.{without_first}
 
 abbrev pub first_or : (Key × Data → Bool) → Option (Key × Data) → Entries → Option (Key × Data)
 first_or test None ms = find test ms

@@ -8,15 +8,15 @@ use Rattle.std.specs.List.Sorted.{IsSortedByClosure, IsStableByClosure}
 use Rattle.std.specs.Ordering.{on, is_lt}
 use Rattle.std.proofs.lemmas.List.Sorted.{ranks_by}
 use Rattle.serde_json.specs.Data.{Data}
-use Rattle.controllers.proofs.WorkKeyOrder.{name_total}
-use Rattle.definitions.specs.Keys.{Key}
-use Rattle.plans.specs.Deployments.{age_cmp}
-use Rattle.plans.specs.Orders.{in_order}
-use Rattle.plans.specs.PodRanks.{creation}
-use Rattle.plans.specs.Revisions.{revision}
-use Rattle.plans.proofs.InOrder.{stable_is_in_order, in_order_map}
-use Rattle.turns.specs.Entries.{entry_of}
-use Rattle.turns.specs.declared.entries.Entry.{Entry}
+use Rattle.spec_client_go.proofs.WorkKeyOrder.{name_total}
+use Rattle.spec_api.specs.Keys.{Key}
+use Rattle.spec_reconcile.specs.Deployments.{age_cmp}
+use Rattle.spec_reconcile.specs.Orders.{in_order}
+use Rattle.spec_reconcile.specs.PodRanks.{creation}
+use Rattle.spec_reconcile.specs.Revisions.{revision}
+use Rattle.spec_reconcile.proofs.InOrder.{stable_is_in_order, in_order_map}
+use Rattle.reconcile_types.specs.Entries.{entry_of}
+use Rattle.reconcile_types.specs.declared.entries.Entry.{Entry}
 
 pub age_total : IsTotalOrder age_cmp
 age_total = then_total (on_total (λ (s : Key × Data). creation s.1) nat_list_cmp_total) (on_total (λ (s : Key × Data). s.0) name_total)

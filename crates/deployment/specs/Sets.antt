@@ -1,9 +1,9 @@
 -- A Deployment with its sets, as definitions have it.
 use Rattle.std.specs.Prelude.{map, option_map}
-use Rattle.keys.specs.Keys.{key_of}
-use Rattle.plans.specs.Deployments as plans
+use Rattle.object_keys.specs.Keys.{key_of}
+use Rattle.spec_reconcile.specs.Deployments as plans
 use Rattle.deployment.specs.declared.rollout.Rollout.{Rollout}
-use Rattle.turns.specs.Entries.{entry_of}
+use Rattle.reconcile_types.specs.Entries.{entry_of}
 
 abbrev pub rollout_seen : Rollout → plans.Rollout
 rollout_seen r =

@@ -1,18 +1,18 @@
 //! Sets in the order of their age, and of their revisions.
 ghost use Rattle.std.specs.Prelude.{◌≡◌, OnOk, map};
 ghost use Rattle.std.specs.Ordering.{nat_cmp, on};
-ghost use Rattle.plans.specs.Deployments.{age_cmp};
-ghost use Rattle.plans.specs.Orders.{in_order};
-ghost use Rattle.plans.specs.PodRanks.{creation};
-ghost use Rattle.plans.specs.Revisions.{revision};
-ghost use Rattle.turns.specs.Entries.{entry_of};
+ghost use Rattle.spec_reconcile.specs.Deployments.{age_cmp};
+ghost use Rattle.spec_reconcile.specs.Orders.{in_order};
+ghost use Rattle.spec_reconcile.specs.PodRanks.{creation};
+ghost use Rattle.spec_reconcile.specs.Revisions.{revision};
+ghost use Rattle.reconcile_types.specs.Entries.{entry_of};
 
 use crate::revisions::revision;
 use meta::Object;
-use readings::text_in;
+use object_fields::text_in;
+use reconcile_types::Entry;
 use std::alloc::AllocError;
 use std::cmp::Ordering;
-use turns::Entry;
 
 /// Returns when an object was created; the empty text where it does not say.
 fn creation(object: &Object) -> &str

@@ -1,20 +1,20 @@
 //! Which old sets are deleted.
 ghost use Rattle.std.specs.Prelude.{◌≡◌, IfOk, Some, filter, map, not};
 ghost use Rattle.serde_json.specs.Data.{Data};
-ghost use Rattle.definitions.specs.Keys.{Key};
-ghost use Rattle.definitions.specs.Metadata.{is_being_deleted};
-ghost use Rattle.plans.specs.Deployments.{all_but_last, clean_up, delete_set, forget, history, is_complete, is_spent, summary};
+ghost use Rattle.spec_api.specs.Keys.{Key};
+ghost use Rattle.spec_api.specs.Metadata.{is_being_deleted};
+ghost use Rattle.spec_reconcile.specs.Deployments.{all_but_last, clean_up, delete_set, forget, history, is_complete, is_spent, summary};
 ghost use Rattle.deployment.specs.Sets.{rollout_seen};
-ghost use Rattle.turns.specs.Commands.{command_of};
-ghost use Rattle.turns.specs.Entries.{entry_of};
+ghost use Rattle.reconcile_types.specs.Commands.{command_of};
+ghost use Rattle.reconcile_types.specs.Entries.{entry_of};
 
 use crate::ages::sort_by_revision;
 use crate::rollout::Rollout;
 use meta::Object;
-use plans::Summary;
-use reports::{count_in_spec, count_in_status};
+use reconcile_status::{count_in_spec, count_in_status};
+use reconcile_types::{Command, Entry};
+use spec_reconcile::Summary;
 use std::alloc::{AllocError, Global};
-use turns::{Command, Entry};
 
 /// Returns whether a set has no pods and is to have none, and its controller has seen that.
 fn is_spent(set: &Object) -> bool

@@ -1,10 +1,10 @@
 //! Sets that are to have another number of pods.
 ghost use Rattle.std.specs.Prelude.{◌≡◌, IfOk};
-ghost use Rattle.plans.specs.Deployments.{with_replicas};
+ghost use Rattle.spec_reconcile.specs.Deployments.{with_replicas};
 
 use json_values::values::whole_number;
 use meta::Object;
-use readings::inner;
+use object_fields::inner;
 use std::alloc::{AllocError, Global};
 
 /// Returns the set that is to have so many pods. The error is running out of memory.

@@ -1,7 +1,7 @@
 //! The hash of a template.
 ghost use Rattle.std.specs.Prelude.{◌≡◌, ◌++◌, IfOk, string_bytes};
 ghost use Rattle.serde_json.specs.Written.{compact_text};
-ghost use Rattle.plans.specs.Templates.{collision_digits, template_hash};
+ghost use Rattle.spec_reconcile.specs.Templates.{collision_digits, template_hash};
 
 use meta::Object;
 use sha2::{Digest, Sha256};

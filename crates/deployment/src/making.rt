@@ -4,18 +4,18 @@ ghost use Rattle.serde_json.specs.Data.{array, item, no_items, no_members, objec
 ghost use Rattle.serde_json.specs.Find.{get};
 ghost use Rattle.serde_json.specs.View.{view};
 ghost use Rattle.serde_json.specs.Written.{has_float};
-ghost use Rattle.definitions.specs.declared.kinds.Kind.TheVariants as kind;
-ghost use Rattle.definitions.specs.Defaults.{unsigned_value};
-ghost use Rattle.definitions.specs.Metadata.{labels_of};
-ghost use Rattle.definitions.specs.Values.{inner_of, members_of};
-ghost use Rattle.keys.specs.Keys.{key_of};
-ghost use Rattle.plans.specs.Deployments.{due, hash_of, make, new_name, new_object};
-ghost use Rattle.plans.specs.MetadataEdits.{controller_reference};
-ghost use Rattle.plans.specs.NewPods.{template};
-ghost use Rattle.plans.specs.Revisions.{annotated};
-ghost use Rattle.plans.specs.Templates.{labelled, new_set_metadata, new_set_spec, selecting, selector, set_name, with_hash};
+ghost use Rattle.spec_api.specs.declared.kinds.Kind.TheVariants as kind;
+ghost use Rattle.spec_api.specs.Defaults.{unsigned_value};
+ghost use Rattle.spec_api.specs.Metadata.{labels_of};
+ghost use Rattle.spec_api.specs.Values.{inner_of, members_of};
+ghost use Rattle.object_keys.specs.Keys.{key_of};
+ghost use Rattle.spec_reconcile.specs.Deployments.{due, hash_of, make, new_name, new_object};
+ghost use Rattle.spec_reconcile.specs.MetadataEdits.{controller_reference};
+ghost use Rattle.spec_reconcile.specs.NewPods.{template};
+ghost use Rattle.spec_reconcile.specs.Revisions.{annotated};
+ghost use Rattle.spec_reconcile.specs.Templates.{labelled, new_set_metadata, new_set_spec, selecting, selector, set_name, with_hash};
 ghost use Rattle.deployment.specs.Sets.{rollout_seen};
-ghost use Rattle.turns.specs.Commands.{command_of};
+ghost use Rattle.reconcile_types.specs.Commands.{command_of};
 
 use crate::hashes::template_hash;
 use crate::revisions::annotated;
@@ -23,12 +23,12 @@ use crate::rollout::{Rollout, due};
 use crate::templates::{HASH_LABEL, template};
 use json_values::values::whole_number;
 use meta::{Kind, Object};
-use owners::edits::controller_reference;
-use readings::{blank, in_spec, inner};
-use reports::count_in_status;
+use object_fields::{blank, in_spec, inner};
+use owner_references::edits::controller_reference;
+use reconcile_status::count_in_status;
+use reconcile_types::Command;
 use serde_json::Value;
 use std::alloc::{AllocError, Global};
-use turns::Command;
 
 /// Returns the hash of a Deployment's template. The error is running out of memory.
 fn hash_of(alloc: Global, deployment: &Object) -> Result<String, AllocError>

@@ -3,19 +3,19 @@ ghost use Rattle.std.specs.Prelude.{◌≡◌, ◌&&◌, IfOk, filter, map};
 ghost use Rattle.std.specs.List.{list_any};
 ghost use Rattle.std.specs.Str.{bytes_eq};
 ghost use Rattle.serde_json.specs.View.{items_view};
-ghost use Rattle.definitions.specs.Metadata.{Owner, owners_in};
-ghost use Rattle.controllers.specs.OwnerReferences.{is_controlled_by, is_text};
-ghost use Rattle.plans.specs.Deployments.{managed, sets_of};
-ghost use Rattle.keys.specs.Keys.{key_of};
-ghost use Rattle.turns.specs.Entries.{entry_of};
-ghost use Rattle.turns.specs.Hands.{members_of};
+ghost use Rattle.spec_api.specs.Metadata.{Owner, owners_in};
+ghost use Rattle.spec_client_go.specs.OwnerReferences.{is_controlled_by, is_text};
+ghost use Rattle.spec_reconcile.specs.Deployments.{managed, sets_of};
+ghost use Rattle.object_keys.specs.Keys.{key_of};
+ghost use Rattle.reconcile_types.specs.Entries.{entry_of};
+ghost use Rattle.reconcile_types.specs.Hands.{members_of};
 
 use crate::ages::sort_by_age;
-use keys::Key;
 use meta::Object;
-use owners::controlled_by::is_controlled_by;
+use object_keys::Key;
+use owner_references::controlled_by::is_controlled_by;
+use reconcile_types::{Entry, Seen};
 use std::alloc::{AllocError, Global};
-use turns::{Entry, Seen};
 
 /// Returns those of the objects that are of a namespace, and of which the object of this uid is the controller.
 fn controlled<'a>(

@@ -1,16 +1,16 @@
 //! How far a rolling update goes.
 ghost use Rattle.std.specs.Prelude.{◌≡◌};
-ghost use Rattle.definitions.specs.declared.amounts.Amount.TheVariants.{Pods, Percent};
-ghost use Rattle.plans.specs.Counts.{not_below_0};
-ghost use Rattle.plans.specs.Deployments.{pace_of, rolling_amount};
-ghost use Rattle.plans.specs.Rollouts.{at_least_one, pace, rounded_down, rounded_up};
+ghost use Rattle.spec_api.specs.declared.amounts.Amount.TheVariants.{Pods, Percent};
+ghost use Rattle.spec_reconcile.specs.Counts.{not_below_0};
+ghost use Rattle.spec_reconcile.specs.Deployments.{pace_of, rolling_amount};
+ghost use Rattle.spec_reconcile.specs.Rollouts.{at_least_one, pace, rounded_down, rounded_up};
 
-use amounts::amount;
-use definitions::amounts::Amount;
+use int_or_percent::amount;
 use meta::Object;
-use plans::Pace;
-use readings::in_spec;
-use reports::{count_in_spec, not_below_0};
+use object_fields::in_spec;
+use reconcile_status::{count_in_spec, not_below_0};
+use spec_api::amounts::Amount;
+use spec_reconcile::Pace;
 
 /// Returns so many of the replicas, where a part of a pod counts as a pod.
 fn rounded_up(amount: Amount, replicas: u64) -> u128

@@ -1,15 +1,15 @@
 //! The plan of a Deployment.
 ghost use Rattle.std.specs.Prelude.{◌≡◌, IfOk, codes, is_some, map};
-ghost use Rattle.definitions.specs.Checks.{in_spec};
-ghost use Rattle.definitions.specs.Defaults.{is_rolling_update};
-ghost use Rattle.definitions.specs.History.{found};
-ghost use Rattle.definitions.specs.SelectorValues.{is_some_and};
-ghost use Rattle.keys.specs.Keys.{key_of};
-ghost use Rattle.plans.specs.Deployments.{asks, count_collision, go_on, is_going_on, is_name_taken, plan, plan_for, plan_of, summary};
-ghost use Rattle.readings.specs.Lent.{data_of};
+ghost use Rattle.spec_api.specs.Checks.{in_spec};
+ghost use Rattle.spec_api.specs.Defaults.{is_rolling_update};
+ghost use Rattle.spec_api.specs.History.{found};
+ghost use Rattle.spec_api.specs.SelectorValues.{is_some_and};
+ghost use Rattle.object_keys.specs.Keys.{key_of};
+ghost use Rattle.spec_reconcile.specs.Deployments.{asks, count_collision, go_on, is_going_on, is_name_taken, plan, plan_for, plan_of, summary};
+ghost use Rattle.object_fields.specs.Lent.{data_of};
 ghost use Rattle.deployment.specs.Sets.{rollout_seen};
-ghost use Rattle.turns.specs.Commands.{command_of, commands_of};
-ghost use Rattle.turns.specs.Hands.{hand_of, looks_by, members_of};
+ghost use Rattle.reconcile_types.specs.Commands.{command_of, commands_of};
+ghost use Rattle.reconcile_types.specs.Hands.{hand_of, looks_by, members_of};
 
 use crate::making::new_name;
 use crate::managed::sets_of;
@@ -18,13 +18,13 @@ use crate::rolling::roll;
 use crate::rollout::{Rollout, rollout_of};
 use crate::statuses::{add_report, summary};
 use json_values::values::whole_number;
-use keys::Key;
 use meta::{Kind, Object};
-use plans::Summary;
-use readings::in_spec;
-use reports::{add_update, count_in_status, status};
+use object_fields::in_spec;
+use object_keys::Key;
+use reconcile_status::{add_update, count_in_status, status};
+use reconcile_types::{Command, Hand, Looks, Plan, Seen};
+use spec_reconcile::Summary;
 use std::alloc::{AllocError, Global};
-use turns::{Command, Hand, Looks, Plan, Seen};
 
 /// The greatest count of collisions.
 const MOST_COLLISIONS: u64 = 2147483647;

@@ -2,13 +2,13 @@
 ghost use Rattle.std.specs.Prelude.{◌≡◌, IfOk, map, not};
 ghost use Rattle.std.specs.List.{list_any};
 ghost use Rattle.serde_json.specs.Data.{Data};
-ghost use Rattle.definitions.specs.Keys.{Key};
-ghost use Rattle.plans.specs.Deployments.{clean_up, first_of, has_running_pods, is_over, recreate, renew_whole, scale_each, summary};
+ghost use Rattle.spec_api.specs.Keys.{Key};
+ghost use Rattle.spec_reconcile.specs.Deployments.{clean_up, first_of, has_running_pods, is_over, recreate, renew_whole, scale_each, summary};
 ghost use Rattle.deployment.specs.Steps.{wait_or_start};
 ghost use Rattle.deployment.specs.Sets.{rollout_seen};
-ghost use Rattle.turns.specs.Commands.{command_of};
-ghost use Rattle.turns.specs.Entries.{entry_of};
-ghost use Rattle.turns.specs.Hands.{members_of};
+ghost use Rattle.reconcile_types.specs.Commands.{command_of};
+ghost use Rattle.reconcile_types.specs.Entries.{entry_of};
+ghost use Rattle.reconcile_types.specs.Hands.{members_of};
 
 use crate::cleaning::clean_up;
 use crate::making::make;
@@ -16,11 +16,11 @@ use crate::managed::managed;
 use crate::rollout::{Rollout, due};
 use crate::scaling::{renew, scale_each};
 use meta::Object;
-use plans::Summary;
-use readings::{in_status, text_in};
-use reports::count_in_spec;
+use object_fields::{in_status, text_in};
+use reconcile_status::count_in_spec;
+use reconcile_types::{Command, Entry, Seen};
+use spec_reconcile::Summary;
 use std::alloc::{AllocError, Global};
-use turns::{Command, Entry, Seen};
 
 /// Returns whether a pod has finished.
 fn is_over(pod: &Object) -> bool

@@ -3,14 +3,14 @@ ghost use Rattle.std.specs.Prelude.{◌≡◌, ◌<◌, ◌≤◌, ◌^◌, IfOk
 ghost use Rattle.std.specs.List.{list_all};
 ghost use Rattle.std.specs.Str.Parse.{digits_value};
 ghost use Rattle.serde_json.specs.Data.{object, put};
-ghost use Rattle.definitions.specs.Metadata.{metadata, metadata_of};
-ghost use Rattle.definitions.specs.Moments.{is_digit};
-ghost use Rattle.definitions.specs.Values.{inner_of, members_of};
-ghost use Rattle.plans.specs.Revisions.{annotated, is_revision, raised, revision, revision_said, with_revision};
+ghost use Rattle.spec_api.specs.Metadata.{metadata, metadata_of};
+ghost use Rattle.spec_api.specs.Moments.{is_digit};
+ghost use Rattle.spec_api.specs.Values.{inner_of, members_of};
+ghost use Rattle.spec_reconcile.specs.Revisions.{annotated, is_revision, raised, revision, revision_said, with_revision};
 
-use amounts::digits::{has_digits, number_of};
+use int_or_percent::digits::{has_digits, number_of};
 use meta::Object;
-use readings::{inner, text_in};
+use object_fields::{inner, text_in};
 use serde_json::Value;
 use std::alloc::{AllocError, Global};
 

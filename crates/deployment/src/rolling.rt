@@ -1,11 +1,11 @@
 //! A rolling update.
 ghost use Rattle.std.specs.Prelude.{◌≡◌, ◌∷◌, IfOk, Some, map};
-ghost use Rattle.plans.specs.Counts.{replicas};
-ghost use Rattle.plans.specs.Deployments.{asked_by, clean_up, due, first_of, pace_of, renew, roll, roll_with, scale_each, summary, tally};
-ghost use Rattle.plans.specs.Rollouts.{resized, shrunk};
+ghost use Rattle.spec_reconcile.specs.Counts.{replicas};
+ghost use Rattle.spec_reconcile.specs.Deployments.{asked_by, clean_up, due, first_of, pace_of, renew, roll, roll_with, scale_each, summary, tally};
+ghost use Rattle.spec_reconcile.specs.Rollouts.{resized, shrunk};
 ghost use Rattle.deployment.specs.Sets.{rollout_seen};
-ghost use Rattle.turns.specs.Commands.{command_of};
-ghost use Rattle.turns.specs.Entries.{entry_of};
+ghost use Rattle.reconcile_types.specs.Commands.{command_of};
+ghost use Rattle.reconcile_types.specs.Entries.{entry_of};
 
 use crate::cleaning::clean_up;
 use crate::making::make;
@@ -13,9 +13,9 @@ use crate::pace::pace_of;
 use crate::rollout::{Rollout, due, tallies, tally};
 use crate::rollouts::{growth, resized, shrunk, total_asked};
 use crate::scaling::{renew, scale_each};
-use plans::{Pace, Summary};
+use reconcile_types::{Command, Entry};
+use spec_reconcile::{Pace, Summary};
 use std::alloc::{AllocError, Global};
-use turns::{Command, Entry};
 
 /// Returns the update by which the new set grows or shrinks, and gets the revision that is due.
 fn resize(

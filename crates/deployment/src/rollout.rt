@@ -1,22 +1,22 @@
 //! A Deployment with its sets.
 ghost use Rattle.std.specs.Prelude.{◌≡◌, ◌<◌, ◌^◌, IfOk, map, string_bytes};
 ghost use Rattle.serde_json.specs.Written.{compact_text};
-ghost use Rattle.keys.specs.Keys.{key_of};
-ghost use Rattle.plans.specs.Deployments.{due, has_its_template, rollout_of, sets, tally};
-ghost use Rattle.plans.specs.NewPods.{template};
-ghost use Rattle.plans.specs.Revisions.{greatest, revision};
-ghost use Rattle.plans.specs.Templates.{bare};
+ghost use Rattle.object_keys.specs.Keys.{key_of};
+ghost use Rattle.spec_reconcile.specs.Deployments.{due, has_its_template, rollout_of, sets, tally};
+ghost use Rattle.spec_reconcile.specs.NewPods.{template};
+ghost use Rattle.spec_reconcile.specs.Revisions.{greatest, revision};
+ghost use Rattle.spec_reconcile.specs.Templates.{bare};
 ghost use Rattle.deployment.specs.Sets.{rollout_seen};
-ghost use Rattle.turns.specs.Entries.{entry_of};
+ghost use Rattle.reconcile_types.specs.Entries.{entry_of};
 
 use crate::revisions::revision;
 use crate::templates::bare_text;
-use keys::Key;
 use meta::Object;
-use plans::Tally;
-use reports::{count_in_spec, count_in_status};
+use object_keys::Key;
+use reconcile_status::{count_in_spec, count_in_status};
+use reconcile_types::Entry;
+use spec_reconcile::Tally;
 use std::alloc::{AllocError, Global};
-use turns::Entry;
 
 /// A Deployment with its sets: the one of its template, and the others by age.
 #[derive(Drop)]

@@ -1,8 +1,8 @@
 //! The numbers of a rolling update.
 ghost use Rattle.std.specs.Prelude.{◌≡◌, ◌≤◌, ◌∷◌, ◌-◌, IfOk};
-ghost use Rattle.plans.specs.Rollouts.{asked, available, cuts, fewest, growth, less, missing, most, resized, room, shrunk, total, without_missing, without_spare};
+ghost use Rattle.spec_reconcile.specs.Rollouts.{asked, available, cuts, fewest, growth, less, missing, most, resized, room, shrunk, total, without_missing, without_spare};
 
-use plans::{Pace, Tally};
+use spec_reconcile::{Pace, Tally};
 use std::alloc::{AllocError, Global};
 
 /// Returns how many pods sets are to have.

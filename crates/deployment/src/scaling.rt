@@ -1,14 +1,14 @@
 //! The commands by which sets are to have another number of pods.
 ghost use Rattle.std.specs.Prelude.{◌≡◌, ◌++◌, IfOk, OnOk, map};
-ghost use Rattle.plans.specs.Deployments.{renew, scale, scale_each};
-ghost use Rattle.turns.specs.Commands.{command_of};
-ghost use Rattle.turns.specs.Entries.{entry_of};
+ghost use Rattle.spec_reconcile.specs.Deployments.{renew, scale, scale_each};
+ghost use Rattle.reconcile_types.specs.Commands.{command_of};
+ghost use Rattle.reconcile_types.specs.Entries.{entry_of};
 
 use crate::edits::with_replicas;
 use crate::revisions::{raised, revision};
-use reports::count_in_spec;
+use reconcile_status::count_in_spec;
+use reconcile_types::{Command, Entry};
 use std::alloc::{AllocError, Global};
-use turns::{Command, Entry};
 
 /// Adds the update of a set that is to have another number of pods. The error is running out of memory.
 fn add_scale(

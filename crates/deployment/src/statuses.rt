@@ -1,23 +1,23 @@
 //! The status of a Deployment.
 ghost use Rattle.std.specs.Prelude.{◌≡◌, ◌++◌, ◌∷◌, [], ◌≤◌, IfOk, OnOk, map};
 ghost use Rattle.serde_json.specs.Data.{object, put};
-ghost use Rattle.definitions.specs.Replacements.{says_the_same};
-ghost use Rattle.definitions.specs.Values.{members_of};
-ghost use Rattle.controllers.specs.Commands.{update_status};
-ghost use Rattle.keys.specs.Keys.{key_of};
-ghost use Rattle.plans.specs.Deployments.{asked_by, counted, report, sets, sum_of, summary, updated_pods, with_summary};
-ghost use Rattle.plans.specs.Statuses.{report_status, status, with_status};
+ghost use Rattle.spec_api.specs.Replacements.{says_the_same};
+ghost use Rattle.spec_api.specs.Values.{members_of};
+ghost use Rattle.spec_client_go.specs.Commands.{update_status};
+ghost use Rattle.object_keys.specs.Keys.{key_of};
+ghost use Rattle.spec_reconcile.specs.Deployments.{asked_by, counted, report, sets, sum_of, summary, updated_pods, with_summary};
+ghost use Rattle.spec_reconcile.specs.Statuses.{report_status, status, with_status};
 ghost use Rattle.deployment.specs.Sets.{rollout_seen};
-ghost use Rattle.turns.specs.Commands.{command_of};
-ghost use Rattle.turns.specs.Entries.{entry_of};
+ghost use Rattle.reconcile_types.specs.Commands.{command_of};
+ghost use Rattle.reconcile_types.specs.Entries.{entry_of};
 
 use crate::rollout::{Rollout, all_sets, tallies};
 use crate::rollouts::total_asked;
 use meta::Object;
-use plans::Summary;
-use reports::{count_in_status, status};
+use reconcile_status::{count_in_status, status};
+use reconcile_types::{Command, Entry};
+use spec_reconcile::Summary;
 use std::alloc::{AllocError, Global};
-use turns::{Command, Entry};
 
 /// Returns the sum of a count of the status of sets.
 fn sum_of(name: &str, sets: &[Entry<'_>]) -> u128
@@ -79,7 +79,7 @@ pub(crate) fn summary(alloc: Global, rollout: &Rollout<'_>) -> Result<Summary, A
 fn with_count(alloc: Global, earlier: Object, name: &str, count: u128) -> Result<Object, AllocError>
     ensures { IfOk result (λ o. o.value ≡ object (put name.now (counted count) (members_of earlier.value))) }
 {
-    reports::with_count(alloc, earlier, name, count.min(u64::MAX as u128) as u64)
+    reconcile_status::with_count(alloc, earlier, name, count.min(u64::MAX as u128) as u64)
 }
 
 /// Returns a status with these counts. The error is running out of memory.
@@ -111,5 +111,5 @@ pub(crate) fn add_report(
         ≡ map command_of commands.old.items ++ report (rollout_seen rollout.now)) }
 {
     let new = with_summary(alloc, status(alloc, rollout.deployment)?, counts)?;
-    reports::add_report(alloc, rollout.key, rollout.deployment, new, commands)
+    reconcile_status::add_report(alloc, rollout.key, rollout.deployment, new, commands)
 }

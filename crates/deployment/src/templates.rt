@@ -3,14 +3,14 @@ ghost use Rattle.std.specs.Prelude.{◌≡◌, IfOk, string_bytes, false};
 ghost use Rattle.serde_json.specs.Data.{object};
 ghost use Rattle.serde_json.specs.View.{members_view};
 ghost use Rattle.serde_json.specs.Written.{compact_text, members_have_float};
-ghost use Rattle.definitions.specs.Metadata.{labels_of};
-ghost use Rattle.definitions.specs.Values.{members_of, without};
-ghost use Rattle.plans.specs.NewPods.{template};
-ghost use Rattle.plans.specs.Templates.{bare, bare_metadata, hash_label, with_filled};
+ghost use Rattle.spec_api.specs.Metadata.{labels_of};
+ghost use Rattle.spec_api.specs.Values.{members_of, without};
+ghost use Rattle.spec_reconcile.specs.NewPods.{template};
+ghost use Rattle.spec_reconcile.specs.Templates.{bare, bare_metadata, hash_label, with_filled};
 
 use json_values::members::{into_members, remove};
 use meta::Object;
-use readings::{blank, in_spec, inner};
+use object_fields::{blank, in_spec, inner};
 use serde_json::{Map, Value};
 use std::alloc::{AllocError, Global};
 

@@ -1,20 +1,20 @@
 -- A server that is what a history gives answers as the history does.
 use Rattle.std.proofs.Common.{◌≡◌, ◌⊎◌, inl, inr, ℕ, List, [], Option, sym, ap, ◌∙◌, subst, Result, Ok, Err}
-use Rattle.definitions.specs.ListQueries.{ListOptions}
-use Rattle.definitions.specs.History.{History, present, View, viewed}
-use Rattle.definitions.specs.Lists.{list_outcome}
-use Rattle.definitions.specs.ObjectRequests.{Request}
-use Rattle.definitions.specs.Refusals.{Refusal, no_memory}
-use Rattle.definitions.specs.Verbs.{accept, accept_at}
-use Rattle.definitions.specs.Versions.{Listed, watched_from}
-use Rattle.keys.specs.declared.fault.Fault.{Fault}
-use Rattle.laws.proofs.ServerAnswers.{pages_held, watches_held}
-use Rattle.laws.proofs.ServerHistories.{opened_holds, entries_hold, accepted_holds}
-use Rattle.server_state.specs.Servers.{Server, opened_server, after_entries, list_served, watch_by, IsServerAfter}
-use Rattle.sites.specs.Alone.{BeginsAlone}
-use Rattle.watch_service.specs.Given.{GivesBegun, there_from}
-use Rattle.watch_service.specs.declared.begun.Begun.{Begun}
-use Rattle.shared_desk.specs.Told.{IsThere}
+use Rattle.spec_api.specs.ListQueries.{ListOptions}
+use Rattle.spec_api.specs.History.{History, present, View, viewed}
+use Rattle.spec_api.specs.Lists.{list_outcome}
+use Rattle.spec_api.specs.ObjectRequests.{Request}
+use Rattle.spec_api.specs.Refusals.{Refusal, no_memory}
+use Rattle.spec_api.specs.Verbs.{accept, accept_at}
+use Rattle.spec_api.specs.Versions.{Listed, watched_from}
+use Rattle.object_keys.specs.declared.fault.Fault.{Fault}
+use Rattle.spec_laws.proofs.ServerAnswers.{pages_held, watches_held}
+use Rattle.spec_laws.proofs.ServerHistories.{opened_holds, entries_hold, accepted_holds}
+use Rattle.spec_server.specs.Servers.{Server, opened_server, after_entries, list_served, watch_by, IsServerAfter}
+use Rattle.http_backend.specs.Alone.{BeginsAlone}
+use Rattle.http_watch.specs.Given.{GivesBegun, there_from}
+use Rattle.http_watch.specs.declared.begun.Begun.{Begun}
+use Rattle.desk.specs.Told.{IsThere}
 
 abbrev pub IsAfter : ℕ → History → Server → Type 0
 IsAfter size h s = s ≡ after_entries (opened_server size) h

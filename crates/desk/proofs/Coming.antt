@@ -2,17 +2,17 @@
 use Rattle.std.proofs.Common.{◌≡◌, ℕ, ◌+◌, List, [], ◌∷◌, ◌++◌, length, refl, sym, ap, ◌∙◌, subst, append-nil, append_assoc, length-append, true, arith}
 use Rattle.std.specs.Prelude.{Option, Some, None, IfSome}
 use Rattle.baton.specs.Marks.{entries, CanHappen}
-use Rattle.definitions.specs.History.{Write, Entry, write, compaction, writes, present}
-use Rattle.definitions.specs.Moments.{is_moment}
-use Rattle.definitions.specs.ObjectRequests.{Request}
-use Rattle.definitions.specs.Reached.{IsReached, opened, asks, compacts}
-use Rattle.definitions.specs.Verbs.{write_of, with_write, accept}
-use Rattle.laws.specs.Happening.{Follows}
-use Rattle.laws.proofs.Past.{writes-append}
-use Rattle.laws.proofs.ReadRequests.{moments_timed}
-use Rattle.shared_desk.specs.Askings.{IsReadable}
-use Rattle.shared_desk.specs.Histories.{written, MayFollow, HasCome, ReadHistoriesAreReached, HistoriesCanHappen}
-use Rattle.shared_desk.proofs.Entering.{entries-append}
+use Rattle.spec_api.specs.History.{Write, Entry, write, compaction, writes, present}
+use Rattle.spec_api.specs.Moments.{is_moment}
+use Rattle.spec_api.specs.ObjectRequests.{Request}
+use Rattle.spec_api.specs.Reached.{IsReached, opened, asks, compacts}
+use Rattle.spec_api.specs.Verbs.{write_of, with_write, accept}
+use Rattle.spec_laws.specs.Happening.{Follows}
+use Rattle.spec_laws.proofs.Past.{writes-append}
+use Rattle.spec_laws.proofs.ReadRequests.{moments_timed}
+use Rattle.desk.specs.Askings.{IsReadable}
+use Rattle.desk.specs.Histories.{written, MayFollow, HasCome, ReadHistoriesAreReached, HistoriesCanHappen}
+use Rattle.desk.proofs.Entering.{entries-append}
 
 -- what a request writes that may be asked may follow
 pub writes_follow : (may_ask : Request → Type 0) (h : List (ℕ × Entry)) (name : ℕ) (change : Option Entry) (q : Request) (moment : List ℕ) → may_ask q → is_moment moment ≡ true

@@ -3,14 +3,14 @@ use Rattle.std.proofs.Common.{◌≡◌, ℕ, ◌≤◌, List, [], ◌∷◌, �
 use Rattle.std.specs.Prelude.{Option, Some, IfSome}
 use Rattle.std.proofs.lemmas.Bool.{ltb-false}
 use Rattle.baton.specs.Marks.{entries, marked}
-use Rattle.definitions.specs.History.{History, Entry, compaction, present}
-use Rattle.definitions.specs.ObjectRequests.{Request}
-use Rattle.definitions.specs.Refusals.{Refusal, too_new}
-use Rattle.definitions.specs.Versions.{compacts, once_present}
-use Rattle.server_state.specs.Servers.{Server, opened_server, after_compaction, after_entries, compact_by}
-use Rattle.shared_desk.specs.Histories.{MayFollow}
-use Rattle.shared_desk.proofs.Answered.{IsAfter, same_present}
-use Rattle.shared_desk.proofs.Entering.{gives_entry}
+use Rattle.spec_api.specs.History.{History, Entry, compaction, present}
+use Rattle.spec_api.specs.ObjectRequests.{Request}
+use Rattle.spec_api.specs.Refusals.{Refusal, too_new}
+use Rattle.spec_api.specs.Versions.{compacts, once_present}
+use Rattle.spec_server.specs.Servers.{Server, opened_server, after_compaction, after_entries, compact_by}
+use Rattle.desk.specs.Histories.{MayFollow}
+use Rattle.desk.proofs.Answered.{IsAfter, same_present}
+use Rattle.desk.proofs.Entering.{gives_entry}
 
 abbrev ok_test : {X Y : Type 0} → Result X Y → Bool
 ok_test (Ok x) = true

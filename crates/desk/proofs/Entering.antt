@@ -2,12 +2,12 @@
 use Rattle.std.proofs.Common.{◌≡◌, ℕ, List, [], ◌∷◌, ◌++◌, refl, sym, ap, ◌∙◌}
 use Rattle.std.specs.Prelude.{Option, Some, None, unwrap_or}
 use Rattle.baton.specs.Marks.{entries, marked}
-use Rattle.definitions.specs.History.{History, Write, Entry, write, compaction}
-use Rattle.definitions.specs.ObjectRequests.{Request}
-use Rattle.definitions.specs.Verbs.{write_of, accept, accept_at}
-use Rattle.server_state.specs.Servers.{Server, opened_server, after_write, after_writing, after_compaction, after_entries}
-use Rattle.shared_desk.specs.Histories.{written}
-use Rattle.shared_desk.proofs.Answered.{IsAfter, same_answer}
+use Rattle.spec_api.specs.History.{History, Write, Entry, write, compaction}
+use Rattle.spec_api.specs.ObjectRequests.{Request}
+use Rattle.spec_api.specs.Verbs.{write_of, accept, accept_at}
+use Rattle.spec_server.specs.Servers.{Server, opened_server, after_write, after_writing, after_compaction, after_entries}
+use Rattle.desk.specs.Histories.{written}
+use Rattle.desk.proofs.Answered.{IsAfter, same_answer}
 
 pub entries-append : (g h : List (ℕ × Entry)) → entries (g ++ h) ≡ entries g ++ entries h
 entries-append [] h = refl

@@ -2,26 +2,26 @@
 use Rattle.std.proofs.Common.{◌≡◌, ℕ, List, Bool, true, false, Result, Ok, Err, refl, length, ◌+◌, not, ◌||◌}
 use Rattle.std.specs.Prelude.{Option, Some, None, IfSome, is_some, nat_le, if◌then◌else◌}
 use Rattle.serde_json.specs.Data.{Data}
-use Rattle.definitions.specs.Checks.{create_fault, update_fault, is_status_valid}
-use Rattle.definitions.specs.Deletion.{Fate, remove, mark, keep, decided, removal_of, kept_code}
-use Rattle.definitions.specs.History as history
-use Rattle.definitions.specs.History.{found}
-use Rattle.definitions.specs.Keys.{Key}
-use Rattle.definitions.specs.Kinds.{has_status}
-use Rattle.definitions.specs.Metadata.{metadata_of, at_revision, namespace, uid, version, is_other, differs}
-use Rattle.definitions.specs.NewObjects.{created, with_first_status}
-use Rattle.definitions.specs.ObjectRequests.{Request, get_object, list_objects, create_object, update_object, update_status, patch_object, delete_object}
-use Rattle.definitions.specs.Reading.{is_body, reading}
-use Rattle.definitions.specs.Refusals.{Refusal}
-use Rattle.definitions.specs.Replacements.{in_place, is_finalized, says_the_same, updated, with_status_in}
-use Rattle.definitions.specs.Values.{merged}
-use Rattle.definitions.specs.Verbs
-use Rattle.definitions.specs.Verbs.{Outcome, write_of, refuse_if, refuse_field, if_read, or_not_found, if_named, if_same, names_path, put_in_place, take_out, replace, replace_status, by_decision, create, accept_at}
-use Rattle.definitions.specs.declared.kinds.Kind.{Kind}
-use Rattle.definitions.specs.declared.refusals.Field.{Field}
-use Rattle.definitions.specs.declared.refusals.Mismatch.{Mismatch}
-use Rattle.definitions.specs.declared.refusals.Part.{Part}
-use Rattle.shared_desk.specs.Kinds.{kind_named}
+use Rattle.spec_api.specs.Checks.{create_fault, update_fault, is_status_valid}
+use Rattle.spec_api.specs.Deletion.{Fate, remove, mark, keep, decided, removal_of, kept_code}
+use Rattle.spec_api.specs.History as history
+use Rattle.spec_api.specs.History.{found}
+use Rattle.spec_api.specs.Keys.{Key}
+use Rattle.spec_api.specs.Kinds.{has_status}
+use Rattle.spec_api.specs.Metadata.{metadata_of, at_revision, namespace, uid, version, is_other, differs}
+use Rattle.spec_api.specs.NewObjects.{created, with_first_status}
+use Rattle.spec_api.specs.ObjectRequests.{Request, get_object, list_objects, create_object, update_object, update_status, patch_object, delete_object}
+use Rattle.spec_api.specs.Reading.{is_body, reading}
+use Rattle.spec_api.specs.Refusals.{Refusal}
+use Rattle.spec_api.specs.Replacements.{in_place, is_finalized, says_the_same, updated, with_status_in}
+use Rattle.spec_api.specs.Values.{merged}
+use Rattle.spec_api.specs.Verbs
+use Rattle.spec_api.specs.Verbs.{Outcome, write_of, refuse_if, refuse_field, if_read, or_not_found, if_named, if_same, names_path, put_in_place, take_out, replace, replace_status, by_decision, create, accept_at}
+use Rattle.spec_api.specs.declared.kinds.Kind.{Kind}
+use Rattle.spec_api.specs.declared.refusals.Field.{Field}
+use Rattle.spec_api.specs.declared.refusals.Mismatch.{Mismatch}
+use Rattle.spec_api.specs.declared.refusals.Part.{Part}
+use Rattle.desk.specs.Kinds.{kind_named}
 
 -- whether an outcome writes an object of this kind, if any
 abbrev pub WritesOnly : Kind → Outcome → Type 0

@@ -3,43 +3,43 @@ use Rattle.std.proofs.Common.{◌≡◌, ◌⊎◌, inl, inr, ℕ, List, refl, s
 use Rattle.std.specs.Prelude.{Option, Some, None, IfSome, Result, Ok, Err, is_some}
 use Rattle.baton.specs.Marks.{entries}
 use Rattle.baton.specs.declared.views.Known.{Known}
-use Rattle.definitions.specs.ListQueries.{ListOptions}
-use Rattle.definitions.specs.History.{Entry, Write, View}
-use Rattle.definitions.specs.Lists.{list_outcome}
-use Rattle.definitions.specs.ObjectRequests.{Request}
-use Rattle.definitions.specs.Refusals.{Refusal, no_memory}
-use Rattle.definitions.specs.Verbs.{Outcome, answered, refused, accept, write_of}
-use Rattle.definitions.specs.Versions as versions
-use Rattle.definitions.specs.declared.kinds.Kind.{Kind}
-use Rattle.definitions.specs.Versions.{watched_from}
-use Rattle.desk.specs.Replies as replies
-use Rattle.keys.specs.Faults.{refusal_of}
-use Rattle.keys.specs.declared.fault.Fault.{Fault}
+use Rattle.spec_api.specs.ListQueries.{ListOptions}
+use Rattle.spec_api.specs.History.{Entry, Write, View}
+use Rattle.spec_api.specs.Lists.{list_outcome}
+use Rattle.spec_api.specs.ObjectRequests.{Request}
+use Rattle.spec_api.specs.Refusals.{Refusal, no_memory}
+use Rattle.spec_api.specs.Verbs.{Outcome, answered, refused, accept, write_of}
+use Rattle.spec_api.specs.Versions as versions
+use Rattle.spec_api.specs.declared.kinds.Kind.{Kind}
+use Rattle.spec_api.specs.Versions.{watched_from}
+use Rattle.server.specs.Replies as replies
+use Rattle.object_keys.specs.Faults.{refusal_of}
+use Rattle.object_keys.specs.declared.fault.Fault.{Fault}
 use Rattle.reply.specs.declared.reply.Reply.{Reply}
 use Rattle.revisions.specs.Watches.{watched_of}
-use Rattle.revisions.specs.declared.watched.Watched.{Watched}
-use Rattle.server_state.specs.Servers.{Server, opened_server}
-use Rattle.sites.specs.Told.{Tells}
+use Rattle.revisions.specs.declared.watched.WatchedEvents.{WatchedEvents}
+use Rattle.spec_server.specs.Servers.{Server, opened_server}
+use Rattle.http_backend.specs.Told.{Tells}
 use Rattle.watch_cache.specs.Served.{Serves}
-use Rattle.watch_service.specs.Given.{Gives, GivesBegun}
-use Rattle.watch_service.specs.declared.begun.Begun.{Begun}
-use Rattle.shared_desk.specs.Histories.{written}
-use Rattle.shared_desk.specs.Asked.{CallsAt, ListsAt, WatchesAt, BeginsAt, Hears}
-use Rattle.shared_desk.specs.Steps.{Step}
-use Rattle.shared_desk.specs.Told.{once_ok, Answers, IsThere}
-use Rattle.shared_desk.specs.declared.served.Served.{Served}
-use Rattle.shared_desk.specs.Kinds.{kind_named}
-use Rattle.shared_desk.proofs.Named.{WritesOnly, writes_only}
-use Rattle.shared_desk.proofs.Stepping.{restated}
+use Rattle.http_watch.specs.Given.{Gives, GivesBegun}
+use Rattle.http_watch.specs.declared.begun.Begun.{Begun}
+use Rattle.desk.specs.Histories.{written}
+use Rattle.desk.specs.Asked.{CallsAt, ListsAt, WatchesAt, BeginsAt, Hears}
+use Rattle.desk.specs.Steps.{Step}
+use Rattle.desk.specs.Told.{once_ok, Answers, IsThere}
+use Rattle.desk.specs.declared.served.ServedReply.{ServedReply}
+use Rattle.desk.specs.Kinds.{kind_named}
+use Rattle.desk.proofs.Named.{WritesOnly, writes_only}
+use Rattle.desk.proofs.Stepping.{restated}
 
 -- with what else is so of the seat
 module _ (may_ask : Request → Type 0) (Also : Type 0) (also : Also) where
   -- ---- requests
 
-  abbrev Asked : Known Server Entry → Request → List ℕ → Result Served Fault → Known Server Entry → Type 0
+  abbrev Asked : Known Server Entry → Request → List ℕ → Result ServedReply Fault → Known Server Entry → Type 0
   Asked v q moment r w = Step may_ask v (λ h. once_ok r (written (write_of (accept q h moment)))) (λ h. Answers (accept q h moment) r) w
 
-  pub called : {L : Type 0} (hears : Kind → L → L → Type 0) (v w : Known Server Entry) (q : Request) (moment : List ℕ) (s : Served) (l m : L) → Asked v q moment (Ok s) w → (s.wrote ≡ true → hears (kind_named q) l m) → (s.wrote ≡ false → m ≡ l)
+  pub called : {L : Type 0} (hears : Kind → L → L → Type 0) (v w : Known Server Entry) (q : Request) (moment : List ℕ) (s : ServedReply) (l m : L) → Asked v q moment (Ok s) w → (s.wrote ≡ true → hears (kind_named q) l m) → (s.wrote ≡ false → m ≡ l)
       → Tells (λ o. CallsAt may_ask v q moment o w × Hears hears (write_of o) l m × Also) (Ok s.reply)
   called hears v w q moment s l m step heard quiet = by (accept q (entries step.history) moment) refl step.says
     where
@@ -80,13 +80,13 @@ module _ (may_ask : Request → Type 0) (Also : Type 0) (also : Also) where
 
   -- ---- watches
 
-  abbrev Looked : ℕ → Known Server Entry → View → ℕ → ℕ → Result Watched Fault → Known Server Entry → Type 0
+  abbrev Looked : ℕ → Known Server Entry → View → ℕ → ℕ → Result WatchedEvents Fault → Known Server Entry → Type 0
   Looked size v view after most r w = Step may_ask v (λ h. None) (λ h. Serves watched_of (watched_from size h view after most) r) w
 
   abbrev refused_look : Fault → Result versions.Watched Refusal
   refused_look e = Err (refusal_of e)
 
-  pub looked : (size : ℕ) (v w : Known Server Entry) (view : View) (after most : ℕ) (r : Result Watched Fault) → v.opening ≡ Some (opened_server size) → Looked size v view after most r w
+  pub looked : (size : ℕ) (v w : Known Server Entry) (view : View) (after most : ℕ) (r : Result WatchedEvents Fault) → v.opening ≡ Some (opened_server size) → Looked size v view after most r w
       → Gives watched_of (λ x. WatchesAt may_ask v view after most x w × Also) r
   looked size v w view after most (Ok r) opened step = ((size, opened, restated may_ask v w _ _ _ _ step refl (by (watched_from size (entries step.history) view after most) step.says)), also)
     where

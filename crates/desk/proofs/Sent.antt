@@ -10,15 +10,15 @@ use Rattle.crossbeam_queue.below.atomic_table.specs.contracts.shared.Seat as Pas
 use Rattle.crossbeam_queue.specs.contracts.array_queue.Doing as Doing
 use Rattle.baton.proofs.batons.Baton.TheSendSync as baton_of
 use Rattle.baton.specs.contracts.batons.Baton as Baton
-use Rattle.baton.specs.contracts.views.View as View
-use Rattle.desk.specs.contracts.servers.Server as Server
-use Rattle.desk.proofs.Sent.{server}
-use Rattle.shared_desk.specs.contracts.askings.Anything as Anything
-use Rattle.shared_desk.specs.contracts.askings.AnythingAsking.TheImpl as asks
-use Rattle.shared_desk.specs.contracts.desks.Desk as Desk
-use Rattle.shared_desk.specs.contracts.entries.Entry as Entry
-use Rattle.shared_desk.specs.contracts.store_law.StoreLaw as StoreLaw
-use Rattle.shared_desk.specs.contracts.store_law.StoreLawLawServer.TheImpl as laws
+use Rattle.baton.specs.contracts.views.PassView as View
+use Rattle.server.specs.contracts.servers.Server as Server
+use Rattle.server.proofs.Sent.{server}
+use Rattle.desk.specs.contracts.askings.Anything as Anything
+use Rattle.desk.specs.contracts.askings.AnythingAsking.TheImpl as asks
+use Rattle.desk.specs.contracts.desks.Desk as Desk
+use Rattle.desk.specs.contracts.entries.StoreEntry as Entry
+use Rattle.desk.specs.contracts.store_law.StoreLaw as StoreLaw
+use Rattle.desk.specs.contracts.store_law.StoreLawLawServer.TheImpl as laws
 
 size : IsSync (as_row usize-field)
 size = search sendable

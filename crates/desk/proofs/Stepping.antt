@@ -4,12 +4,12 @@ use Rattle.std.specs.Prelude.{Option, Some}
 use Rattle.baton.specs.Marks.{StartsWith, entries, made_by, marked}
 use Rattle.baton.specs.Passes.{Taken}
 use Rattle.baton.specs.declared.views.Known.{Known}
-use Rattle.baton.specs.declared.views.View as views
-use Rattle.definitions.specs.History.{History, Entry}
-use Rattle.definitions.specs.ObjectRequests.{Request}
-use Rattle.server_state.specs.Servers.{Server, opened_server, after_entries}
-use Rattle.shared_desk.specs.Histories.{IsOpening, MayFollow, HasCome}
-use Rattle.shared_desk.specs.Steps.{Step, HasTaken, having_seen, after_give}
+use Rattle.baton.specs.declared.views.PassView as views
+use Rattle.spec_api.specs.History.{History, Entry}
+use Rattle.spec_api.specs.ObjectRequests.{Request}
+use Rattle.spec_server.specs.Servers.{Server, opened_server, after_entries}
+use Rattle.desk.specs.Histories.{IsOpening, MayFollow, HasCome}
+use Rattle.desk.specs.Steps.{Step, HasTaken, having_seen, after_give}
 
 -- a take, what is said at the history that it shows, and a give are a step
 pub steps : (may_ask : Request → Type 0) (v w x : Known Server Entry) (change : History → Option Entry) (Says : History → Type 0) → HasTaken may_ask v w → Says (entries w.seen)
@@ -36,10 +36,10 @@ restated may_ask v w change other Says More s same says = record {
 }
 
 -- what a take tells of the pass
-seen_then : (may_ask : Request → Type 0) (v w : views.View Server Entry) (x : Server) (t : Taken IsOpening after_entries (MayFollow may_ask) v x w) → w.own.seen ≡ t.history
+seen_then : (may_ask : Request → Type 0) (v w : views.PassView Server Entry) (x : Server) (t : Taken IsOpening after_entries (MayFollow may_ask) v x w) → w.own.seen ≡ t.history
 seen_then may_ask v w x t = ap (λ z. z.own.seen) t.knows
 
-pub taken : (may_ask : Request → Type 0) (v w : views.View Server Entry) (x : Server) → Taken IsOpening after_entries (MayFollow may_ask) v x w → v.own.holds ≡ false → HasTaken may_ask v.own w.own
+pub taken : (may_ask : Request → Type 0) (v w : views.PassView Server Entry) (x : Server) → Taken IsOpening after_entries (MayFollow may_ask) v x w → v.own.holds ≡ false → HasTaken may_ask v.own w.own
 taken may_ask v w x t free =
     let seen : w.own.seen ≡ t.history = seen_then may_ask v w x t in
     record {
@@ -51,7 +51,7 @@ taken may_ask v w x t free =
     }
 
 -- and of the server
-pub held : (may_ask : Request → Type 0) (v w : views.View Server Entry) (x : Server) (size : ℕ) → Taken IsOpening after_entries (MayFollow may_ask) v x w → v.own.opening ≡ Some (opened_server size)
+pub held : (may_ask : Request → Type 0) (v w : views.PassView Server Entry) (x : Server) (size : ℕ) → Taken IsOpening after_entries (MayFollow may_ask) v x w → v.own.opening ≡ Some (opened_server size)
     → (w.own.opening ≡ Some (opened_server size)) × (w.own.holds ≡ true) × (x ≡ after_entries (opened_server size) (entries w.own.seen))
 held may_ask v w x size t opened = (
   ap (λ z. z.own.opening) t.knows ∙ opened,

@@ -2,8 +2,8 @@
 use Rattle.std.proofs.Common.{◌≡◌, ℕ, ◌+◌, nat_eq, sym, ap, ◌∙◌, not, true, false, arith}
 use Rattle.std.specs.Prelude.{Option, Some, None, is_some}
 use Rattle.std.proofs.lemmas.Bool.Decides.{nat_tests}
-use Rattle.definitions.specs.History.{Write}
-use Rattle.server_state.specs.Servers.{Server, after_writing}
+use Rattle.spec_api.specs.History.{Write}
+use Rattle.spec_server.specs.Servers.{Server, after_writing}
 
 same_number : (n m : ℕ) → n ≡ m → not (nat_eq n m) ≡ false
 same_number n m is = grind (arith, nat_tests)

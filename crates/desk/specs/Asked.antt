@@ -1,18 +1,18 @@
 -- What is asked with a pass, as a relation between what it knew before and after.
 use Rattle.std.specs.Prelude.{◌≡◌, ◌⊎◌, ℕ, List, Option, Some, None, Result, Err}
 use Rattle.baton.specs.declared.views.Known.{Known}
-use Rattle.definitions.specs.declared.kinds.Kind.{Kind}
-use Rattle.definitions.specs.ListQueries.{ListOptions}
-use Rattle.definitions.specs.History.{Entry, View, Write}
-use Rattle.definitions.specs.Lists.{list_outcome}
-use Rattle.definitions.specs.ObjectRequests.{Request}
-use Rattle.definitions.specs.Refusals.{Refusal, no_memory}
-use Rattle.definitions.specs.Verbs.{Outcome, refused, accept, write_of}
-use Rattle.definitions.specs.Versions.{Listed, Watched, watched_from}
-use Rattle.server_state.specs.Servers.{Server, opened_server}
-use Rattle.shared_desk.specs.Histories.{written}
-use Rattle.shared_desk.specs.Steps.{Step}
-use Rattle.shared_desk.specs.Told.{IsThere}
+use Rattle.spec_api.specs.declared.kinds.Kind.{Kind}
+use Rattle.spec_api.specs.ListQueries.{ListOptions}
+use Rattle.spec_api.specs.History.{Entry, View, Write}
+use Rattle.spec_api.specs.Lists.{list_outcome}
+use Rattle.spec_api.specs.ObjectRequests.{Request}
+use Rattle.spec_api.specs.Refusals.{Refusal, no_memory}
+use Rattle.spec_api.specs.Verbs.{Outcome, refused, accept, write_of}
+use Rattle.spec_api.specs.Versions.{Listed, Watched, watched_from}
+use Rattle.spec_server.specs.Servers.{Server, opened_server}
+use Rattle.desk.specs.Histories.{written}
+use Rattle.desk.specs.Steps.{Step}
+use Rattle.desk.specs.Told.{IsThere}
 
 module _ (may_ask : Request → Type 0) where
   -- the outcome of a request at the history that the pass then sees, with its write

@@ -1,6 +1,6 @@
 -- Which requests may be asked of a store that threads share.
-use Rattle.definitions.specs.ObjectRequests.{Request}
-use Rattle.definitions.specs.Reached.{CanBeRead}
+use Rattle.spec_api.specs.ObjectRequests.{Request}
+use Rattle.spec_api.specs.Reached.{CanBeRead}
 
 -- any request
 abbrev pub IsAny : Request → Type 0

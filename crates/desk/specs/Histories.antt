@@ -1,14 +1,14 @@
 -- The histories of a store that threads share: how one begins, and what may happen next.
 use Rattle.std.specs.Prelude.{◌≡◌, ◌≤◌, ℕ, List, true, Option, Some, option_map}
 use Rattle.baton.specs.Marks.{entries, CanHappen}
-use Rattle.definitions.specs.History.{History, Write, Entry, write, compaction, present}
-use Rattle.definitions.specs.Moments.{is_moment}
-use Rattle.definitions.specs.ObjectRequests.{Request}
-use Rattle.definitions.specs.Reached.{IsReached}
-use Rattle.definitions.specs.Verbs.{accept, write_of}
-use Rattle.laws.specs.Happening as happening
-use Rattle.server_state.specs.Servers.{Server, opened_server}
-use Rattle.shared_desk.specs.Askings.{IsReadable}
+use Rattle.spec_api.specs.History.{History, Write, Entry, write, compaction, present}
+use Rattle.spec_api.specs.Moments.{is_moment}
+use Rattle.spec_api.specs.ObjectRequests.{Request}
+use Rattle.spec_api.specs.Reached.{IsReached}
+use Rattle.spec_api.specs.Verbs.{accept, write_of}
+use Rattle.spec_laws.specs.Happening as happening
+use Rattle.spec_server.specs.Servers.{Server, opened_server}
+use Rattle.desk.specs.Askings.{IsReadable}
 
 -- nothing is there in a store that opens, whatever the size of its windows
 abbrev pub IsOpening : Server → Type 0

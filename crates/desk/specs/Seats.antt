@@ -1,18 +1,18 @@
 -- What is asked at a seat, as a relation between the seat before and after.
 use Rattle.std.specs.Prelude.{◌≡◌, ℕ, List, Option, Result}
 use Rattle.baton.specs.declared.views.Known.{Known}
-use Rattle.definitions.specs.declared.kinds.Kind.{Kind}
-use Rattle.definitions.specs.ListQueries.{ListOptions}
-use Rattle.definitions.specs.History.{Entry, View}
-use Rattle.definitions.specs.ObjectRequests.{Request}
-use Rattle.definitions.specs.Refusals.{Refusal}
-use Rattle.definitions.specs.Verbs.{Outcome, write_of}
-use Rattle.definitions.specs.Versions.{Listed, Watched}
-use Rattle.server_state.specs.Servers.{Server}
-use Rattle.shared_desk.specs.Asked.{CallsAt, ListsAt, WatchesAt, BeginsAt, Hears}
-use Rattle.shared_desk.specs.Desks.{known}
-use Rattle.shared_desk.specs.declared.desks.Desk.{Desk}
-use Rattle.shared_desk.specs.declared.seats.Seat.{Seat}
+use Rattle.spec_api.specs.declared.kinds.Kind.{Kind}
+use Rattle.spec_api.specs.ListQueries.{ListOptions}
+use Rattle.spec_api.specs.History.{Entry, View}
+use Rattle.spec_api.specs.ObjectRequests.{Request}
+use Rattle.spec_api.specs.Refusals.{Refusal}
+use Rattle.spec_api.specs.Verbs.{Outcome, write_of}
+use Rattle.spec_api.specs.Versions.{Listed, Watched}
+use Rattle.spec_server.specs.Servers.{Server}
+use Rattle.desk.specs.Asked.{CallsAt, ListsAt, WatchesAt, BeginsAt, Hears}
+use Rattle.desk.specs.Desks.{known}
+use Rattle.desk.specs.declared.desks.Desk.{Desk}
+use Rattle.desk.specs.declared.seats.Seat.{Seat}
 
 -- the desk of a seat, what its pass knows, and what is told of its writes
 abbrev pub desk_at : {A L R : Type 0} → Seat A L R → Desk A

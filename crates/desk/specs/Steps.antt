@@ -2,10 +2,10 @@
 use Rattle.std.specs.Prelude.{◌≡◌, ℕ, List, ◌++◌, Option, true, false}
 use Rattle.baton.specs.Marks.{StartsWith, entries, made_by, marked}
 use Rattle.baton.specs.declared.views.Known.{Known}
-use Rattle.definitions.specs.History.{History, Entry}
-use Rattle.definitions.specs.ObjectRequests.{Request}
-use Rattle.server_state.specs.Servers.{Server}
-use Rattle.shared_desk.specs.Histories.{HasCome}
+use Rattle.spec_api.specs.History.{History, Entry}
+use Rattle.spec_api.specs.ObjectRequests.{Request}
+use Rattle.spec_server.specs.Servers.{Server}
+use Rattle.desk.specs.Histories.{HasCome}
 
 -- what a pass knows once it has seen a history, and added this entry to it
 abbrev pub having_seen : Known Server Entry → List (ℕ × Entry) → Option Entry → Known Server Entry

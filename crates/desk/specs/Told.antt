@@ -1,14 +1,14 @@
 -- What is told of a call.
 use Rattle.std.specs.Prelude.{◌≡◌, ◌⊎◌, ◌∷◌, ◌++◌, [], ℕ, Option, None, Result, Ok, Err, is_some}
-use Rattle.definitions.specs.History.{History, Entry, View, compaction, present, list}
-use Rattle.definitions.specs.Refusals.{Refusal, no_memory}
-use Rattle.definitions.specs.Verbs.{Outcome, write_of}
-use Rattle.definitions.specs.Versions.{Listed, compacts}
-use Rattle.desk.specs.Replies.{Replies}
-use Rattle.keys.specs.Faults.{refusal_of}
-use Rattle.keys.specs.declared.fault.Fault.{Fault}
-use Rattle.watch_service.specs.Given.{there_from}
-use Rattle.shared_desk.specs.declared.served.Served.{Served}
+use Rattle.spec_api.specs.History.{History, Entry, View, compaction, present, list}
+use Rattle.spec_api.specs.Refusals.{Refusal, no_memory}
+use Rattle.spec_api.specs.Verbs.{Outcome, write_of}
+use Rattle.spec_api.specs.Versions.{Listed, compacts}
+use Rattle.server.specs.Replies.{Replies}
+use Rattle.object_keys.specs.Faults.{refusal_of}
+use Rattle.object_keys.specs.declared.fault.Fault.{Fault}
+use Rattle.http_watch.specs.Given.{there_from}
+use Rattle.desk.specs.declared.served.ServedReply.{ServedReply}
 
 -- what a result changes: an error nothing
 abbrev pub once_ok : {X Y : Type 0} → Result X Y → Option Entry → Option Entry
@@ -16,7 +16,7 @@ once_ok (Ok x) change = change
 once_ok (Err e) change = None
 
 -- the result is the outcome, with whether it writes something; or out of memory
-abbrev pub Answers : Outcome → Result Served Fault → Type 0
+abbrev pub Answers : Outcome → Result ServedReply Fault → Type 0
 Answers o (Ok s) = Replies o (Ok s.reply) × (s.wrote ≡ is_some (write_of o))
 Answers o (Err e) = Replies o (Err e)
 

@@ -3,7 +3,7 @@
 /// Which requests may be asked of a store that threads share. Whoever calls a desk shows it of the request, and whoever sees
 /// the desk's history knows it of all.
 pub trait Asking {
-    ghost use Rattle.definitions.specs.ObjectRequests.{Request};
+    ghost use Rattle.spec_api.specs.ObjectRequests.{Request};
 
     /// The request may be asked.
     ghost MayAsk: { Request → Type 0 };
@@ -13,7 +13,7 @@ pub trait Asking {
 pub struct Anything;
 
 impl Asking for Anything {
-    ghost use Rattle.shared_desk.specs.Askings.{IsAny};
+    ghost use Rattle.desk.specs.Askings.{IsAny};
 
     ghost MayAsk = { IsAny };
 }
@@ -22,7 +22,7 @@ impl Asking for Anything {
 pub struct Readable;
 
 impl Asking for Readable {
-    ghost use Rattle.shared_desk.specs.Askings.{IsReadable};
+    ghost use Rattle.desk.specs.Askings.{IsReadable};
 
     ghost MayAsk = { IsReadable };
 }

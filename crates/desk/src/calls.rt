@@ -3,27 +3,27 @@ ghost use Rattle.std.specs.Prelude.{◌≡◌, ◌<◌, None, IfOk, All, length}
 ghost use Rattle.baton.specs.Batons.{AreNumbered};
 ghost use Rattle.baton.specs.Marks.{entries};
 ghost use Rattle.baton.specs.Passes.{Met};
-ghost use Rattle.definitions.specs.Verbs.{accept};
-ghost use Rattle.definitions.specs.Verbs as outcomes;
-ghost use Rattle.desk.specs.Replies.{Replies};
-ghost use Rattle.requests.specs.Requests.{request_of};
-ghost use Rattle.server_state.specs.Servers.{after_entries};
-ghost use Rattle.shared_desk.specs.Desks.{known, window_size, IsPassAt, IsNewAt, IsHolding};
-ghost use Rattle.shared_desk.specs.Histories.{written, IsOpening, MayFollow};
-ghost use Rattle.shared_desk.specs.Steps.{Step, HasTaken, after_give};
-ghost use Rattle.shared_desk.specs.Told.{once_ok, Answers};
+ghost use Rattle.spec_api.specs.Verbs.{accept};
+ghost use Rattle.spec_api.specs.Verbs as outcomes;
+ghost use Rattle.server.specs.Replies.{Replies};
+ghost use Rattle.request_parts.specs.Requests.{request_of};
+ghost use Rattle.spec_server.specs.Servers.{after_entries};
+ghost use Rattle.desk.specs.Desks.{known, window_size, IsPassAt, IsNewAt, IsHolding};
+ghost use Rattle.desk.specs.Histories.{written, IsOpening, MayFollow};
+ghost use Rattle.desk.specs.Steps.{Step, HasTaken, after_give};
+ghost use Rattle.desk.specs.Told.{once_ok, Answers};
 
 use crate::askings::Asking;
 use crate::desks::{Desk, StorePass};
-use crate::entries::Entry;
-use crate::served::Served;
+use crate::entries::StoreEntry;
+use crate::served::ServedReply;
 use crate::steps;
-use baton::{Baton, Change, Held};
-use desk::Server;
-use keys::Fault;
+use baton::{Baton, EntryMade, Held};
+use metadata_values::moments::Moment;
+use object_keys::Fault;
 use reply::Reply;
-use requests::Request;
-use stamps::moments::Moment;
+use request_parts::Request;
+use server::Server;
 use std::alloc::{AllocError, Global};
 use std::marker::Brand;
 use std::sync::Wait;
@@ -91,7 +91,7 @@ impl<A: Asking> Desk<A> {
         pass: &mut StorePass,
         request: Request,
         moment: Moment,
-    ) -> Result<Served, Fault>
+    ) -> Result<ServedReply, Fault>
         requires pass { IsPassAt self.now pass.old }
         requires asked { A.MayAsk (request_of request) }
         ensures pass { IsPassAt self.now pass.new }
@@ -122,7 +122,7 @@ impl<A: Asking> Desk<A> {
     }
 
     /// Serves a request by the server that the pass holds, and gives the server back.
-    fn serve_held<M: Change<Entry>, R: Wait>(
+    fn serve_held<M: EntryMade<StoreEntry>, R: Wait>(
         &self,
         rt: &R,
         alloc: Global,
@@ -130,7 +130,7 @@ impl<A: Asking> Desk<A> {
         held: Held<Server>,
         request: Request,
         moment: Moment,
-    ) -> Result<Served, Fault>
+    ) -> Result<ServedReply, Fault>
         requires pass { IsHolding self.now pass.old held }
         requires asked { A.MayAsk (request_of request) }
         requires entry { M.entry ≡ written (outcomes.write_of (accept (request_of request) (entries (known pass.old).seen) moment)) }

@@ -1,18 +1,18 @@
 //! Compactions of a desk's server.
 ghost use Rattle.std.specs.Prelude.{◌≡◌, Some};
 ghost use Rattle.baton.specs.Marks.{entries};
-ghost use Rattle.definitions.specs.History.{compaction};
-ghost use Rattle.shared_desk.specs.Desks.{known, IsPassAt, IsHolding};
-ghost use Rattle.shared_desk.specs.Steps.{Step, after_give};
-ghost use Rattle.shared_desk.specs.Told.{once_ok, Compacts};
+ghost use Rattle.spec_api.specs.History.{compaction};
+ghost use Rattle.desk.specs.Desks.{known, IsPassAt, IsHolding};
+ghost use Rattle.desk.specs.Steps.{Step, after_give};
+ghost use Rattle.desk.specs.Told.{once_ok, Compacts};
 
 use crate::askings::Asking;
 use crate::desks::{Desk, StorePass};
-use crate::entries::Entry;
+use crate::entries::StoreEntry;
 use crate::steps;
-use baton::{Change, Held};
-use desk::Server;
-use keys::Fault;
+use baton::{EntryMade, Held};
+use object_keys::Fault;
+use server::Server;
 use std::marker::Brand;
 use std::sync::Wait;
 
@@ -30,7 +30,7 @@ impl<A: Asking> Desk<A> {
     }
 
     /// Compacts the server that the pass holds, and gives it back.
-    fn compact_held<M: Change<Entry>, R: Wait>(
+    fn compact_held<M: EntryMade<StoreEntry>, R: Wait>(
         &self,
         rt: &R,
         pass: &mut StorePass,

@@ -1,13 +1,13 @@
 //! A desk.
 use crate::askings::Asking;
-use crate::entries::Entry;
+use crate::entries::StoreEntry;
 use crate::store_law::StoreLaw;
 use baton::Baton;
-use baton::views::View;
-use desk::Server;
+use baton::views::PassView;
+use server::Server;
 
 /// The right to ask at a desk. What it has seen of the desk's history, and what it made of it, its calls say.
-pub type StorePass = crossbeam_queue::Pass<Server, View<Server, Entry>>;
+pub type StorePass = crossbeam_queue::Pass<Server, PassView<Server, StoreEntry>>;
 
 /// A server that threads share: one call at a time has it.
 #[derive(Drop)]

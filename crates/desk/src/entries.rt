@@ -4,17 +4,17 @@ use std::marker::Model;
 
 /// A write, or without one a compaction to a revision.
 #[derive(Drop)]
-pub struct Entry {
+pub struct StoreEntry {
     write: Option<Write>,
     revision: u64,
 }
 
-impl Model for Entry {
+impl Model for StoreEntry {
     ghost use Rattle.std.specs.Prelude.{option_map};
-    ghost use Rattle.codes.specs.HistoryCodes.{coded_entry};
-    ghost use Rattle.definitions.specs.History as history;
+    ghost use Rattle.model_encodings.specs.HistoryCodes.{coded_entry};
+    ghost use Rattle.spec_api.specs.History as history;
     ghost use Rattle.meta.specs.Writes.{write_of};
-    ghost use Rattle.shared_desk.specs.Entries.{entry_of};
+    ghost use Rattle.desk.specs.Entries.{entry_of};
 
     ghost Value = { history.Entry };
 

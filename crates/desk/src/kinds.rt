@@ -1,10 +1,10 @@
 //! The kind of the objects that a request names.
 ghost use Rattle.std.specs.Prelude.{◌≡◌};
-ghost use Rattle.requests.specs.Requests.{request_of};
-ghost use Rattle.shared_desk.specs.Kinds.{kind_named};
+ghost use Rattle.request_parts.specs.Requests.{request_of};
+ghost use Rattle.desk.specs.Kinds.{kind_named};
 
-use definitions::kinds::Kind;
-use requests::Request;
+use request_parts::Request;
+use spec_api::kinds::Kind;
 
 /// Returns the kind of the objects that a request names.
 pub(crate) fn kind_of(request: &Request) -> Kind

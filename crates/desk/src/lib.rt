@@ -21,4 +21,5 @@ pub use askings::{Anything, Asking, Readable};
 pub use desks::{Desk, StorePass};
 pub use listeners::{Listener, Silent};
 pub use seats::Seat;
+pub use server::Server;
 pub use store_law::StoreLaw;

@@ -1,10 +1,10 @@
 //! What is told of the writes of a seat.
-use definitions::kinds::Kind;
+use spec_api::kinds::Kind;
 use std::sync::Wait;
 
 /// What is told of the writes of a seat, as a bell that wakes who waits for changes.
 pub trait Listener {
-    ghost use Rattle.definitions.specs.declared.kinds.Kind as kinds;
+    ghost use Rattle.spec_api.specs.declared.kinds.Kind as kinds;
 
     /// What hearing of a write of this kind of object makes of it.
     ghost Hears: { kinds.Kind → Self → Self → Type 0 };

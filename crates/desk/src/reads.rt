@@ -1,29 +1,29 @@
 //! What is read at a desk.
 ghost use Rattle.std.specs.Prelude.{None};
-ghost use Rattle.definitions.specs.Lists.{list_outcome};
-ghost use Rattle.definitions.specs.Versions.{watched_from};
-ghost use Rattle.desk.specs.Replies.{Lists};
-ghost use Rattle.requests.specs.Collected.{list_seen};
+ghost use Rattle.spec_api.specs.Lists.{list_outcome};
+ghost use Rattle.spec_api.specs.Versions.{watched_from};
+ghost use Rattle.server.specs.Replies.{Lists};
+ghost use Rattle.request_parts.specs.Collected.{list_seen};
 ghost use Rattle.revisions.specs.Watches.{watched_of};
 ghost use Rattle.selector.specs.Views.{view_of};
 ghost use Rattle.watch_cache.specs.Served.{Serves};
-ghost use Rattle.watch_service.specs.Given.{GivesBegun};
-ghost use Rattle.shared_desk.specs.Desks.{known, window_size, IsPassAt};
-ghost use Rattle.shared_desk.specs.Steps.{Step};
-ghost use Rattle.shared_desk.specs.Told.{IsThere};
+ghost use Rattle.http_watch.specs.Given.{GivesBegun};
+ghost use Rattle.desk.specs.Desks.{known, window_size, IsPassAt};
+ghost use Rattle.desk.specs.Steps.{Step};
+ghost use Rattle.desk.specs.Told.{IsThere};
 
 use crate::askings::Asking;
 use crate::desks::{Desk, StorePass};
 use crate::steps;
-use keys::Fault;
+use http_backend::alone;
+use http_watch::Begun;
+use object_keys::Fault;
 use reply::Reply;
-use requests::list_options::ListOptions;
-use revisions::Watched;
+use request_parts::list_options::ListOptions;
+use revisions::WatchedEvents;
 use selector::View;
-use sites::alone;
 use std::alloc::Global;
 use std::sync::Wait;
-use watch_service::Begun;
 
 impl<A: Asking> Desk<A> {
     /// Returns the page of the list of a view that the options ask for. The pass has then seen all that had happened. The
@@ -57,7 +57,7 @@ impl<A: Asking> Desk<A> {
         view: &View,
         after: u64,
         max: usize,
-    ) -> Result<Watched, Fault>
+    ) -> Result<WatchedEvents, Fault>
         requires { IsPassAt self.now pass.old }
         ensures pass { IsPassAt self.now pass.new }
         ensures watch { Step A.MayAsk (known pass.old) (λ h. None)

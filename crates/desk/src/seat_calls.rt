@@ -1,26 +1,26 @@
 //! What is asked at a seat.
 ghost use Rattle.std.specs.Prelude.{◌≡◌};
-ghost use Rattle.requests.specs.Requests.{request_of};
-ghost use Rattle.sites.specs.Told.{Tells};
-ghost use Rattle.shared_desk.specs.Desks.{known, IsPassAt};
-ghost use Rattle.shared_desk.specs.Seats.{desk_at, known_at, listener_at, Calls};
+ghost use Rattle.request_parts.specs.Requests.{request_of};
+ghost use Rattle.http_backend.specs.Told.{Tells};
+ghost use Rattle.desk.specs.Desks.{known, IsPassAt};
+ghost use Rattle.desk.specs.Seats.{desk_at, known_at, listener_at, Calls};
 
 use crate::askings::{Anything, Asking};
 use crate::desks::{Desk, StorePass};
 use crate::kinds::kind_of;
 use crate::listeners::Listener;
 use crate::seats::Seat;
-use keys::Fault;
+use http_backend::Site;
+use http_watch::{Begun, WatchSource};
+use metadata_values::moments::Moment;
+use object_keys::Fault;
 use reply::Reply;
-use requests::Request;
-use requests::list_options::ListOptions;
-use revisions::Watched;
+use request_parts::Request;
+use request_parts::list_options::ListOptions;
+use revisions::WatchedEvents;
 use selector::View;
-use sites::Site;
-use stamps::moments::Moment;
 use std::alloc::Global;
 use std::sync::Wait;
-use watch_service::{Begun, WatchSource};
 
 impl<'a, A: Asking, L: Listener, R: Wait> Seat<'a, A, L, R> {
     /// Returns a seat of a pass at its desk.
@@ -75,7 +75,7 @@ impl<'a, A: Asking, L: Listener, R: Wait> Seat<'a, A, L, R> {
 }
 
 impl<'a, A: Asking, L: Listener, R: Wait> WatchSource for Seat<'a, A, L, R> {
-    ghost use Rattle.shared_desk.specs.Seats.{Watches, Begins};
+    ghost use Rattle.desk.specs.Seats.{Watches, Begins};
 
     ghost Watches = { Watches A.MayAsk };
 
@@ -87,7 +87,7 @@ impl<'a, A: Asking, L: Listener, R: Wait> WatchSource for Seat<'a, A, L, R> {
         view: &View,
         after: u64,
         most: usize,
-    ) -> Result<Watched, Fault> {
+    ) -> Result<WatchedEvents, Fault> {
         match self
             .desk
             .watch_from(self.rt, alloc, &mut self.pass, view, after, most)
@@ -109,8 +109,8 @@ impl<'a, A: Asking, L: Listener, R: Wait> WatchSource for Seat<'a, A, L, R> {
 }
 
 impl<'a, L: Listener, R: Wait> Site for Seat<'a, Anything, L, R> {
-    ghost use Rattle.shared_desk.specs.Askings.{IsAny};
-    ghost use Rattle.shared_desk.specs.Seats.{Calls, Lists};
+    ghost use Rattle.desk.specs.Askings.{IsAny};
+    ghost use Rattle.desk.specs.Seats.{Calls, Lists};
 
     ghost Calls = { Calls IsAny L.Hears };
 

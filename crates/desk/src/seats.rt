@@ -1,5 +1,5 @@
 //! A seat.
-ghost use Rattle.shared_desk.specs.Desks.{IsPassAt};
+ghost use Rattle.desk.specs.Desks.{IsPassAt};
 
 use crate::askings::Asking;
 use crate::desks::{Desk, StorePass};

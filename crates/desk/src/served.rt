@@ -3,7 +3,7 @@ use reply::Reply;
 
 /// The reply to a request, and whether the request wrote something.
 #[derive(Drop)]
-pub struct Served {
+pub struct ServedReply {
     pub reply: Reply,
     pub wrote: bool,
 }

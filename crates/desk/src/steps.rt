@@ -1,24 +1,24 @@
 //! The steps of a server that a pass holds.
 ghost use Rattle.std.specs.Prelude.{◌≡◌, Ok, Err, OnOk, OnErr, IfErr};
-ghost use Rattle.definitions.specs.Verbs.{accept_at};
-ghost use Rattle.definitions.specs.Verbs as outcomes;
-ghost use Rattle.desk.specs.Replies.{Lists};
-ghost use Rattle.keys.specs.Faults.{refusal_of};
-ghost use Rattle.requests.specs.Collected.{list_seen};
-ghost use Rattle.requests.specs.Requests.{request_of};
+ghost use Rattle.spec_api.specs.Verbs.{accept_at};
+ghost use Rattle.spec_api.specs.Verbs as outcomes;
+ghost use Rattle.server.specs.Replies.{Lists};
+ghost use Rattle.object_keys.specs.Faults.{refusal_of};
+ghost use Rattle.request_parts.specs.Collected.{list_seen};
+ghost use Rattle.request_parts.specs.Requests.{request_of};
 ghost use Rattle.selector.specs.Views.{view_of};
-ghost use Rattle.server_state.specs.Servers.{after_writing, compact_by, list_served};
-ghost use Rattle.shared_desk.specs.Told.{Answers};
+ghost use Rattle.spec_server.specs.Servers.{after_writing, compact_by, list_served};
+ghost use Rattle.desk.specs.Told.{Answers};
 
-use crate::served::Served;
+use crate::served::ServedReply;
 use baton::Held;
-use desk::Server;
-use keys::Fault;
+use metadata_values::moments::Moment;
+use object_keys::Fault;
 use reply::Reply;
-use requests::Request;
-use requests::list_options::ListOptions;
+use request_parts::Request;
+use request_parts::list_options::ListOptions;
 use selector::View;
-use stamps::moments::Moment;
+use server::Server;
 use std::alloc::Global;
 
 /// Answers a request at a moment and applies what it writes.
@@ -27,7 +27,7 @@ pub(crate) fn serve(
     held: &mut Held<Server>,
     request: Request,
     moment: Moment,
-) -> Result<Served, Fault>
+) -> Result<ServedReply, Fault>
     ensures reply { Answers (accept_at (request_of request) held.old.snapshot.members held.old.snapshot.revision moment) result }
     ensures ok { OnOk result (held.new
         ≡ after_writing held.old (outcomes.write_of (accept_at (request_of request) held.old.snapshot.members held.old.snapshot.revision moment))) }
@@ -42,7 +42,7 @@ fn serve_by(
     server: &mut Server,
     request: Request,
     moment: Moment,
-) -> Result<Served, Fault>
+) -> Result<ServedReply, Fault>
     ensures reply { Answers (accept_at (request_of request) server.old.snapshot.members server.old.snapshot.revision moment) result }
     ensures ok { OnOk result (server.new
         ≡ after_writing server.old (outcomes.write_of (accept_at (request_of request) server.old.snapshot.members server.old.snapshot.revision moment))) }
@@ -52,7 +52,7 @@ fn serve_by(
     match server.serve(alloc, request, moment) {
         Ok(reply) => {
             let wrote = server.revision() != before;
-            Ok(Served { reply, wrote })
+            Ok(ServedReply { reply, wrote })
         }
         Err(fault) => Err(fault),
     }

@@ -1,8 +1,8 @@
 //! The states of a store, and how they come of one another.
 use crate::askings::Asking;
-use crate::entries::Entry;
+use crate::entries::StoreEntry;
 use baton::Law;
-use desk::Server;
+use server::Server;
 use std::marker::PhantomData;
 
 /// A store begins with nothing in it and takes in entry after entry. Each write is that of a request that may be asked.
@@ -11,10 +11,10 @@ pub struct StoreLaw<A> {
 }
 
 impl<A: Asking> Law<Server> for StoreLaw<A> {
-    ghost use Rattle.server_state.specs.Servers.{after_entries};
-    ghost use Rattle.shared_desk.specs.Histories.{IsOpening, MayFollow};
+    ghost use Rattle.spec_server.specs.Servers.{after_entries};
+    ghost use Rattle.desk.specs.Histories.{IsOpening, MayFollow};
 
-    type Entry = Entry;
+    type Entry = StoreEntry;
 
     ghost opens = { IsOpening };
 

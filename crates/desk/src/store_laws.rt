@@ -1,5 +1,5 @@
 //! Laws of the histories that passes see.
-ghost use Rattle.shared_desk.specs.Histories.{ReadHistoriesAreReached, HistoriesCanHappen};
+ghost use Rattle.desk.specs.Histories.{ReadHistoriesAreReached, HistoriesCanHappen};
 
 use crate::askings::Asking;
 

@@ -6,12 +6,12 @@ use Rattle.std.specs.List.{list_any, filter}
 use Rattle.std.specs.List.Sorted.{IsStrictlySortedBy}
 use Rattle.std.specs.Map.{keys_of, values_of}
 use Rattle.std.specs.FinMap as map_of
-use Rattle.controllers.specs.WorkQueues as spec
-use Rattle.controllers.proofs.WorkKeyOrder.{name_total, name_tells}
-use Rattle.definitions.specs.Keys.{Key as Name, key_cmp as name_cmp}
-use Rattle.keys.proofs.KeyOrder.{key_cmp-name_cmp}
-use Rattle.keys.specs.Keys.{key_of}
-use Rattle.keys.specs.declared.key.Key.{Key}
+use Rattle.spec_client_go.specs.WorkQueues as spec
+use Rattle.spec_client_go.proofs.WorkKeyOrder.{name_total, name_tells}
+use Rattle.spec_api.specs.Keys.{Key as Name, key_cmp as name_cmp}
+use Rattle.object_keys.proofs.KeyOrder.{key_cmp-name_cmp}
+use Rattle.object_keys.specs.Keys.{key_of}
+use Rattle.object_keys.specs.declared.key.Key.{Key}
 use Rattle.expectations.specs.declared.expectation.Expectation.{Expectation}
 use Rattle.expectations.specs.Aged.{AreAgedOut, replica_set, ages_out, any_ages_out, aged_among}
 use Rattle.expectations.specs.Seen.{uid_cmp, expectation_of, Owners, owners_of, nested_of, flat}

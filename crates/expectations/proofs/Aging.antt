@@ -10,11 +10,11 @@ use Rattle.std.specs.FinMap.{IsAntisymmetric, find, is_sorted, entries_sorted, g
 use Rattle.std.specs.FinMap.Entries.{below_all}
 use Rattle.std.specs.declared.cmp.Ordering.{Ordering}
 use Rattle.std.proofs.lemmas.List.Elements.{Contains-append_right, Contains-append_left, Contains-push, Contains-append_cases, Contains-push_cases}
-use Rattle.definitions.specs.Keys.{Key, key_cmp}
-use Rattle.controllers.specs.Expectations.{Owner, Expectation, is_met, satisfied}
-use Rattle.controllers.specs.WorkQueues.{WorkKey, work_key_cmp}
-use Rattle.controllers.proofs.Alarms.{first, second, less_is_not_equal}
-use Rattle.controllers.proofs.WorkKeyOrder.{name_total, name_tells}
+use Rattle.spec_api.specs.Keys.{Key, key_cmp}
+use Rattle.spec_client_go.specs.Expectations.{Owner, Expectation, is_met, satisfied}
+use Rattle.spec_client_go.specs.WorkQueues.{WorkKey, work_key_cmp}
+use Rattle.spec_client_go.proofs.Alarms.{first, second, less_is_not_equal}
+use Rattle.spec_client_go.proofs.WorkKeyOrder.{name_total, name_tells}
 use Rattle.expectations.specs.Aged.{replica_set, AreAgedOut, ages_out, any_ages_out, aged_among}
 use Rattle.expectations.specs.Seen.{uid_cmp, Owners, Nested, flat}
 use Rattle.expectations.proofs.Flat.{within, get-flat}

@@ -5,11 +5,11 @@ use Rattle.std.specs.Ordering.{eq_by_cmp, is_lt}
 use Rattle.std.specs.FinMap as map_of
 use Rattle.std.specs.FinMap.{find, is_sorted, entries_sorted, get-entries, get-from_entries, get-insert, get-retain_keys, same_map}
 use Rattle.std.specs.FinMap.Entries.{below_all}
-use Rattle.definitions.specs.Keys.{Key, key_cmp, is_same_key}
-use Rattle.controllers.specs.Expectations.{Owner, owner_cmp, Expectation, change, forgotten}
-use Rattle.controllers.proofs.WorkKeyOrder.{name_total, name_tells}
-use Rattle.controllers.proofs.Expected.{owner_total, owner_tells, keys_tied}
-use Rattle.controllers.proofs.Alarms.{first, less_is_not_equal, second, tie_both}
+use Rattle.spec_api.specs.Keys.{Key, key_cmp, is_same_key}
+use Rattle.spec_client_go.specs.Expectations.{Owner, owner_cmp, Expectation, change, forgotten}
+use Rattle.spec_client_go.proofs.WorkKeyOrder.{name_total, name_tells}
+use Rattle.spec_client_go.proofs.Expected.{owner_total, owner_tells, keys_tied}
+use Rattle.spec_client_go.proofs.Alarms.{first, less_is_not_equal, second, tie_both}
 use Rattle.expectations.specs.Seen.{uid_cmp, Owners, Nested, inside, flattened, flat, changed_from, changed_at}
 use Rattle.expectations.proofs.SeenTexts.{uid_total, uid_tells}
 

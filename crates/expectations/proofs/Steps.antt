@@ -9,15 +9,15 @@ use Rattle.std.specs.BTreeMap.{BTreeMap, is_at}
 use Rattle.std.specs.Map.{lookup, KeepsOthers}
 use Rattle.std.specs.FinMap as map_of
 use Rattle.std.specs.FinMap.{get-insert, same_map}
-use Rattle.definitions.specs.Keys.{Key as Name, key_cmp as name_cmp, is_same_key}
-use Rattle.controllers.specs.Expectations as spec
-use Rattle.controllers.specs.Expectations.{Owner, owner_cmp, Table, change, is_met, satisfied, forgotten}
-use Rattle.controllers.proofs.WorkKeyOrder.{name_total, name_tells}
-use Rattle.controllers.proofs.Expected.{owner_total, owner_tells}
-use Rattle.keys.specs.Keys.{key_of}
-use Rattle.keys.specs.declared.key.Key.{Key}
-use Rattle.keys.specs.contracts.key.KeyOrd.TheImpl as key_ord
-use Rattle.keys.proofs.KeyOrder.{key_cmp-name_cmp}
+use Rattle.spec_api.specs.Keys.{Key as Name, key_cmp as name_cmp, is_same_key}
+use Rattle.spec_client_go.specs.Expectations as spec
+use Rattle.spec_client_go.specs.Expectations.{Owner, owner_cmp, Table, change, is_met, satisfied, forgotten}
+use Rattle.spec_client_go.proofs.WorkKeyOrder.{name_total, name_tells}
+use Rattle.spec_client_go.proofs.Expected.{owner_total, owner_tells}
+use Rattle.object_keys.specs.Keys.{key_of}
+use Rattle.object_keys.specs.declared.key.Key.{Key}
+use Rattle.object_keys.specs.contracts.key.KeyOrd.TheImpl as key_ord
+use Rattle.object_keys.proofs.KeyOrder.{key_cmp-name_cmp}
 use Rattle.work_keys.specs.Seen.{seen_map, seen_set}
 use Rattle.work_keys.proofs.SeenMaps as maps
 use Rattle.expectations.specs.declared.expectation.Expectation.{Expectation}

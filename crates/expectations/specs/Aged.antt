@@ -3,10 +3,10 @@ use Rattle.std.specs.Prelude.{◌≡◌, ◌&&◌, ℕ, List, map as list_map, B
 use Rattle.std.specs.List.{list_any, filter}
 use Rattle.std.specs.List.Sorted.{IsStrictlySortedBy}
 use Rattle.std.specs.FinMap as map
-use Rattle.controllers.specs.declared.controller.Controller.TheVariants as controller
-use Rattle.controllers.specs.Expectations.{Owner, Expectation, Table, is_met, satisfied}
-use Rattle.controllers.specs.WorkQueues.{WorkKey, work_key_cmp}
-use Rattle.definitions.specs.Keys.{Key}
+use Rattle.spec_client_go.specs.declared.controller.Controller.TheVariants as controller
+use Rattle.spec_client_go.specs.Expectations.{Owner, Expectation, Table, is_met, satisfied}
+use Rattle.spec_client_go.specs.WorkQueues.{WorkKey, work_key_cmp}
+use Rattle.spec_api.specs.Keys.{Key}
 use Rattle.expectations.specs.Seen.{Owners}
 
 -- the key by which the controller of ReplicaSets looks at one of them

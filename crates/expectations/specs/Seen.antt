@@ -8,13 +8,13 @@ use Rattle.std.specs.Cmp.Lexicographic.{slice_cmp}
 use Rattle.std.specs.BTreeMap.{BTreeMap}
 use Rattle.std.specs.FinMap as map_of
 use Rattle.std.specs.FinSet as set
-use Rattle.codes.specs.HistoryCodes.{coded_key}
-use Rattle.definitions.specs.Keys.{Key as Name, key_cmp}
-use Rattle.controllers.specs.Expectations as spec
-use Rattle.controllers.specs.Expectations.{Owner, owner_cmp, Table, Uids}
+use Rattle.model_encodings.specs.HistoryCodes.{coded_key}
+use Rattle.spec_api.specs.Keys.{Key as Name, key_cmp}
+use Rattle.spec_client_go.specs.Expectations as spec
+use Rattle.spec_client_go.specs.Expectations.{Owner, owner_cmp, Table, Uids}
 use Rattle.expectations.specs.declared.expectation.Expectation.{Expectation}
-use Rattle.keys.specs.Keys.{key_of}
-use Rattle.keys.specs.declared.key.Key.{Key}
+use Rattle.object_keys.specs.Keys.{key_of}
+use Rattle.object_keys.specs.declared.key.Key.{Key}
 use Rattle.work_keys.specs.Seen.{seen_map, seen_set}
 
 abbrev pub uid_cmp : List ℕ → List ℕ → Ordering

@@ -1,7 +1,7 @@
 //! What one ReplicaSet waits for.
 ghost use Rattle.std.specs.Prelude.{◌≡◌, ◌-◌, ◌==◌, ◌&&◌, Some};
 ghost use Rattle.std.specs.FinSet as set;
-ghost use Rattle.controllers.specs.Expectations.{is_met};
+ghost use Rattle.spec_client_go.specs.Expectations.{is_met};
 ghost use Rattle.expectations.specs.Aged.{ages_out};
 ghost use Rattle.expectations.specs.Seen.{expectation_of};
 

@@ -2,7 +2,7 @@
 ghost use Rattle.std.specs.Prelude.{◌≡◌, ◌-◌, OnOk, OnErr, string_bytes};
 ghost use Rattle.std.specs.FinMap as map;
 ghost use Rattle.std.specs.FinSet as set;
-ghost use Rattle.controllers.specs.Expectations.{is_met};
+ghost use Rattle.spec_client_go.specs.Expectations.{is_met};
 ghost use Rattle.expectations.specs.Aged.{any_ages_out};
 ghost use Rattle.expectations.specs.Seen.{owners_of, expectation_of, changed_at};
 

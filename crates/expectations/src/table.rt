@@ -1,8 +1,8 @@
 //! The table of all expectations.
 ghost use Rattle.std.specs.Prelude.{◌≡◌, OnOk, OnErr, string_bytes, map as list_map};
 ghost use Rattle.std.specs.FinMap as map;
-ghost use Rattle.controllers.specs.Expectations.{creations_expected, deletions_expected, created, deleted, satisfied, forgotten};
-ghost use Rattle.keys.specs.Keys.{key_of};
+ghost use Rattle.spec_client_go.specs.Expectations.{creations_expected, deletions_expected, created, deleted, satisfied, forgotten};
+ghost use Rattle.object_keys.specs.Keys.{key_of};
 ghost use Rattle.std.specs.Prelude.{IfOk};
 ghost use Rattle.std.specs.FinSet as set;
 ghost use Rattle.expectations.specs.Aged.{AreAgedOut};
@@ -12,8 +12,8 @@ ghost use Rattle.work_keys.specs.WorkKeys.{work_key_of};
 
 use crate::expectation::Expectation;
 use crate::owners;
-use controllers::controller::Controller;
-use keys::Key;
+use object_keys::Key;
+use spec_client_go::controller::Controller;
 use std::alloc::{AllocError, Global};
 use std::collections::{BTreeMap, BTreeSet};
 use std::marker::Model;
@@ -27,7 +27,7 @@ pub struct Table {
 }
 
 impl Model for Table {
-    ghost use Rattle.controllers.specs.Expectations as spec;
+    ghost use Rattle.spec_client_go.specs.Expectations as spec;
     ghost use Rattle.expectations.specs.Seen.{flat, nested_of, table_code};
 
     ghost Value = { spec.Table };

@@ -7,14 +7,14 @@ use Rattle.serde_json.specs.Data.{depth}
 use Rattle.serde_json.specs.Read.{max_depth}
 use Rattle.serde_json.specs.Written.{compact_text}
 use Rattle.serde_json.proofs.OnLiterals.{serde_json_on_literals}
-use Rattle.definitions.specs.declared.kinds.Kind.{Kind}
-use Rattle.definitions.specs.Kinds as kinds
-use Rattle.definitions.specs.Kinds.{api_version}
-use Rattle.definitions.specs.Frames.{kind_text, frame_data, bookmark_data, bookmark_frame}
-use Rattle.definitions.proofs.EscapedTexts.{length-escape, length-quoted}
-use Rattle.definitions.proofs.KindOrder.{each_kind}
+use Rattle.spec_api.specs.declared.kinds.Kind.{Kind}
+use Rattle.spec_api.specs.Kinds as kinds
+use Rattle.spec_api.specs.Kinds.{api_version}
+use Rattle.spec_api.specs.Frames.{kind_text, frame_data, bookmark_data, bookmark_frame}
+use Rattle.spec_api.proofs.EscapedTexts.{length-escape, length-quoted}
+use Rattle.spec_api.proofs.KindOrder.{each_kind}
 use Rattle.framing.specs.Texts.{IsWithin, framed_text}
-use Rattle.definitions.specs.declared.frames.FrameKind.TheVariants.{Bookmark}
+use Rattle.spec_api.specs.declared.frames.FrameKind.TheVariants.{Bookmark}
 use Rattle.framing.proofs.FrameTexts.{frame_bytes}
 
 -- what stands between the kind and the revision in a bookmark

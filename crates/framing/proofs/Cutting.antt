@@ -4,7 +4,7 @@ use Rattle.std.proofs.lemmas.Bool.{ne_eqb, eqb-true, eqb-false}
 use Rattle.std.proofs.lemmas.List.{take_at}
 use Rattle.std.proofs.Math.Seq.{get_or-append_seam}
 use Rattle.std.specs.List.{AllByRecursion, onto_first}
-use Rattle.controllers.specs.ReadFrames.{cut_at_newlines, lines, rest}
+use Rattle.spec_client_go.specs.ReadFrames.{cut_at_newlines, lines, rest}
 use Rattle.framing.specs.Lines.{IsPartial, Splits, text_of}
 
 -- the whole lines and what follows them, byte after byte

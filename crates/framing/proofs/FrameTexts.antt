@@ -17,12 +17,12 @@ use Rattle.serde_json.specs.Read.{read, of_json, max_depth}
 use Rattle.serde_json.specs.Written.{compact_text, outline, items_outline, members_outline, has_float, IsInOrder}
 use Rattle.serde_json.proofs.Texts.{tokens_from_order, print-outline}
 use Rattle.serde_json.proofs.OnLiterals.{serde_json_on_literals}
-use Rattle.definitions.proofs.TokensOfData.{depth-outline, read_tokens}
-use Rattle.definitions.specs.Frames.{Frame, frame_data, frame_text, kind_text}
-use Rattle.controllers.specs.ReadFrames.{frame_in, line_read, reading, next, longest_frame}
+use Rattle.spec_api.proofs.TokensOfData.{depth-outline, read_tokens}
+use Rattle.spec_api.specs.Frames.{Frame, frame_data, frame_text, kind_text}
+use Rattle.spec_client_go.specs.ReadFrames.{frame_in, line_read, reading, next, longest_frame}
 use Rattle.framing.specs.Texts.{framed_text, IsWithin, ReadsAs}
-use Rattle.definitions.specs.declared.frames.FrameKind.{FrameKind}
-use Rattle.definitions.specs.declared.frames.FrameKind.TheVariants.{Added, Modified, Deleted, Bookmark, Error}
+use Rattle.spec_api.specs.declared.frames.FrameKind.{FrameKind}
+use Rattle.spec_api.specs.declared.frames.FrameKind.TheVariants.{Added, Modified, Deleted, Bookmark, Error}
 use Rattle.framing.proofs.Newlines.{IsPartial-from_flat, flat-compact_text}
 use Rattle.framing.proofs.OneLine.{line_read_is}
 use Rattle.framing.proofs.Reading.{reading-line}

@@ -6,12 +6,12 @@ use Rattle.std.proofs.lemmas.List.{drop-drop, drop_all, map-append}
 use Rattle.serde_json.specs.Data.{Data}
 use Rattle.serde_json.specs.Read.{read}
 use Rattle.framing.specs.Lines.{IsPartial}
-use Rattle.definitions.specs.Frames.{Frame as Event}
-use Rattle.controllers.specs.ReadFrames.{frame_in, frame_of_line, line_read, frame_or_fault, longest_frame, reading, onto, next}
+use Rattle.spec_api.specs.Frames.{Frame as Event}
+use Rattle.spec_client_go.specs.ReadFrames.{frame_in, frame_of_line, line_read, frame_or_fault, longest_frame, reading, onto, next}
 use Rattle.framing.specs.Decoders.{given, event_of, events_of}
 use Rattle.framing.specs.declared.frames.Frame.{Frame}
-use Rattle.controllers.specs.declared.frame_fault.FrameFault.{FrameFault}
-use Rattle.controllers.specs.declared.frame_fault.FrameFault.TheVariants.{NotAFrame, TooLong}
+use Rattle.spec_client_go.specs.declared.frame_fault.FrameFault.{FrameFault}
+use Rattle.spec_client_go.specs.declared.frame_fault.FrameFault.TheVariants.{NotAFrame, TooLong}
 use Rattle.framing.proofs.Reading.{reading-line, reading-short, reading-long}
 
 pub line_read_is : (l : List ℕ) (d : Data) (o : Option Event) → length l < longest_frame → IsUtf8 l → read l ≡ Some d → o ≡ frame_in d → frame_or_fault o ≡ line_read l

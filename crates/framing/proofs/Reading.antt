@@ -2,12 +2,12 @@
 use Rattle.std.proofs.Common.{◌≡◌, ◌<◌, ◌≤◌, ◌↔◌, ℕ, List, [], ◌∷◌, ◌++◌, length, flat_map, nat_lt, Bool, true, false, cond, Some, None, Result, Ok, Err, IsOk, refl, sym, ap, ◌∙◌, append_assoc, append-nil, arith, length-append}
 use Rattle.std.specs.List.{AllByRecursion}
 use Rattle.framing.specs.Lines.{IsPartial}
-use Rattle.definitions.specs.Frames.{Frame, frame_text}
-use Rattle.controllers.specs.ReadFrames.{Read, lines, rest, reading, read_lines, line_read, holding, failed, onto, next, longest_frame}
+use Rattle.spec_api.specs.Frames.{Frame, frame_text}
+use Rattle.spec_client_go.specs.ReadFrames.{Read, lines, rest, reading, read_lines, line_read, holding, failed, onto, next, longest_frame}
 use Rattle.framing.specs.Texts.{ReadsAs, ReadsAll}
 use Rattle.framing.specs.Decoders.{fed, opened, left, all_fed}
-use Rattle.controllers.specs.declared.frame_fault.FrameFault.{FrameFault}
-use Rattle.controllers.specs.declared.frame_fault.FrameFault.TheVariants.{TooLong}
+use Rattle.spec_client_go.specs.declared.frame_fault.FrameFault.{FrameFault}
+use Rattle.spec_client_go.specs.declared.frame_fault.FrameFault.TheVariants.{TooLong}
 use Rattle.framing.proofs.Cutting.{lines-append, rest-append, lines-line, rest-line, lines-partial, rest-partial, Splits-lines, before, before_rest, lines_before, rest_before}
 
 -- a line first

@@ -2,10 +2,10 @@
 use Rattle.std.proofs.Common.{◌≡◌, ℕ, List, Option, Some, None, option_map, codes, Bool, true, false, cond, length, ◌==◌, refl}
 use Rattle.serde_json.specs.Data.{number, unsigned, string, object, no_members, member}
 use Rattle.serde_json.specs.Written.{has_float}
-use Rattle.definitions.specs.declared.kinds.Kind.{Kind}
-use Rattle.definitions.specs.Kinds.{group_name, plural}
-use Rattle.definitions.specs.Keys.{Key}
-use Rattle.definitions.specs.Refusals.{Refusal, code, message, told, details, with_optional, status_body}
+use Rattle.spec_api.specs.declared.kinds.Kind.{Kind}
+use Rattle.spec_api.specs.Kinds.{group_name, plural}
+use Rattle.spec_api.specs.Keys.{Key}
+use Rattle.spec_api.specs.Refusals.{Refusal, code, message, told, details, with_optional, status_body}
 
 details_clean : (kind : Kind) (ns name : List ℕ) → has_float (details (record { kind = kind; namespace = ns; name = name }) no_members) ≡ false
 details_clean kind ns name = by (length (group_name kind) == 0)

@@ -2,11 +2,11 @@
 use Rattle.std.specs.Prelude.{ℕ, List, [], ◌∷◌, ◌++◌, map, Option, Some, None, refl}
 use Rattle.std.specs.Coded.{Coded, code_by, coded×, coded_option}
 use Rattle.serde_json.specs.View.{view}
-use Rattle.codes.specs.Codes.{coded_text}
-use Rattle.definitions.specs.Frames.{Frame as Event}
-use Rattle.controllers.specs.ReadFrames.{Read, reading, failed, onto}
-use Rattle.controllers.specs.declared.frame_fault.FrameFault.{FrameFault}
-use Rattle.controllers.specs.contracts.frame_fault.FrameFault as fault
+use Rattle.model_encodings.specs.Codes.{coded_text}
+use Rattle.spec_api.specs.Frames.{Frame as Event}
+use Rattle.spec_client_go.specs.ReadFrames.{Read, reading, failed, onto}
+use Rattle.spec_client_go.specs.declared.frame_fault.FrameFault.{FrameFault}
+use Rattle.spec_client_go.specs.contracts.frame_fault.FrameFault as fault
 use Rattle.framing.specs.declared.frames.Frame.{Frame}
 
 -- the bytes buffered of a line that is not whole, or the fault that is final

@@ -1,8 +1,8 @@
 -- Laws of lines and frames.
 use Rattle.std.specs.Prelude.{◌++◌, ◌≡◌, ◌<◌, ◌↔◌, ℕ, List, flat_map, length, None, IsOk}
 use Rattle.std.specs.List.{AllByRecursion}
-use Rattle.definitions.specs.Frames.{Frame, frame_text}
-use Rattle.controllers.specs.ReadFrames.{lines, rest, reading, line_read, longest_frame}
+use Rattle.spec_api.specs.Frames.{Frame, frame_text}
+use Rattle.spec_client_go.specs.ReadFrames.{lines, rest, reading, line_read, longest_frame}
 use Rattle.framing.specs.Lines.{Splits}
 use Rattle.framing.specs.Texts.{ReadsAs, ReadsAll}
 use Rattle.framing.specs.Decoders.{opened, all_fed}

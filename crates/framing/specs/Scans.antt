@@ -1,7 +1,7 @@
 -- What one line was read as.
 use Rattle.std.specs.Prelude.{◌≡◌, Result, Ok, Err}
-use Rattle.definitions.specs.Frames.{Frame as Event}
-use Rattle.controllers.specs.declared.frame_fault.FrameFault.{FrameFault}
+use Rattle.spec_api.specs.Frames.{Frame as Event}
+use Rattle.spec_client_go.specs.declared.frame_fault.FrameFault.{FrameFault}
 use Rattle.framing.specs.Decoders.{event_of}
 use Rattle.framing.specs.declared.frames.Frame.{Frame}
 

@@ -3,8 +3,8 @@ use Rattle.std.specs.Prelude.{◌≡◌, ◌≤◌, ℕ, List, [], ◌∷◌, �
 use Rattle.serde_json.specs.Data.{depth}
 use Rattle.serde_json.specs.Find.{as_object}
 use Rattle.serde_json.specs.Read.{max_depth}
-use Rattle.definitions.specs.Frames.{Frame, frame_data, frame_text}
-use Rattle.controllers.specs.ReadFrames.{longest_frame, reading, onto}
+use Rattle.spec_api.specs.Frames.{Frame, frame_data, frame_text}
+use Rattle.spec_client_go.specs.ReadFrames.{longest_frame, reading, onto}
 
 -- the line of a frame, from the texts of its kind and its object
 abbrev pub framed_text : List ℕ → List ℕ → List ℕ

@@ -5,7 +5,7 @@ ghost use Rattle.framing.specs.Decoders.{opened, fed, left, events_of};
 use crate::frames::Frame;
 use crate::lines::{keep_last, read_lines};
 use crate::wants::Want;
-use controllers::frame_fault::FrameFault;
+use spec_client_go::frame_fault::FrameFault;
 use std::alloc::Global;
 use std::marker::Model;
 

@@ -1,7 +1,7 @@
 //! Frames that were read.
 
-use definitions::frames::FrameKind;
 use serde_json::Value;
+use spec_api::frames::FrameKind;
 
 /// A frame that was read: its type and its object.
 #[derive(Drop)]

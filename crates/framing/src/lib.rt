@@ -9,9 +9,9 @@ pub mod scan;
 pub mod texts;
 pub mod wants;
 
-pub use controllers::frame_fault::FrameFault;
 pub use decoder::{Decoded, Decoder};
-use definitions::frames::FrameKind;
 pub use frames::Frame;
+use spec_api::frames::FrameKind;
+pub use spec_client_go::frame_fault::FrameFault;
 pub use texts::{added_text, bookmark_text, error_text, frame_text};
 pub use wants::Want;

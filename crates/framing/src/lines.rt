@@ -1,13 +1,13 @@
 //! The frames of whole lines.
 ghost use Rattle.std.specs.Prelude.{◌≡◌, ◌≤◌, ◌-◌, IfOk, length, take, drop, vec_len};
-ghost use Rattle.controllers.specs.ReadFrames.{reading};
+ghost use Rattle.spec_client_go.specs.ReadFrames.{reading};
 ghost use Rattle.framing.specs.Lines.{IsPartial};
 ghost use Rattle.framing.specs.Decoders.{events_of, given};
 
 use crate::frames::Frame;
 use crate::scan::{LONGEST_FRAME, first_newline, read_line};
 use crate::wants::Want;
-use controllers::frame_fault::FrameFault;
+use spec_client_go::frame_fault::FrameFault;
 use std::alloc::Global;
 
 /// What bytes gave: frames, and then how many bytes are left of a line that is not whole, or a fault.

@@ -3,16 +3,16 @@ ghost use Rattle.std.specs.Prelude.{◌≡◌, ◌≤◌, ◌<◌, ◌+◌, ◌+
 ghost use Rattle.serde_json.specs.View.{view};
 ghost use Rattle.serde_json.specs.Find.{get};
 ghost use Rattle.framing.specs.Lines.{IsPartial};
-ghost use Rattle.controllers.specs.ReadFrames.{object_at, frame_in, line_read};
+ghost use Rattle.spec_client_go.specs.ReadFrames.{object_at, frame_in, line_read};
 ghost use Rattle.framing.specs.Decoders.{event_of};
 ghost use Rattle.framing.specs.Scans.{IsRead};
 
 use crate::frames::Frame;
 use crate::wants::Want;
-use controllers::frame_fault::FrameFault;
-use definitions::frames::FrameKind;
 use memchr::memchr;
 use serde_json::{Category, Value};
+use spec_api::frames::FrameKind;
+use spec_client_go::frame_fault::FrameFault;
 use std::alloc::Global;
 
 /// The most bytes of a frame, its newline counted.

@@ -3,19 +3,19 @@ ghost use Rattle.std.specs.Prelude.{◌≡◌, IfOk, false, string_bytes};
 ghost use Rattle.serde_json.specs.View.{view};
 ghost use Rattle.serde_json.specs.Data.{object};
 ghost use Rattle.serde_json.specs.Written.{has_float};
-ghost use Rattle.definitions.specs.Frames.{kind_text, frame_text, bookmark_metadata, bookmark_data, bookmark_frame, error_frame};
-ghost use Rattle.definitions.specs.declared.frames.FrameKind.TheVariants.{Added};
-ghost use Rattle.keys.specs.Faults.{refusal_of};
+ghost use Rattle.spec_api.specs.Frames.{kind_text, frame_text, bookmark_metadata, bookmark_data, bookmark_frame, error_frame};
+ghost use Rattle.spec_api.specs.declared.frames.FrameKind.TheVariants.{Added};
+ghost use Rattle.object_keys.specs.Faults.{refusal_of};
 ghost use Rattle.framing.specs.Events.{event_seen};
 ghost use Rattle.framing.specs.Texts.{framed_text, IsWithin, ReadsAs};
 
-use definitions::frames::FrameKind;
-use definitions::kinds::Kind;
-use events::Event;
-use keys::Fault;
 use meta::StoredObject;
+use object_keys::Fault;
 use serde_json::{Value, json};
+use spec_api::frames::FrameKind;
+use spec_api::kinds::Kind;
 use std::alloc::{AllocError, Global};
+use watch_events::Event;
 
 /// Returns the line of a frame whose object has this text.
 fn framed(alloc: Global, kind: FrameKind, object: &str) -> Result<String, AllocError>

@@ -1,24 +1,24 @@
 -- What the owner of a server is told.
 use Rattle.std.proofs.Common.{◌≡◌, ◌⊎◌, inl, inr, ℕ, List, Option, Some, None, Result, Ok, Err, refl, sym, ap, ap₂, ◌∙◌}
-use Rattle.definitions.specs.History.{View, Entries, viewed}
-use Rattle.definitions.specs.ObjectRequests.{Request}
-use Rattle.definitions.specs.Refusals.{Refusal, no_memory}
-use Rattle.definitions.specs.Verbs.{Outcome, answered, refused, write_of, accept_at}
-use Rattle.definitions.specs.Versions.{Listed, listed_as, once_present}
-use Rattle.definitions.specs.WatchReplies.{initial_from}
-use Rattle.desk.proofs.Begun.{served_once, refused_once}
-use Rattle.desk.specs.Initials.{initial_of}
-use Rattle.desk.specs.Replies.{Replies}
-use Rattle.desk.specs.declared.initials.InitialEvents.{InitialEvents}
-use Rattle.keys.specs.Faults.{refusal_of}
-use Rattle.keys.specs.declared.fault.Fault.{Fault}
-use Rattle.keys.specs.declared.fault.Fault.TheVariants as fault
+use Rattle.spec_api.specs.History.{View, Entries, viewed}
+use Rattle.spec_api.specs.ObjectRequests.{Request}
+use Rattle.spec_api.specs.Refusals.{Refusal, no_memory}
+use Rattle.spec_api.specs.Verbs.{Outcome, answered, refused, write_of, accept_at}
+use Rattle.spec_api.specs.Versions.{Listed, listed_as, once_present}
+use Rattle.spec_api.specs.WatchReplies.{initial_from}
+use Rattle.server.proofs.Begun.{served_once, refused_once}
+use Rattle.server.specs.Initials.{initial_of}
+use Rattle.server.specs.Replies.{Replies}
+use Rattle.server.specs.declared.initials.InitialEvents.{InitialEvents}
+use Rattle.object_keys.specs.Faults.{refusal_of}
+use Rattle.object_keys.specs.declared.fault.Fault.{Fault}
+use Rattle.object_keys.specs.declared.fault.Fault.TheVariants as fault
 use Rattle.watch_cache.specs.Served.{Serves}
 use Rattle.reply.specs.declared.reply.Reply.{Reply}
-use Rattle.server_state.specs.Servers.{Server, after_writing, initial_by}
-use Rattle.watch_service.specs.Given.{GivesBegun, there_from}
-use Rattle.sites.specs.Alone.{CallsAlone, BeginsAlone}
-use Rattle.sites.specs.Told.{Tells}
+use Rattle.spec_server.specs.Servers.{Server, after_writing, initial_by}
+use Rattle.http_watch.specs.Given.{GivesBegun, there_from}
+use Rattle.http_backend.specs.Alone.{CallsAlone, BeginsAlone}
+use Rattle.http_backend.specs.Told.{Tells}
 
 -- ---- requests
 

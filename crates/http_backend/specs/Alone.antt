@@ -1,13 +1,13 @@
 -- What a server answers that one thread owns: what its state says, or that memory ran out, which changes nothing.
 use Rattle.std.specs.Prelude.{◌≡◌, ◌⊎◌, ℕ, List, Option, Result, Err}
-use Rattle.definitions.specs.ListQueries.{ListOptions}
-use Rattle.definitions.specs.History.{View, viewed}
-use Rattle.server_state.specs.Servers.{list_served, Server, after_writing, watch_by}
-use Rattle.definitions.specs.Refusals.{Refusal, no_memory}
-use Rattle.definitions.specs.Verbs.{Outcome, refused, write_of, accept_at}
-use Rattle.definitions.specs.ObjectRequests.{Request}
-use Rattle.definitions.specs.Versions.{Listed, Watched}
-use Rattle.watch_service.specs.Given.{there_from}
+use Rattle.spec_api.specs.ListQueries.{ListOptions}
+use Rattle.spec_api.specs.History.{View, viewed}
+use Rattle.spec_server.specs.Servers.{list_served, Server, after_writing, watch_by}
+use Rattle.spec_api.specs.Refusals.{Refusal, no_memory}
+use Rattle.spec_api.specs.Verbs.{Outcome, refused, write_of, accept_at}
+use Rattle.spec_api.specs.ObjectRequests.{Request}
+use Rattle.spec_api.specs.Versions.{Listed, Watched}
+use Rattle.http_watch.specs.Given.{there_from}
 
 -- the outcome of a request, whose write is then written
 abbrev pub CallsAlone : Server → Request → List ℕ → Outcome → Server → Type 0

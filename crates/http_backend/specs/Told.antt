@@ -1,9 +1,9 @@
 -- What a site answers, as the definitions say it.
 use Rattle.std.specs.Prelude.{Result, Ok, Err}
-use Rattle.definitions.specs.Verbs.{Answer, Outcome, answered, refused}
-use Rattle.desk.specs.Replies.{Says}
-use Rattle.keys.specs.Faults.{refusal_of}
-use Rattle.keys.specs.declared.fault.Fault.{Fault}
+use Rattle.spec_api.specs.Verbs.{Answer, Outcome, answered, refused}
+use Rattle.server.specs.Replies.{Says}
+use Rattle.object_keys.specs.Faults.{refusal_of}
+use Rattle.object_keys.specs.declared.fault.Fault.{Fault}
 use Rattle.reply.specs.declared.reply.Reply.{Reply}
 
 -- the result says an outcome that is so

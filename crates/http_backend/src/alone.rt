@@ -1,22 +1,22 @@
 //! What a server answers that one thread owns.
-ghost use Rattle.requests.specs.Collected.{list_seen};
+ghost use Rattle.request_parts.specs.Collected.{list_seen};
 ghost use Rattle.revisions.specs.Watches.{watched_of};
 ghost use Rattle.selector.specs.Views.{view_of};
-ghost use Rattle.sites.specs.Alone.{CallsAlone, ListsAlone, WatchesAlone, BeginsAlone};
-ghost use Rattle.sites.specs.Told.{Tells};
-ghost use Rattle.requests.specs.Requests.{request_of};
-ghost use Rattle.watch_service.specs.Given.{Gives, GivesBegun};
+ghost use Rattle.http_backend.specs.Alone.{CallsAlone, ListsAlone, WatchesAlone, BeginsAlone};
+ghost use Rattle.http_backend.specs.Told.{Tells};
+ghost use Rattle.request_parts.specs.Requests.{request_of};
+ghost use Rattle.http_watch.specs.Given.{Gives, GivesBegun};
 
-use desk::Server;
-use keys::Fault;
+use http_watch::Begun;
+use metadata_values::moments::Moment;
+use object_keys::Fault;
 use reply::Reply;
-use requests::Request;
-use requests::list_options::ListOptions;
-use revisions::Watched;
+use request_parts::Request;
+use request_parts::list_options::ListOptions;
+use revisions::WatchedEvents;
 use selector::View;
-use stamps::moments::Moment;
+use server::Server;
 use std::alloc::Global;
-use watch_service::Begun;
 
 /// Answers a request at a moment, after which what it writes is written.
 pub(crate) fn call(
@@ -56,7 +56,7 @@ pub(crate) fn watch_from(
     view: &View,
     after: u64,
     most: usize,
-) -> Result<Watched, Fault>
+) -> Result<WatchedEvents, Fault>
     ensures { Gives watched_of (λ w. WatchesAlone server.now (view_of view.now) after most w server.now) result }
 {
     match server.watch_from(alloc, view, after, most) {

@@ -1,22 +1,22 @@
 //! What a connection asks of a server.
 ghost use Rattle.std.specs.Prelude.{ℕ, List};
-ghost use Rattle.definitions.specs.ListQueries as collections;
-ghost use Rattle.definitions.specs.History as history;
-ghost use Rattle.definitions.specs.ObjectRequests as requests;
-ghost use Rattle.definitions.specs.Verbs.{Outcome};
-ghost use Rattle.requests.specs.Collected.{list_seen};
+ghost use Rattle.spec_api.specs.ListQueries as collections;
+ghost use Rattle.spec_api.specs.History as history;
+ghost use Rattle.spec_api.specs.ObjectRequests as requests;
+ghost use Rattle.spec_api.specs.Verbs.{Outcome};
+ghost use Rattle.request_parts.specs.Collected.{list_seen};
 ghost use Rattle.selector.specs.Views.{view_of};
-ghost use Rattle.sites.specs.Told.{Tells};
-ghost use Rattle.requests.specs.Requests.{request_of};
+ghost use Rattle.http_backend.specs.Told.{Tells};
+ghost use Rattle.request_parts.specs.Requests.{request_of};
 
-use keys::Fault;
+use http_watch::WatchSource;
+use metadata_values::moments::Moment;
+use object_keys::Fault;
 use reply::Reply;
-use requests::Request;
-use requests::list_options::ListOptions;
+use request_parts::Request;
+use request_parts::list_options::ListOptions;
 use selector::View;
-use stamps::moments::Moment;
 use std::alloc::Global;
-use watch_service::WatchSource;
 
 /// A server as a connection asks it. Others may write between two calls, so that what a call answers is a relation between what
 /// the site has seen before it and after it. Out of memory is an outcome as each refusal is.

@@ -1,17 +1,17 @@
 //! The owner of a server.
 use crate::alone;
 use crate::site::Site;
-use desk::Server;
-use keys::Fault;
+use http_watch::{Begun, WatchSource};
+use metadata_values::moments::Moment;
+use object_keys::Fault;
 use reply::Reply;
-use requests::Request;
-use requests::list_options::ListOptions;
-use revisions::Watched;
+use request_parts::Request;
+use request_parts::list_options::ListOptions;
+use revisions::WatchedEvents;
 use selector::View;
-use stamps::moments::Moment;
+use server::Server;
 use std::alloc::Global;
 use std::marker::Model;
-use watch_service::{Begun, WatchSource};
 
 /// A server that nobody else uses.
 #[derive(Drop)]
@@ -20,8 +20,8 @@ pub struct Solo {
 }
 
 impl Model for Solo {
-    ghost use Rattle.server_state.specs.Servers as servers;
-    ghost use Rattle.server_state.specs.Codes.{coded_server};
+    ghost use Rattle.spec_server.specs.Servers as servers;
+    ghost use Rattle.spec_server.specs.Codes.{coded_server};
 
     ghost Value = { servers.Server };
 
@@ -42,7 +42,7 @@ impl Solo {
 }
 
 impl WatchSource for Solo {
-    ghost use Rattle.sites.specs.Alone.{WatchesAlone, BeginsAlone};
+    ghost use Rattle.http_backend.specs.Alone.{WatchesAlone, BeginsAlone};
 
     ghost Watches = { WatchesAlone };
 
@@ -54,7 +54,7 @@ impl WatchSource for Solo {
         view: &View,
         after: u64,
         most: usize,
-    ) -> Result<Watched, Fault> {
+    ) -> Result<WatchedEvents, Fault> {
         match alone::watch_from(alloc, &self.server, view, after, most) {
             Ok(watched) => Ok(watched),
             Err(fault) => Err(fault),
@@ -70,7 +70,7 @@ impl WatchSource for Solo {
 }
 
 impl Site for Solo {
-    ghost use Rattle.sites.specs.Alone.{CallsAlone, ListsAlone};
+    ghost use Rattle.http_backend.specs.Alone.{CallsAlone, ListsAlone};
 
     ghost Calls = { CallsAlone };
 

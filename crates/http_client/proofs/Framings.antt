@@ -1,9 +1,9 @@
 -- How the end of a body is known by the fields of its head.
 use Rattle.std.proofs.Common.{◌≡◌, ℕ, List, [], ◌∷◌, length, Bool, true, codes, sym, ap, ◌∙◌, arith}
 use Rattle.std.specs.Str.{str_eq_ignore_ascii_case}
-use Rattle.connections.specs.Heads.{Field}
-use Rattle.client.specs.Heads.{IsFramed, codings_in}
-use Rattle.client.specs.declared.framing.Framing.TheVariants as framing
+use Rattle.spec_http_server.specs.Heads.{Field}
+use Rattle.http_client.specs.Heads.{IsFramed, codings_in}
+use Rattle.http_client.specs.declared.framing.Framing.TheVariants as framing
 
 -- the first is the only one
 alone : (vs rest : List (List ℕ)) (v : List ℕ) (n : ℕ) → vs ≡ v ∷ rest → n ≡ length vs → n ≡ 1 → vs ≡ v ∷ []

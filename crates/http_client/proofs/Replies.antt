@@ -6,16 +6,16 @@ use Rattle.httparse.specs.Grammar.{ResponseHead, print_response, ReadsResponse, 
 use Rattle.httparse.proofs.GrammarLemmas.{response_unique, ReadsResponse-append}
 use Rattle.chunked.specs.Bodies.{IsBodyWithin}
 use Rattle.chunked.specs.Reading.{longest_line}
-use Rattle.exchanges.specs.Answers.{Replied, Says, HasLength, IsChunked, fields_of, transfer_codings, OpensWatch}
-use Rattle.client.specs.Heads.{BeginsWithNoHead, SaysNothing, IsFramed, IsHeadOf}
-use Rattle.client.specs.Reading.{IfKnown, IsShorterThan, ReadsHead, ReadsLongerHead}
-use Rattle.client.specs.Bodies.{ReadsBody, HasNoBody, HasLongBody, IsStatedWithin}
-use Rattle.client.specs.Replies.{ReadsReply, SaysInChunks, SaysWhole, SaysNoReply, IsNoBody, IsLonger}
-use Rattle.client.specs.Watches.{OpensNothing}
-use Rattle.client.proofs.WholeBodies.{body_there}
-use Rattle.client.specs.declared.framing.Framing.{Framing}
-use Rattle.client.specs.declared.framing.Framing.TheVariants as framing
-use Rattle.client.specs.declared.reply_head.ReplyHead.{ReplyHead}
+use Rattle.spec_http_client.specs.Answers.{Replied, Says, HasLength, IsChunked, fields_of, transfer_codings, OpensWatch}
+use Rattle.http_client.specs.Heads.{BeginsWithNoHead, SaysNothing, IsFramed, IsHeadOf}
+use Rattle.http_client.specs.Reading.{IfKnown, IsShorterThan, ReadsHead, ReadsLongerHead}
+use Rattle.http_client.specs.Bodies.{ReadsBody, HasNoBody, HasLongBody, IsStatedWithin}
+use Rattle.http_client.specs.Replies.{ReadsReply, SaysInChunks, SaysWhole, SaysNoReply, IsNoBody, IsLonger}
+use Rattle.http_client.specs.Watches.{OpensNothing}
+use Rattle.http_client.proofs.WholeBodies.{body_there}
+use Rattle.http_client.specs.declared.framing.Framing.{Framing}
+use Rattle.http_client.specs.declared.framing.Framing.TheVariants as framing
+use Rattle.http_client.specs.declared.reply_head.ReplyHead.{ReplyHead}
 
 -- ---- a reply
 

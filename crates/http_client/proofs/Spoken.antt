@@ -5,13 +5,13 @@ use Rattle.httparse.proofs.GrammarLemmas.{response_unique, ReadsResponse-append}
 use Rattle.chunked.specs.Bodies.{IsBodyWithin, joined}
 use Rattle.chunked.specs.Reading.{longest_line}
 use Rattle.chunked.proofs.Bodies.{one_body}
-use Rattle.connections.specs.Replies.{response_text}
-use Rattle.exchanges.specs.Answers.{Replied, Says, HasLength, IsChunked, transfer_codings}
-use Rattle.exchanges.specs.Laws.{IsReply}
-use Rattle.exchanges.proofs.Read.{one_reply, written_read, cut_lost}
-use Rattle.client.specs.Laws.{OneWholeReplyIsSaid, WrittenRepliesAreWhole, CutRepliesAreNotWhole, LongerRepliesAreBeyond}
-use Rattle.client.specs.Heads.{StatesLonger}
-use Rattle.client.specs.Replies.{SaysInChunks, SaysWhole, IsBodyLonger}
+use Rattle.spec_http_server.specs.Replies.{response_text}
+use Rattle.spec_http_client.specs.Answers.{Replied, Says, HasLength, IsChunked, transfer_codings}
+use Rattle.spec_http_client.specs.Laws.{IsReply}
+use Rattle.spec_http_client.proofs.Read.{one_reply, written_read, cut_lost}
+use Rattle.http_client.specs.Laws.{OneWholeReplyIsSaid, WrittenRepliesAreWhole, CutRepliesAreNotWhole, LongerRepliesAreBeyond}
+use Rattle.http_client.specs.Heads.{StatesLonger}
+use Rattle.http_client.specs.Replies.{SaysInChunks, SaysWhole, IsBodyLonger}
 
 abbrev reply : ℕ → List ℕ → Replied
 reply c b = record { code = c; body = b }

@@ -1,10 +1,10 @@
 -- Watches, read to their end.
 use Rattle.std.proofs.Common.{◌≡◌, ℕ, List, [], Option, None, take, ap, subst}
 use Rattle.chunked.specs.Reading.{Reaches, place_of, answered_fault, left_of}
-use Rattle.chunked.specs.declared.place.Place.TheVariants as place
+use Rattle.chunked.specs.declared.place.BodyPlace.TheVariants as place
 use Rattle.chunked.specs.declared.reader.Reader.{Reader}
-use Rattle.client.specs.Watches.{IsMore}
-use Rattle.client.specs.declared.more.More.TheVariants as more
+use Rattle.http_client.specs.Watches.{IsMore}
+use Rattle.http_client.specs.declared.more.More.TheVariants as more
 
 -- nothing more was read of a watch, which has ended
 pub ended_there : {R : Type 0} → (remaining : R → Option (List ℕ)) (old new : Reader R) (buf : List ℕ) (n : ℕ) → n ≡ 0

@@ -4,12 +4,12 @@ use Rattle.std.proofs.KnownBytes.{Consumes-trans}
 use Rattle.chunked.specs.Bodies.{IsBodyWithin, joined}
 use Rattle.chunked.specs.Reading.{IsLeft, Passes, Reaches, Stops, longest_line}
 use Rattle.chunked.specs.declared.fault.ChunkFault.TheVariants as fault
-use Rattle.chunked.specs.declared.place.Place.{Place}
-use Rattle.chunked.specs.declared.place.Place.TheVariants as place
-use Rattle.client.specs.Reading.{IfKnown}
-use Rattle.client.specs.Replies.{IsNoBody, IsBodyLonger}
+use Rattle.chunked.specs.declared.place.BodyPlace.{BodyPlace}
+use Rattle.chunked.specs.declared.place.BodyPlace.TheVariants as place
+use Rattle.http_client.specs.Reading.{IfKnown}
+use Rattle.http_client.specs.Replies.{IsNoBody, IsBodyLonger}
 
-passes_more : (p q s : Place) (front back first second : List ℕ) → Passes p front first q → Passes q back second s → Passes p (front ++ back) (first ++ second) s
+passes_more : (p q s : BodyPlace) (front back first second : List ℕ) → Passes p front first q → Passes q back second s → Passes p (front ++ back) (first ++ second) s
 passes_more p q s front back first second a b = (
   λ longest tail more rest le h.
       let whole = a.0 longest (back ++ tail) (second ++ more) rest le (b.0 longest tail more rest le h) in
@@ -22,33 +22,33 @@ passes_more p q s front back first second a b = (
 )
 
 -- one piece after another
-pub reaches_more : (before mid after : Option (List ℕ)) (p q s : Place) (first second new : List ℕ) → Reaches p before first q mid → Reaches q mid second s after → new ≡ first ++ second
+pub reaches_more : (before mid after : Option (List ℕ)) (p q s : BodyPlace) (first second new : List ℕ) → Reaches p before first q mid → Reaches q mid second s after → new ≡ first ++ second
     → Reaches p before new s after
 reaches_more before mid after p q s first second new a b e =
     subst (λ t. Reaches p before t s after) (sym e) (a.0 ++ b.0, Consumes-trans before mid after a.0 b.0 a.1 b.1, passes_more p q s a.0 b.0 first second a.2 b.2)
 
 -- a body that is left after what was read
-on_left : (p : Place) (read content tail : List ℕ) (chunks : List (List ℕ)) (rest : List ℕ) → Passes place.Line read content p → IsBodyWithin longest_line chunks (read ++ tail) rest
+on_left : (p : BodyPlace) (read content tail : List ℕ) (chunks : List (List ℕ)) (rest : List ℕ) → Passes place.Line read content p → IsBodyWithin longest_line chunks (read ++ tail) rest
     → (more : List ℕ) × IsLeft longest_line p tail more rest
 on_left p read content tail chunks rest passes body =
     let on = passes.1 longest_line tail (joined chunks) rest (chunks, body, refl) in
     (on.0, on.2)
 
 -- what stops by the peer was no body
-stops_malformed : (p : Place) (xs ys content : List ℕ) (after : Option (List ℕ)) → Reaches place.Line (Some xs) content p (Some ys) → Stops p (Some ys) after fault.Malformed → IsNoBody xs
+stops_malformed : (p : BodyPlace) (xs ys content : List ℕ) (after : Option (List ℕ)) → Reaches place.Line (Some xs) content p (Some ys) → Stops p (Some ys) after fault.Malformed → IsNoBody xs
 stops_malformed p xs ys content None reaches stops = absurd stops.1
 stops_malformed p xs ys content (Some zs) (read, consumes, passes) (bytes, next, never) = λ chunks rest body.
     let on = on_left p read content ys chunks rest passes (subst (λ b. IsBodyWithin longest_line chunks b rest) consumes body) in
     never zs (on.0, rest, subst (λ t. IsLeft longest_line p t on.0 rest) next on.1)
 
-stops_truncated : (p : Place) (xs ys content : List ℕ) (after : Option (List ℕ)) → Reaches place.Line (Some xs) content p (Some ys) → Stops p (Some ys) after fault.Truncated → IsNoBody xs
+stops_truncated : (p : BodyPlace) (xs ys content : List ℕ) (after : Option (List ℕ)) → Reaches place.Line (Some xs) content p (Some ys) → Stops p (Some ys) after fault.Truncated → IsNoBody xs
 stops_truncated p xs ys content None reaches stops = absurd stops.1
 stops_truncated p xs ys content (Some zs) (read, consumes, passes) stops = λ chunks rest body.
     let on = on_left p read content ys chunks rest passes (subst (λ b. IsBodyWithin longest_line chunks b rest) consumes body) in
     let all : ys ≡ stops.0 = stops.1 ∙ ap (λ t. stops.0 ++ t) stops.2 ∙ append-nil stops.0 in
     stops.3 longest_line (on.0, rest, subst (λ t. IsLeft longest_line p t on.0 rest) all on.1)
 
-pub stopped : (before mid after : Option (List ℕ)) (p : Place) (content : List ℕ) → Reaches place.Line before content p mid
+pub stopped : (before mid after : Option (List ℕ)) (p : BodyPlace) (content : List ℕ) → Reaches place.Line before content p mid
     → (Stops p mid after fault.Malformed) ⊎ (Stops p mid after fault.Truncated) → IfKnown before IsNoBody
 stopped None mid after p content reaches stops = tt
 stopped (Some xs) None after p content reaches stops = absurd reaches.1
@@ -64,7 +64,7 @@ body_there xs (Some ys) content (read, consumes, passes) =
     (whole.0, ys, subst (λ b. IsBodyWithin longest_line whole.0 b ys) (sym consumes) whole.1, sym (append-nil content) ∙ whole.2)
 
 -- what was read is longer than the limit, and so is any body that begins with it
-pub longer_there : (most : ℕ) (before after : Option (List ℕ)) (p : Place) (content : List ℕ) → Reaches place.Line before content p after → most < length content
+pub longer_there : (most : ℕ) (before after : Option (List ℕ)) (p : BodyPlace) (content : List ℕ) → Reaches place.Line before content p after → most < length content
     → IfKnown before (IsBodyLonger most)
 longer_there most None after p content reaches long = tt
 longer_there most (Some xs) None p content reaches long = absurd reaches.1

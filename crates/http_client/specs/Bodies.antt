@@ -3,12 +3,12 @@ use Rattle.std.specs.Prelude.{◌≡◌, ◌⊎◌, ◌≤◌, ℕ, List, ◌++�
 use Rattle.std.specs.Io.KnownBytes.{Consumes}
 use Rattle.chunked.specs.Reading.{Reaches, Stops, place_of, left_of}
 use Rattle.chunked.specs.declared.fault.ChunkFault.TheVariants as fault
-use Rattle.chunked.specs.declared.place.Place.TheVariants as place
+use Rattle.chunked.specs.declared.place.BodyPlace.TheVariants as place
 use Rattle.chunked.specs.declared.reader.Reader.{Reader}
-use Rattle.client.specs.Reading.{IfKnown, IsShorterThan}
-use Rattle.client.specs.Replies.{IsNoBody, IsBodyLonger}
-use Rattle.client.specs.declared.framing.Framing.{Framing}
-use Rattle.client.specs.declared.framing.Framing.TheVariants as framing
+use Rattle.http_client.specs.Reading.{IfKnown, IsShorterThan}
+use Rattle.http_client.specs.Replies.{IsNoBody, IsBodyLonger}
+use Rattle.http_client.specs.declared.framing.Framing.{Framing}
+use Rattle.http_client.specs.declared.framing.Framing.TheVariants as framing
 
 -- bytes of the chunks were read onto what had been read
 abbrev pub ReadsChunks : {R : Type 0} → (R → Option (List ℕ)) → Reader R → Reader R → List ℕ → List ℕ → Type 0

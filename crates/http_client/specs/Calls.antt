@@ -3,12 +3,12 @@ use Rattle.std.specs.Prelude.{◌≡◌, ◌≤◌, ◌⊎◌, ℕ, List, length
 use Rattle.std.specs.Io.KnownBytes.{Appends}
 use Rattle.chunked.specs.Devices.{AppendsBeginning, device_of, has_failed}
 use Rattle.chunked.specs.declared.watched.Watched.{Watched}
-use Rattle.exchanges.specs.Requests.{request_text}
-use Rattle.client.specs.Reading.{IfKnown}
-use Rattle.client.specs.Replies.{replied, SaysWhole}
-use Rattle.client.specs.declared.answer.Answer.{Answer}
-use Rattle.client.specs.declared.answer.Answer.TheVariants as answer
-use Rattle.client.specs.declared.outgoing.Outgoing.{Outgoing}
+use Rattle.spec_http_client.specs.Requests.{request_text}
+use Rattle.http_client.specs.Reading.{IfKnown}
+use Rattle.http_client.specs.Replies.{replied, SaysWhole}
+use Rattle.http_client.specs.declared.answer.Answer.{Answer}
+use Rattle.http_client.specs.declared.answer.Answer.TheVariants as answer
+use Rattle.http_client.specs.declared.outgoing.Outgoing.{Outgoing}
 
 -- the text of a request
 abbrev pub text_of : Outgoing → List ℕ

@@ -2,11 +2,11 @@
 use Rattle.std.specs.Prelude.{◌≡◌, ◌≤◌, ◌<◌, ℕ, List, [], ◌∷◌, codes, Option, Some, true}
 use Rattle.std.specs.Str.{str_eq_ignore_ascii_case}
 use Rattle.httparse.specs.Grammar.{ResponseHead, ReadsResponse, status_code}
-use Rattle.connections.specs.Heads.{Field, values_of, length_in}
-use Rattle.exchanges.specs.Answers.{Replied, Says, IsWithinLimits, HasLength, fields_of}
-use Rattle.client.specs.declared.framing.Framing.{Framing}
-use Rattle.client.specs.declared.framing.Framing.TheVariants as framing
-use Rattle.client.specs.declared.reply_head.ReplyHead.{ReplyHead}
+use Rattle.spec_http_server.specs.Heads.{Field, values_of, length_in}
+use Rattle.spec_http_client.specs.Answers.{Replied, Says, IsWithinLimits, HasLength, fields_of}
+use Rattle.http_client.specs.declared.framing.Framing.{Framing}
+use Rattle.http_client.specs.declared.framing.Framing.TheVariants as framing
+use Rattle.http_client.specs.declared.reply_head.ReplyHead.{ReplyHead}
 
 -- the bytes begin with no head within the limits
 abbrev pub BeginsWithNoHead : List ℕ → Type 0

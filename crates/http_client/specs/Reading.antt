@@ -5,9 +5,9 @@ use Rattle.httparse.specs.declared.spans.HeaderSpan.{HeaderSpan}
 use Rattle.httparse.specs.declared.spans.ResponseSpans.{ResponseSpans}
 use Rattle.httparse.specs.Grammar.{ResponseHead, IsResponseHead, print_response}
 use Rattle.httparse.specs.Spans.{IsResponseAt, IsResponseWithin}
-use Rattle.exchanges.specs.Answers.{IsWithinLimits, HasLength}
-use Rattle.client.specs.declared.fault.ReplyFault.{ReplyFault}
-use Rattle.client.specs.declared.fault.ReplyFault.TheVariants as fault
+use Rattle.spec_http_client.specs.Answers.{IsWithinLimits, HasLength}
+use Rattle.http_client.specs.declared.fault.ReplyFault.{ReplyFault}
+use Rattle.http_client.specs.declared.fault.ReplyFault.TheVariants as fault
 
 -- of bytes that are known
 abbrev pub IfKnown : Option (List ℕ) → (List ℕ → Type 0) → Type 0

@@ -4,12 +4,12 @@ use Rattle.std.specs.Io.KnownBytes.{Consumes}
 use Rattle.httparse.specs.Grammar.{ResponseHead, ReadsResponse, status_code}
 use Rattle.chunked.specs.Bodies.{IsBodyWithin, joined}
 use Rattle.chunked.specs.Reading.{longest_line}
-use Rattle.exchanges.specs.Answers.{Replied, Says, IsWithinLimits, HasLength, IsChunked}
-use Rattle.client.specs.Heads.{StatesLonger}
-use Rattle.client.specs.declared.reply.Reply.{Reply}
+use Rattle.spec_http_client.specs.Answers.{Replied, Says, IsWithinLimits, HasLength, IsChunked}
+use Rattle.http_client.specs.Heads.{StatesLonger}
+use Rattle.http_client.specs.declared.reply.HttpReply.{HttpReply}
 
 -- a reply, in the words of exchanges
-abbrev pub replied : Reply → Replied
+abbrev pub replied : HttpReply → Replied
 replied r = record { code = r.code; body = r.body.items }
 
 -- the bytes are a reply and nothing more: a head within the limits, and the body whose length it states

@@ -1,16 +1,16 @@
 -- Watches that a client opens and reads.
 use Rattle.std.specs.Prelude.{◌≡◌, ◌<◌, ◌≤◌, ℕ, List, [], length, take, Option, Some, None, ⊤}
-use Rattle.exchanges.specs.Answers.{Says, OpensWatch}
+use Rattle.spec_http_client.specs.Answers.{Says, OpensWatch}
 use Rattle.chunked.specs.Reading.{Reaches, Stops, place_of, answered_fault, left_of}
 use Rattle.chunked.specs.declared.fault.ChunkFault.{ChunkFault}
-use Rattle.chunked.specs.declared.place.Place.TheVariants as place
+use Rattle.chunked.specs.declared.place.BodyPlace.TheVariants as place
 use Rattle.chunked.specs.declared.reader.Reader.{Reader}
-use Rattle.client.specs.Heads.{SaysNothing}
-use Rattle.client.specs.Reading.{IfKnown}
-use Rattle.client.specs.declared.more.More.{More}
-use Rattle.client.specs.declared.more.More.TheVariants as more
-use Rattle.client.specs.declared.opening.Opening.{Opening}
-use Rattle.client.specs.declared.opening.Opening.TheVariants as opening
+use Rattle.http_client.specs.Heads.{SaysNothing}
+use Rattle.http_client.specs.Reading.{IfKnown}
+use Rattle.http_client.specs.declared.more.More.{More}
+use Rattle.http_client.specs.declared.more.More.TheVariants as more
+use Rattle.http_client.specs.declared.opening.WatchAnswer.{WatchAnswer}
+use Rattle.http_client.specs.declared.opening.WatchAnswer.TheVariants as opening
 
 -- the bytes say a reply of this code
 abbrev pub SaysCode : ℕ → List ℕ → Type 0
@@ -26,7 +26,7 @@ IsOpen None after = ⊤
 IsOpen (Some bytes) None = ⊥
 IsOpen (Some bytes) (Some rest) = OpensWatch bytes rest
 
-abbrev pub IsOpening : Option (List ℕ) → Option (List ℕ) → Opening → Type 0
+abbrev pub IsOpening : Option (List ℕ) → Option (List ℕ) → WatchAnswer → Type 0
 IsOpening before after opening.Open = IsOpen before after
 IsOpening before after opening.Expired = IfKnown before (SaysCode 410)
 IsOpening before after (opening.Refused code) = ¬ (code ≡ 410) × IfKnown before (SaysCode code)

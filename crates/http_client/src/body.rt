@@ -2,8 +2,8 @@
 ghost use Rattle.std.specs.Prelude.{◌≡◌, ◌≤◌, ◌<◌, ◌-◌, IfOk, OnOk, IfErr, length, true, false};
 ghost use Rattle.std.specs.Io.KnownBytes.{Consumes, IsAtEnd};
 ghost use Rattle.chunked.specs.Devices.{device_of, has_failed};
-ghost use Rattle.client.specs.Reading.{IsWatched, ReadsMore, IfKnown, IsShorterThan};
-ghost use Rattle.client.specs.declared.fault.ReplyFault.TheVariants as fault;
+ghost use Rattle.http_client.specs.Reading.{IsWatched, ReadsMore, IfKnown, IsShorterThan};
+ghost use Rattle.http_client.specs.declared.fault.ReplyFault.TheVariants as fault;
 
 use crate::fault::ReplyFault;
 use chunked::Watched;

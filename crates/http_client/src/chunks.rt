@@ -1,11 +1,11 @@
 //! Bodies in chunks, read whole.
 ghost use Rattle.std.specs.Prelude.{◌≡◌, ◌≤◌, ◌<◌, length, IfOk, OnOk, IfErr, None, false};
 ghost use Rattle.chunked.specs.Reading.{Reaches, place_of, answered_fault, left_of};
-ghost use Rattle.chunked.specs.declared.place.Place.TheVariants as place;
-ghost use Rattle.client.specs.Bodies.{ReadsChunks, StopsByPeer};
-ghost use Rattle.client.specs.Reading.{IfKnown};
-ghost use Rattle.client.specs.Replies.{IsNoBody, IsBodyLonger};
-ghost use Rattle.client.specs.declared.fault.ReplyFault.TheVariants as fault;
+ghost use Rattle.chunked.specs.declared.place.BodyPlace.TheVariants as place;
+ghost use Rattle.http_client.specs.Bodies.{ReadsChunks, StopsByPeer};
+ghost use Rattle.http_client.specs.Reading.{IfKnown};
+ghost use Rattle.http_client.specs.Replies.{IsNoBody, IsBodyLonger};
+ghost use Rattle.http_client.specs.declared.fault.ReplyFault.TheVariants as fault;
 
 use crate::fault::ReplyFault;
 use chunked::{ChunkFault, Reader};

@@ -1,8 +1,8 @@
 //! A request written, and its reply read.
 ghost use Rattle.std.specs.Prelude.{◌≡◌, true, false};
 ghost use Rattle.chunked.specs.Devices.{device_of, has_failed};
-ghost use Rattle.client.specs.Calls.{IsAnswered, IsExchanged, text_of};
-ghost use Rattle.client.specs.declared.answer.Answer.TheVariants.{NotSent};
+ghost use Rattle.http_client.specs.Calls.{IsAnswered, IsExchanged, text_of};
+ghost use Rattle.http_client.specs.declared.answer.Answer.TheVariants.{NotSent};
 
 use crate::answer::Answer;
 use crate::outgoing::{Outgoing, text_of};

@@ -21,7 +21,7 @@ pub enum ReplyFault {
 
 impl From<AllocError> for ReplyFault {
     ghost use Rattle.std.specs.Prelude.{◌≡◌};
-    ghost use Rattle.client.specs.declared.fault.ReplyFault.TheVariants as fault;
+    ghost use Rattle.http_client.specs.declared.fault.ReplyFault.TheVariants as fault;
 
     ghost from_gives = { λ e f. f ≡ fault.OutOfMemory };
 
@@ -32,7 +32,7 @@ impl From<AllocError> for ReplyFault {
 
 impl<T: Drop> From<AllocFailed<T>> for ReplyFault {
     ghost use Rattle.std.specs.Prelude.{◌≡◌};
-    ghost use Rattle.client.specs.declared.fault.ReplyFault.TheVariants as fault;
+    ghost use Rattle.http_client.specs.declared.fault.ReplyFault.TheVariants as fault;
 
     ghost from_gives = { λ e f. f ≡ fault.OutOfMemory };
 

@@ -1,11 +1,11 @@
 //! How the end of a reply's body is known.
 ghost use Rattle.std.specs.Prelude.{map};
-ghost use Rattle.connections.specs.Heads.{one_number};
-ghost use Rattle.request_heads.specs.Fields.{field_seen};
-ghost use Rattle.client.specs.Heads.{IsFramed, IsFramedByLength};
+ghost use Rattle.spec_http_server.specs.Heads.{one_number};
+ghost use Rattle.http_request_head.specs.Fields.{field_seen};
+ghost use Rattle.http_client.specs.Heads.{IsFramed, IsFramedByLength};
 
-use request_heads::body_length::{is_number, number_of};
-use request_heads::field::{Field, count, first_value};
+use http_request_head::body_length::{is_number, number_of};
+use http_request_head::field::{HeaderField, count, first_value};
 
 /// How the end of a reply's body is known (RFC 9112, Message Body Length).
 #[derive(Debug, Clone, Copy, PartialEq, Eq)]
@@ -34,7 +34,7 @@ fn framing_by_length(text: &[u8], most: u32) -> Framing
 }
 
 /// Returns how the end of a body is known by the fields of its head, where so many bytes are read at most.
-pub fn framing_of(fields: &[Field<'_>], most: u32) -> Framing
+pub fn framing_of(fields: &[HeaderField<'_>], most: u32) -> Framing
     ensures { IsFramed most (map field_seen fields.now) result }
 {
     match first_value(fields, b"transfer-encoding") {

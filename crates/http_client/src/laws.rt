@@ -1,5 +1,5 @@
 //! What follows for a client and a server that speak with one another.
-ghost use Rattle.client.specs.Laws.{CutRepliesAreNotWhole, LongerRepliesAreBeyond, OneWholeReplyIsSaid, WrittenRepliesAreWhole};
+ghost use Rattle.http_client.specs.Laws.{CutRepliesAreNotWhole, LongerRepliesAreBeyond, OneWholeReplyIsSaid, WrittenRepliesAreWhole};
 
 /// The bytes of an answer begin with at most one whole reply, however the end of its body is known.
 pub fn one_whole_reply_is_said()

@@ -1,7 +1,7 @@
 //! Watches, read in pieces.
 ghost use Rattle.std.specs.Prelude.{◌≡◌, ◌<◌, length, IfSome};
 ghost use Rattle.chunked.specs.Reading.{answered_fault};
-ghost use Rattle.client.specs.Watches.{IsMore};
+ghost use Rattle.http_client.specs.Watches.{IsMore};
 
 use chunked::Reader;
 use std::io::Read;

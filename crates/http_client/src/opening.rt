@@ -1,9 +1,9 @@
 //! Watches, opened.
 ghost use Rattle.std.specs.Prelude.{◌≡◌, IfOk, IfErr, true, Err};
 ghost use Rattle.chunked.specs.Devices.{device_of, has_failed};
-ghost use Rattle.client.specs.Reading.{IsWatched, IfKnown, ReadsLongerHead};
-ghost use Rattle.client.specs.Watches.{IsOpening, OpensNothing};
-ghost use Rattle.client.specs.declared.fault.ReplyFault.TheVariants as fault;
+ghost use Rattle.http_client.specs.Reading.{IsWatched, IfKnown, ReadsLongerHead};
+ghost use Rattle.http_client.specs.Watches.{IsOpening, OpensNothing};
+ghost use Rattle.http_client.specs.declared.fault.ReplyFault.TheVariants as fault;
 
 use crate::body::read_body;
 use crate::fault::ReplyFault;
@@ -15,7 +15,7 @@ use std::io::Read;
 
 /// What a server says to who asks for a watch.
 #[derive(Debug, Clone, Copy, PartialEq, Eq)]
-pub enum Opening {
+pub enum WatchAnswer {
     /// The watch is open: its body is what follows.
     Open,
     /// What it was to begin after is no longer known (Kubernetes API Concepts, 410 Gone responses).
@@ -31,14 +31,14 @@ const OK: u16 = 200;
 const GONE: u16 = 410;
 
 /// Returns what a whole reply says to who asked for a watch.
-fn refused_with(code: u16) -> Opening
-    ensures expired { code ≡ 410 → result ≡ Opening.Expired }
-    ensures refused { ¬ (code ≡ 410) → result ≡ Opening.Refused code }
+fn refused_with(code: u16) -> WatchAnswer
+    ensures expired { code ≡ 410 → result ≡ WatchAnswer.Expired }
+    ensures refused { ¬ (code ≡ 410) → result ≡ WatchAnswer.Refused code }
 {
     if code == GONE {
-        Opening::Expired
+        WatchAnswer::Expired
     } else {
-        Opening::Refused(code)
+        WatchAnswer::Refused(code)
     }
 }
 
@@ -51,7 +51,7 @@ pub fn open_watch<R: Read + Drop>(
     alloc: Global,
     reader: &mut Watched<R>,
     most: u32,
-) -> Result<Opening, ReplyFault>
+) -> Result<WatchAnswer, ReplyFault>
     ensures opening { IfOk result (IsOpening (R.remaining (device_of reader.old)) (R.remaining (device_of reader.new))) }
     ensures long { IfErr result (λ f. f ≡ fault.TooLong → ReadsLongerHead most (R.remaining (device_of reader.old)) (R.remaining (device_of reader.new))) }
     ensures none { IfErr result (λ f. f ≡ fault.NotAReply → IfKnown (R.remaining (device_of reader.old)) OpensNothing) }
@@ -73,7 +73,7 @@ pub fn open_watch<R: Read + Drop>(
         Framing::TooLong => Err(ReplyFault::TooLong),
         Framing::Chunked => {
             if head.code == OK {
-                Ok(Opening::Open)
+                Ok(WatchAnswer::Open)
             } else {
                 Err(ReplyFault::NotAReply)
             }

@@ -1,8 +1,8 @@
 //! Requests, as they are written.
 ghost use Rattle.std.specs.Prelude.{◌≡◌, IfOk};
-ghost use Rattle.client.specs.Calls.{text_of};
+ghost use Rattle.http_client.specs.Calls.{text_of};
 
-use exchanges::request_head;
+use spec_http_client::request_head;
 use std::alloc::{AllocError, Global};
 
 /// A request as it is written (RFC 9112, Message Format).

@@ -4,16 +4,16 @@ ghost use Rattle.std.specs.Io.KnownBytes.{Consumes, IsAtEnd};
 ghost use Rattle.httparse.specs.Grammar.{HasNoResponse};
 ghost use Rattle.httparse.specs.Spans.{ResponseOverflows};
 ghost use Rattle.chunked.specs.Devices.{device_of, has_failed};
-ghost use Rattle.connections.specs.Connections.{longest_head, most_fields};
-ghost use Rattle.client.specs.Heads.{BeginsWithNoHead};
-ghost use Rattle.client.specs.Reading.{IsWatched, HasFound, IsFound, IfKnown};
-ghost use Rattle.client.specs.declared.fault.ReplyFault.TheVariants as fault;
+ghost use Rattle.spec_http_server.specs.Connections.{longest_head, most_fields};
+ghost use Rattle.http_client.specs.Heads.{BeginsWithNoHead};
+ghost use Rattle.http_client.specs.Reading.{IsWatched, HasFound, IsFound, IfKnown};
+ghost use Rattle.http_client.specs.declared.fault.ReplyFault.TheVariants as fault;
 
 use crate::fault::ReplyFault;
 use chunked::Watched;
+use http_request_head::reading::LONGEST_HEAD;
 use httparse::Status;
 use httparse::spans::{HeaderSpan, ResponseSpans, parse_response};
-use request_heads::reading::LONGEST_HEAD;
 use std::io::Read;
 
 /// Reads a byte; none only at the end.

@@ -1,11 +1,11 @@
 //! Replies, read whole.
 ghost use Rattle.std.specs.Prelude.{◌≡◌, ◌≤◌, IfOk, IfErr, vec_len, true, false, Err};
 ghost use Rattle.chunked.specs.Devices.{device_of, has_failed};
-ghost use Rattle.exchanges.specs.Answers.{Says};
-ghost use Rattle.client.specs.Heads.{SaysNothing};
-ghost use Rattle.client.specs.Replies.{replied, ReadsReply};
-ghost use Rattle.client.specs.Reading.{IsWatched, IfKnown, ReadsLongerHead};
-ghost use Rattle.client.specs.declared.fault.ReplyFault.TheVariants as fault;
+ghost use Rattle.spec_http_client.specs.Answers.{Says};
+ghost use Rattle.http_client.specs.Heads.{SaysNothing};
+ghost use Rattle.http_client.specs.Replies.{replied, ReadsReply};
+ghost use Rattle.http_client.specs.Reading.{IsWatched, IfKnown, ReadsLongerHead};
+ghost use Rattle.http_client.specs.declared.fault.ReplyFault.TheVariants as fault;
 
 use crate::body::read_body;
 use crate::fault::ReplyFault;
@@ -17,7 +17,7 @@ use std::io::Read;
 
 /// A whole reply.
 #[derive(Drop)]
-pub struct Reply {
+pub struct HttpReply {
     /// The status code.
     pub code: u16,
     pub body: Vec<u8>,
@@ -33,7 +33,7 @@ pub fn read_reply<R: Read + Drop>(
     alloc: Global,
     reader: &mut Watched<R>,
     most: u32,
-) -> Result<Reply, ReplyFault>
+) -> Result<HttpReply, ReplyFault>
     ensures says { IfOk result (λ r. IfKnown (R.remaining (device_of reader.old)) (λ bytes. Says bytes (replied r))) }
     ensures read { IfOk result (λ r. ReadsReply (R.remaining (device_of reader.old)) (R.remaining (device_of reader.new)) (replied r)) }
     ensures within { IfOk result (λ r. vec_len r.body ≤ most) }
@@ -51,7 +51,7 @@ pub fn read_reply<R: Read + Drop>(
     };
     match head.framing {
         Framing::Length(size) => match read_body(alloc, reader, size) {
-            Ok(body) => Ok(Reply {
+            Ok(body) => Ok(HttpReply {
                 code: head.code,
                 body,
             }),

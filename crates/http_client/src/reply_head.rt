@@ -3,17 +3,17 @@ ghost use Rattle.std.specs.Prelude.{◌≡◌, IfOk, IfErr, false};
 ghost use Rattle.httparse.specs.Grammar.{ResponseHead};
 ghost use Rattle.httparse.specs.Spans.{IsResponseAt};
 ghost use Rattle.chunked.specs.Devices.{device_of, has_failed};
-ghost use Rattle.client.specs.Heads.{BeginsWithNoHead, IsHeadOf};
-ghost use Rattle.client.specs.Reading.{IsWatched, IsFound, IfKnown, ReadsHead};
-ghost use Rattle.client.specs.declared.fault.ReplyFault.TheVariants as fault;
+ghost use Rattle.http_client.specs.Heads.{BeginsWithNoHead, IsHeadOf};
+ghost use Rattle.http_client.specs.Reading.{IsWatched, IsFound, IfKnown, ReadsHead};
+ghost use Rattle.http_client.specs.declared.fault.ReplyFault.TheVariants as fault;
 
 use crate::fault::ReplyFault;
 use crate::framing::{Framing, framing_of};
 use crate::reading::find_head;
 use chunked::Watched;
+use http_request_head::reading::MOST_FIELDS;
+use http_request_head::request_head::fields_of;
 use httparse::spans::{EMPTY_HEADER_SPAN, HeaderSpan, ResponseSpans};
-use request_heads::reading::MOST_FIELDS;
-use request_heads::request_head::fields_of;
 use std::alloc::{AllocError, Global};
 use std::io::Read;
 

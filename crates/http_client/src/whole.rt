@@ -1,17 +1,17 @@
 //! Replies, read whole, however the end of their bodies is known.
 ghost use Rattle.std.specs.Prelude.{◌≡◌, ◌≤◌, IfOk, IfErr, vec_len, true, false, Err};
 ghost use Rattle.chunked.specs.Devices.{device_of, has_failed};
-ghost use Rattle.client.specs.Bodies.{ReadsBody, HasNoBody, HasLongBody, IsStatedWithin};
-ghost use Rattle.client.specs.Replies.{replied, SaysWhole, SaysNoReply, IsLonger};
-ghost use Rattle.client.specs.Reading.{IfKnown};
-ghost use Rattle.client.specs.declared.fault.ReplyFault.TheVariants as fault;
-ghost use Rattle.client.specs.declared.framing.Framing.TheVariants as framing;
+ghost use Rattle.http_client.specs.Bodies.{ReadsBody, HasNoBody, HasLongBody, IsStatedWithin};
+ghost use Rattle.http_client.specs.Replies.{replied, SaysWhole, SaysNoReply, IsLonger};
+ghost use Rattle.http_client.specs.Reading.{IfKnown};
+ghost use Rattle.http_client.specs.declared.fault.ReplyFault.TheVariants as fault;
+ghost use Rattle.http_client.specs.declared.framing.Framing.TheVariants as framing;
 
 use crate::body::read_body;
 use crate::chunks::read_chunks;
 use crate::fault::ReplyFault;
 use crate::framing::Framing;
-use crate::reply::Reply;
+use crate::reply::HttpReply;
 use crate::reply_head::read_head;
 use chunked::{Reader, Watched};
 use std::alloc::Global;
@@ -88,7 +88,7 @@ pub fn read_whole<R: Read + Drop>(
     alloc: Global,
     reader: Watched<R>,
     most: u32,
-) -> Result<Reply, ReplyFault>
+) -> Result<HttpReply, ReplyFault>
     ensures says { IfOk result (λ r. IfKnown (R.remaining (device_of reader)) (λ bytes. SaysWhole bytes (replied r))) }
     ensures within { IfOk result (λ r. vec_len r.body ≤ most) }
     ensures long { IfErr result (λ f. f ≡ fault.TooLong → IfKnown (R.remaining (device_of reader)) (IsLonger most)) }
@@ -104,7 +104,7 @@ pub fn read_whole<R: Read + Drop>(
         Err(fault) => return Err(fault),
     };
     match body_framed(alloc, reader, head.framing, most) {
-        Ok(body) => Ok(Reply {
+        Ok(body) => Ok(HttpReply {
             code: head.code,
             body,
         }),

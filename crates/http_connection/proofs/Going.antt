@@ -1,19 +1,19 @@
 -- A watch after a look.
 use Rattle.std.proofs.Common.{◌≡◌, ◌≤◌, ◌<◌, ℕ, List, [], ◌∷◌, ◌++◌, Bool, Option, Some, None, Result, Ok, Err, inl, inr, refl, sym, ap, subst, ◌∙◌, append_assoc}
-use Rattle.definitions.specs.ListQueries.{ListOptions}
-use Rattle.definitions.specs.History.{View}
-use Rattle.definitions.specs.ObjectRequests.{Request}
-use Rattle.definitions.specs.Refusals.{Refusal}
-use Rattle.definitions.specs.Verbs.{Outcome}
-use Rattle.definitions.specs.Versions.{Listed, Watched}
-use Rattle.definitions.specs.WatchReplies.{told_lines}
+use Rattle.spec_api.specs.ListQueries.{ListOptions}
+use Rattle.spec_api.specs.History.{View}
+use Rattle.spec_api.specs.ObjectRequests.{Request}
+use Rattle.spec_api.specs.Refusals.{Refusal}
+use Rattle.spec_api.specs.Verbs.{Outcome}
+use Rattle.spec_api.specs.Versions.{Listed, Watched}
+use Rattle.spec_api.specs.WatchReplies.{told_lines}
 use Rattle.chunked.specs.Bodies.{last_chunk}
 use Rattle.selector.specs.Views.{view_of}
-use Rattle.watch_service.specs.Looked.{StandsAt}
-use Rattle.watch_service.specs.Watches.{Look, most_changes, most_idle, idle_after, look_frames, opening_text}
-use Rattle.watch_service.specs.declared.standing.Standing.{Standing}
-use Rattle.http_connection.specs.declared.phase.Phase.{Phase}
-use Rattle.http_connection.specs.declared.phase.Phase.TheVariants as phase
+use Rattle.http_watch.specs.Looked.{StandsAt}
+use Rattle.http_watch.specs.Watches.{Look, most_changes, most_idle, idle_after, look_frames, opening_text}
+use Rattle.http_watch.specs.declared.standing.WatchStanding.{WatchStanding}
+use Rattle.http_connection.specs.declared.phase.ConnectionPhase.{ConnectionPhase}
+use Rattle.http_connection.specs.declared.phase.ConnectionPhase.TheVariants as phase
 use Rattle.http_connection.specs.declared.watching.Watching.{Watching}
 use Rattle.http_connection.specs.Watches.{revision_after, idles_after, unwritten}
 use Rattle.http_connection.specs.Phases.{IsWatch, Stands}
@@ -33,7 +33,7 @@ module _ {S : Type 0} (calls : S → Request → List ℕ → Outcome → S → 
       ∙ ap (λ t. opening ++ t) (sym (frames_more v.kind b at looks w))
 
   -- after a look that was given something
-  goes_on : (read text more : List ℕ) (v : View) (b : Bool) (at next : Standing) (w : Watched) (s t : S) → IsWatch calls lists begins watches read v b (Some at) text → at.idle < most_idle
+  goes_on : (read text more : List ℕ) (v : View) (b : Bool) (at next : WatchStanding) (w : Watched) (s t : S) → IsWatch calls lists begins watches read v b (Some at) text → at.idle < most_idle
       → watches s v at.revision most_changes (Ok w) t → more ≡ look_frames v.kind b at.revision (Ok w ∷ []) → StandsAt b at (Ok w) (Ok (Some next))
       → IsWatch calls lists begins watches read v b (Some next) (text ++ more)
   goes_on read text more v b at next w s t (options, asks, marks, (o, looks, (opens, made), (lasts, revision, idle), is)) short given frames stands =
@@ -54,7 +54,7 @@ module _ {S : Type 0} (calls : S → Request → List ℕ → Outcome → S → 
       )
 
   -- after one that was refused
-  is_over : (read text more : List ℕ) (v : View) (b : Bool) (at : Standing) (f : Refusal) (s t : S) → IsWatch calls lists begins watches read v b (Some at) text → at.idle < most_idle
+  is_over : (read text more : List ℕ) (v : View) (b : Bool) (at : WatchStanding) (f : Refusal) (s t : S) → IsWatch calls lists begins watches read v b (Some at) text → at.idle < most_idle
       → watches s v at.revision most_changes (Err f) t → more ≡ look_frames v.kind b at.revision (Err f ∷ []) → IsWatch calls lists begins watches read v b None (text ++ (more ++ last_chunk))
   is_over read text more v b at f s t (options, asks, marks, (o, looks, (opens, made), (lasts, revision, idle), is)) short given frames =
       let here = subst (λ r. watches s v r most_changes (Err f) t) revision given in
@@ -72,7 +72,7 @@ module _ {S : Type 0} (calls : S → Request → List ℕ → Outcome → S → 
       )
 
   -- after as many looks in a row without a line as end it
-  idles_out : (read text : List ℕ) (v : View) (b : Bool) (at : Standing) → IsWatch calls lists begins watches read v b (Some at) text → most_idle ≤ at.idle
+  idles_out : (read text : List ℕ) (v : View) (b : Bool) (at : WatchStanding) → IsWatch calls lists begins watches read v b (Some at) text → most_idle ≤ at.idle
       → IsWatch calls lists begins watches read v b None (text ++ last_chunk)
   idles_out read text v b at (options, asks, marks, (o, looks, given, (lasts, revision, idle), is)) over = (
     options,
@@ -88,7 +88,7 @@ module _ {S : Type 0} (calls : S → Request → List ℕ → Outcome → S → 
   )
 
   -- once who holds it has ended it
-  is_ended : (read text : List ℕ) (v : View) (b : Bool) (at : Standing) → IsWatch calls lists begins watches read v b (Some at) text
+  is_ended : (read text : List ℕ) (v : View) (b : Bool) (at : WatchStanding) → IsWatch calls lists begins watches read v b (Some at) text
       → IsWatch calls lists begins watches read v b None (text ++ last_chunk)
   is_ended read text v b at (options, asks, marks, (o, looks, given, (lasts, revision, idle), is)) = (
     options,
@@ -105,7 +105,7 @@ module _ {S : Type 0} (calls : S → Request → List ℕ → Outcome → S → 
 
   -- ---- where its connection stands then
 
-  adds_stand : (w : Watching) (more : List ℕ) (at : Option Standing) (result : Phase) (read written : List ℕ)
+  adds_stand : (w : Watching) (more : List ℕ) (at : Option WatchStanding) (result : ConnectionPhase) (read written : List ℕ)
       → IsWatch calls lists begins watches read (view_of w.view) w.bookmarks at ((written ++ unwritten w) ++ more) → Adds w more at result
       → Stands calls lists begins watches result read written
   adds_stand w more at (phase.Watching u) read written watch ((view, bookmarks, opened), is, out, bounded) =
@@ -123,11 +123,11 @@ module _ {S : Type 0} (calls : S → Request → List ℕ → Outcome → S → 
   adds_stand w more at phase.Answering read written watch never = absurd never
   adds_stand w more at (phase.Replying r) read written watch never = absurd never
 
-  module _ (w : Watching) (s t : S) (result : Phase) (read written : List ℕ) (stands : Stands calls lists begins watches (phase.Watching w) read written) where
-    before : (at : Standing) → w.at ≡ Some at → IsWatch calls lists begins watches read (view_of w.view) w.bookmarks (Some at) (written ++ unwritten w)
+  module _ (w : Watching) (s t : S) (result : ConnectionPhase) (read written : List ℕ) (stands : Stands calls lists begins watches (phase.Watching w) read written) where
+    before : (at : WatchStanding) → w.at ≡ Some at → IsWatch calls lists begins watches read (view_of w.view) w.bookmarks (Some at) (written ++ unwritten w)
     before at here = subst (λ a. IsWatch calls lists begins watches read (view_of w.view) w.bookmarks a (written ++ unwritten w)) here stands.0
 
-    shows_stand : (at : Standing) → w.at ≡ Some at → at.idle < most_idle → (look : Look) → watches s (view_of w.view) at.revision most_changes look t → Shows w at look result
+    shows_stand : (at : WatchStanding) → w.at ≡ Some at → at.idle < most_idle → (look : Look) → watches s (view_of w.view) at.revision most_changes look t → Shows w at look result
         → Stands calls lists begins watches result read written
     shows_stand at here short (Ok x) given (next, stood, adds) =
         let frames = look_frames (view_of w.view).kind w.bookmarks at.revision (Ok x ∷ []) in
@@ -139,14 +139,14 @@ module _ {S : Type 0} (calls : S → Request → List ℕ → Outcome → S → 
         (is_over read (written ++ unwritten w) frames (view_of w.view) w.bookmarks at f s t (before at here) short given refl) adds
 
     -- where the connection of a watch stands once it was given a look
-    pub look_stands : (at : Option Standing) → w.at ≡ at → LooksFrom watches w s t at result → Stands calls lists begins watches result read written
+    pub look_stands : (at : Option WatchStanding) → w.at ≡ at → LooksFrom watches w s t at result → Stands calls lists begins watches result read written
     look_stands None here (same, is) = subst (λ p. Stands calls lists begins watches p read written) (sym is) stands
     look_stands (Some at) here (inl (over, same, adds)) =
         adds_stand w last_chunk None result read written (idles_out read (written ++ unwritten w) (view_of w.view) w.bookmarks at (before at here) over) adds
     look_stands (Some at) here (inr (short, (look, given, shows))) = shows_stand at here short look given shows
 
   -- and once it was ended
-  pub end_stands : (w : Watching) (result : Phase) (read written : List ℕ) → Stands calls lists begins watches (phase.Watching w) read written → (at : Option Standing) → w.at ≡ at
+  pub end_stands : (w : Watching) (result : ConnectionPhase) (read written : List ℕ) → Stands calls lists begins watches (phase.Watching w) read written → (at : Option WatchStanding) → w.at ≡ at
       → EndsFrom w at result → Stands calls lists begins watches result read written
   end_stands w result read written stands None here is = subst (λ p. Stands calls lists begins watches p read written) (sym is) stands
   end_stands w result read written stands (Some at) here adds =

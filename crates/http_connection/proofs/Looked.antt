@@ -1,22 +1,22 @@
 -- What a look adds to a watch.
 use Rattle.std.proofs.Common.{◌≡◌, ◌<◌, ℕ, [], ◌∷◌, ◌++◌, Some, None, Ok, Err, inr, refl, subst}
-use Rattle.definitions.specs.History.{View}
-use Rattle.definitions.specs.WatchReplies.{told_lines}
+use Rattle.spec_api.specs.History.{View}
+use Rattle.spec_api.specs.WatchReplies.{told_lines}
 use Rattle.chunked.specs.Bodies.{last_chunk}
 use Rattle.selector.specs.Views.{view_of}
-use Rattle.watch_service.specs.Looked.{IsLook, StandsAt}
-use Rattle.watch_service.specs.Watches.{Look, most_idle, idle_after, look_frames}
-use Rattle.watch_service.specs.declared.looked.Looked.{Looked}
-use Rattle.watch_service.specs.declared.standing.Standing.{Standing}
+use Rattle.http_watch.specs.Looked.{IsLook, StandsAt}
+use Rattle.http_watch.specs.Watches.{Look, most_idle, idle_after, look_frames}
+use Rattle.http_watch.specs.declared.looked.Looked.{Looked}
+use Rattle.http_watch.specs.declared.standing.WatchStanding.{WatchStanding}
 use Rattle.api.specs.declared.served.Served.TheVariants as served
-use Rattle.http_connection.specs.declared.phase.Phase.{Phase}
-use Rattle.http_connection.specs.declared.phase.Phase.TheVariants as phase
+use Rattle.http_connection.specs.declared.phase.ConnectionPhase.{ConnectionPhase}
+use Rattle.http_connection.specs.declared.phase.ConnectionPhase.TheVariants as phase
 use Rattle.http_connection.specs.declared.watching.Watching.{Watching}
 use Rattle.http_connection.specs.Looking.{Adds, Shows, LooksFrom}
 
-module _ {S : Type 0} (E : Type 0) (watches : S → View → ℕ → ℕ → Look → S → Type 0) (w : Watching) (at : Standing) (s t : S) (short : at.idle < most_idle) where
+module _ {S : Type 0} (E : Type 0) (watches : S → View → ℕ → ℕ → Look → S → Type 0) (w : Watching) (at : WatchStanding) (s t : S) (short : at.idle < most_idle) where
   -- a look after which the watch goes on
-  pub shows_more : (l : Looked) (next : Standing) (result : Phase) → IsLook {E = E} watches (view_of w.view) w.bookmarks at s t (Ok l) → l.next ≡ Some next
+  pub shows_more : (l : Looked) (next : WatchStanding) (result : ConnectionPhase) → IsLook {E = E} watches (view_of w.view) w.bookmarks at s t (Ok l) → l.next ≡ Some next
       → Adds w l.text.items (Some next) result → LooksFrom watches w s t (Some at) result
   shows_more l next result (look, given, frames, stood) is adds =
       inr (short, (look, given, shows look frames (subst (λ n. StandsAt w.bookmarks at look (Ok n)) is stood)))
@@ -26,7 +26,7 @@ module _ {S : Type 0} (E : Type 0) (watches : S → View → ℕ → ℕ → Loo
       shows (Err f) frames stood = absurd stood
 
   -- one that ends it
-  pub shows_end : (l : Looked) (result : Phase) → IsLook {E = E} watches (view_of w.view) w.bookmarks at s t (Ok l) → l.next ≡ None
+  pub shows_end : (l : Looked) (result : ConnectionPhase) → IsLook {E = E} watches (view_of w.view) w.bookmarks at s t (Ok l) → l.next ≡ None
       → Adds w (l.text.items ++ last_chunk) None result → LooksFrom watches w s t (Some at) result
   shows_end l result (look, given, frames, stood) is adds =
       inr (short, (look, given, shows look frames (subst (λ n. StandsAt w.bookmarks at look (Ok n)) is stood)))
@@ -41,6 +41,6 @@ module _ {S : Type 0} (E : Type 0) (watches : S → View → ℕ → ℕ → Loo
     where
       shows : (look : Look) → Shows w at look (phase.Closing served.Asked)
       shows (Ok x) =
-          let next : Standing = record { revision = x.stands; idle = idle_after at.idle (told_lines w.bookmarks at.revision x) } in
+          let next : WatchStanding = record { revision = x.stands; idle = idle_after at.idle (told_lines w.bookmarks at.revision x) } in
           (next, (refl, refl), refl)
       shows (Err f) = refl

@@ -1,14 +1,14 @@
 -- One look more of a watch.
 use Rattle.std.proofs.Common.{◌≡◌, ◌≤◌, ◌<◌, ℕ, List, [], ◌∷◌, ◌++◌, Bool, Ok, Err, refl, sym, ap, ◌∙◌, append_assoc}
-use Rattle.definitions.specs.declared.kinds.Kind.{Kind}
-use Rattle.definitions.specs.Frames.{frame_text, error_frame}
-use Rattle.definitions.specs.History.{View}
-use Rattle.definitions.specs.Refusals.{Refusal}
-use Rattle.definitions.specs.Versions.{Watched}
-use Rattle.definitions.specs.WatchReplies.{told_lines}
+use Rattle.spec_api.specs.declared.kinds.Kind.{Kind}
+use Rattle.spec_api.specs.Frames.{frame_text, error_frame}
+use Rattle.spec_api.specs.History.{View}
+use Rattle.spec_api.specs.Refusals.{Refusal}
+use Rattle.spec_api.specs.Versions.{Watched}
+use Rattle.spec_api.specs.WatchReplies.{told_lines}
 use Rattle.chunked.specs.Bodies.{chunk_text}
-use Rattle.connections.specs.Replies.{frames_text}
-use Rattle.watch_service.specs.Watches.{Look, Ends, most_changes, most_idle, stands_after, idle_after, look_frames}
+use Rattle.spec_http_server.specs.Replies.{frames_text}
+use Rattle.http_watch.specs.Watches.{Look, Ends, most_changes, most_idle, stands_after, idle_after, look_frames}
 use Rattle.http_connection.specs.Watches.{AreLooks, Lasts, revision_after, idles_after}
 
 module _ {S : Type 0} (watches : S → View → ℕ → ℕ → Look → S → Type 0) (v : View) where

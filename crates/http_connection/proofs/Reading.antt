@@ -3,16 +3,16 @@ use Rattle.std.proofs.Common.{◌<◌, ℕ, List, [], ◌∷◌, ◌++◌, lengt
 use Rattle.std.proofs.KnownBytes.{Consumes-nil, Consumes-trans}
 use Rattle.std.specs.Io.KnownBytes.{Consumes}
 use Rattle.httparse.specs.Grammar.{print_request}
-use Rattle.connections.proofs.Halves.{half_a_head}
-use Rattle.connections.proofs.OnLiterals.{http_on_literals}
-use Rattle.connections.proofs.WellFormed.{well_formed}
-use Rattle.connections.specs.ConnectionExamples.{pods}
-use Rattle.connections.specs.Connections.{Asks}
-use Rattle.connections.specs.HeadExamples.{head}
-use Rattle.received.specs.Arriving.{WaitsFor}
+use Rattle.spec_http_server.proofs.Halves.{half_a_head}
+use Rattle.spec_http_server.proofs.OnLiterals.{http_on_literals}
+use Rattle.spec_http_server.proofs.WellFormed.{well_formed}
+use Rattle.spec_http_server.specs.ConnectionExamples.{pods}
+use Rattle.spec_http_server.specs.Connections.{Asks}
+use Rattle.spec_http_server.specs.HeadExamples.{head}
+use Rattle.http_request_reader.specs.Arriving.{WaitsFor}
 use Rattle.http_connection.specs.Arriving.{IsArriving, Arrives, ReadsOn}
 use Rattle.http_connection.specs.declared.arriving.Arriving.{Arriving}
-use Rattle.http_connection.specs.declared.phase.Phase.{Phase}
+use Rattle.http_connection.specs.declared.phase.ConnectionPhase.{ConnectionPhase}
 
 -- ---- what is awaited
 
@@ -41,7 +41,7 @@ ReadsTo before after start now = (read : List ℕ) → IsArriving start read →
 pub reads_none : (a : Option (List ℕ)) (start : Arriving) → ReadsTo a a start start
 reads_none a start read is = ([], Consumes-nil a, subst (IsArriving start) (sym (append-nil read)) is)
 
-pub reads_piece : (a b c : Option (List ℕ)) (start now : Arriving) (piece : List ℕ) (p : Phase) → ReadsTo a b start now → Consumes b c piece
+pub reads_piece : (a b c : Option (List ℕ)) (start now : Arriving) (piece : List ℕ) (p : ConnectionPhase) → ReadsTo a b start now → Consumes b c piece
     → ((read : List ℕ) → IsArriving now read → Arrives (read ++ piece) p) → (read : List ℕ) → IsArriving start read → ReadsOn a c read p
 reads_piece a b c start now piece p reads second comes read is =
     let r = reads read is in

@@ -3,18 +3,18 @@ use Rattle.std.proofs.Common.{◌≡◌, ℕ, List, [], ◌++◌, take, drop, Bo
 use Rattle.std.proofs.lemmas.List.{take-append-drop}
 use Rattle.std.proofs.KnownBytes.{Consumes-nil, Appends-nil}
 use Rattle.std.specs.Io.KnownBytes.{Appends}
-use Rattle.definitions.specs.ListQueries.{ListOptions}
-use Rattle.definitions.specs.History.{View}
-use Rattle.definitions.specs.ObjectRequests.{Request}
-use Rattle.definitions.specs.Refusals.{Refusal}
-use Rattle.definitions.specs.Targets as targets
-use Rattle.definitions.specs.Verbs.{Outcome}
-use Rattle.definitions.specs.Versions.{Listed}
-use Rattle.connections.specs.Connections.{Asks}
+use Rattle.spec_api.specs.ListQueries.{ListOptions}
+use Rattle.spec_api.specs.History.{View}
+use Rattle.spec_api.specs.ObjectRequests.{Request}
+use Rattle.spec_api.specs.Refusals.{Refusal}
+use Rattle.spec_api.specs.Targets as targets
+use Rattle.spec_api.specs.Verbs.{Outcome}
+use Rattle.spec_api.specs.Versions.{Listed}
+use Rattle.spec_http_server.specs.Connections.{Asks}
 use Rattle.selector.specs.Views.{view_of}
-use Rattle.watch_service.specs.Opened.{opening_of}
-use Rattle.watch_service.specs.Watches.{Look, Opens, opening_text}
-use Rattle.watch_service.specs.declared.standing.Standing.{Standing}
+use Rattle.http_watch.specs.Opened.{opening_of}
+use Rattle.http_watch.specs.Watches.{Look, Opens, opening_text}
+use Rattle.http_watch.specs.declared.standing.WatchStanding.{WatchStanding}
 use Rattle.api.specs.Responding.{text_of, Replies, OpensWatch, Responds}
 use Rattle.api.specs.declared.response.OpenWatch.{OpenWatch}
 use Rattle.api.specs.declared.response.Response.{Response}
@@ -22,8 +22,8 @@ use Rattle.api.specs.declared.response.Response.TheVariants as response
 use Rattle.api.specs.declared.served.Served.{Served}
 use Rattle.api.specs.declared.served.Served.TheVariants as served
 use Rattle.http_connection.specs.declared.arriving.Arriving.{Arriving}
-use Rattle.http_connection.specs.declared.phase.Phase.{Phase}
-use Rattle.http_connection.specs.declared.phase.Phase.TheVariants as phase
+use Rattle.http_connection.specs.declared.phase.ConnectionPhase.{ConnectionPhase}
+use Rattle.http_connection.specs.declared.phase.ConnectionPhase.TheVariants as phase
 use Rattle.http_connection.specs.declared.replying.Replying.{Replying}
 use Rattle.http_connection.specs.declared.watching.Watching.{Watching}
 use Rattle.http_connection.specs.Arriving.{IsArriving, Arrives, ReadsOn}
@@ -36,13 +36,13 @@ not_asked s a b = cc
 
 module _ {S : Type 0} (calls : S → Request → List ℕ → Outcome → S → Type 0) (lists : S → View → ListOptions → Outcome → S → Type 0)
     (begins : S → View → Option ℕ → Result Listed Refusal → S → Type 0) (watches : S → View → ℕ → ℕ → Look → S → Type 0) where
-  abbrev AtPhase : Phase → List ℕ → List ℕ → Type 0
+  abbrev AtPhase : ConnectionPhase → List ℕ → List ℕ → Type 0
   AtPhase = Stands calls lists begins watches
 
   -- ---- requests
 
   -- what was read, and nothing written
-  pub arrives_stand : (read : List ℕ) (p : Phase) → Arrives read p → AtPhase p read []
+  pub arrives_stand : (read : List ℕ) (p : ConnectionPhase) → Arrives read p → AtPhase p read []
   arrives_stand read (phase.Reading a) is = (is, refl)
   arrives_stand read (phase.Asked a) is = (is, refl)
   arrives_stand read phase.Answering is = absurd is
@@ -78,7 +78,7 @@ module _ {S : Type 0} (calls : S → Request → List ℕ → Outcome → S → 
       (watch, bounded)
 
   -- what is to be written for what was asked
-  pub answer_stands : (a : targets.Asked) (moment : List ℕ) (s t : S) (read : List ℕ) (x : Response) (p : Phase) → Asks read (Some (Ok a)) → Responds calls lists begins watches moment s t (Some (Ok a)) x
+  pub answer_stands : (a : targets.Asked) (moment : List ℕ) (s t : S) (read : List ℕ) (x : Response) (p : ConnectionPhase) → Asks read (Some (Ok a)) → Responds calls lists begins watches moment s t (Some (Ok a)) x
       → IsToBeWritten x p → AtPhase p read []
   answer_stands a moment s t read response.Nothing p asks responds is = absurd responds
   answer_stands a moment s t read (response.Reply x) p asks responds (r, is, text, none, came) =
@@ -89,7 +89,7 @@ module _ {S : Type 0} (calls : S → Request → List ℕ → Outcome → S → 
 
   -- ---- what is written
 
-  pub replies_stand : (before after : Option (List ℕ)) (r : Replying) (result : Phase) (read written : List ℕ) → RepliesOn before after r result → AtPhase (phase.Replying r) read written
+  pub replies_stand : (before after : Option (List ℕ)) (r : Replying) (result : ConnectionPhase) (read written : List ℕ) → RepliesOn before after r result → AtPhase (phase.Replying r) read written
       → (put : List ℕ) × Appends before after put × AtPhase result read (written ++ put)
   replies_stand before after r (phase.Replying q) read written (n, (put, appends, is), (same, to, by)) (reply, so_far, came) =
       let text = text_of r.text in (
@@ -116,11 +116,11 @@ module _ {S : Type 0} (calls : S → Request → List ℕ → Outcome → S → 
   replies_stand before after r (phase.Watching w) read written (n, sent, never) stands = absurd never
 
   -- a watch that is left
-  pub watch_closes : (read written left text : List ℕ) (v : View) (bookmarks : Bool) (at : Option Standing) (s : Served) → IsWatch calls lists begins watches read v bookmarks at text
+  pub watch_closes : (read written left text : List ℕ) (v : View) (bookmarks : Bool) (at : Option WatchStanding) (s : Served) → IsWatch calls lists begins watches read v bookmarks at text
       → written ++ left ≡ text → AtPhase (phase.Closing s) read written
   watch_closes read written left text v bookmarks at s watch is = ((text, left, inr (inr (v, bookmarks, at, watch)), is), λ asked. (targets.watch v watch.0, watch.1))
 
-  pub watches_stand : (before after : Option (List ℕ)) (w : Watching) (result : Phase) (read written : List ℕ) → WatchesOn before after w result → AtPhase (phase.Watching w) read written
+  pub watches_stand : (before after : Option (List ℕ)) (w : Watching) (result : ConnectionPhase) (read written : List ℕ) → WatchesOn before after w result → AtPhase (phase.Watching w) read written
       → (put : List ℕ) × Appends before after put × AtPhase result read (written ++ put)
   watches_stand before after w (phase.Watching u) read written h (stands, bounded) =
       let all : (written ++ h.put) ++ unwritten u ≡ written ++ unwritten w = append_assoc written h.put (unwritten u) ∙ ap (λ t. written ++ t) h.rest in
@@ -144,7 +144,7 @@ module _ {S : Type 0} (calls : S → Request → List ℕ → Outcome → S → 
   -- ---- turns
 
   -- nothing is read
-  pub nothing_read : (unread held holds : Option (List ℕ)) (before after : Phase)
+  pub nothing_read : (unread held holds : Option (List ℕ)) (before after : ConnectionPhase)
       → ((read written : List ℕ) → AtPhase before read written → (put : List ℕ) × Appends held holds put × AtPhase after read (written ++ put))
       → Turns calls lists begins watches unread unread held holds before after
   nothing_read unread held holds before after goes read written stands =
@@ -152,12 +152,12 @@ module _ {S : Type 0} (calls : S → Request → List ℕ → Outcome → S → 
       ([], w.0, Consumes-nil unread, w.1, subst (λ r. AtPhase after r (written ++ w.0)) (sym (append-nil read)) w.2)
 
   -- nothing happens
-  pub nothing_done : (unread held : Option (List ℕ)) (p : Phase) → Turns calls lists begins watches unread unread held held p p
+  pub nothing_done : (unread held : Option (List ℕ)) (p : ConnectionPhase) → Turns calls lists begins watches unread unread held held p p
   nothing_done unread held p =
       nothing_read unread held held p p (λ read written stands. ([], Appends-nil held, subst (AtPhase p read) (sym (append-nil written)) stands))
 
   -- a request is read, and what comes of it is written as far as it goes
-  pub request_read : (unread left held holds : Option (List ℕ)) (a : Arriving) (mid after : Phase) → ((read : List ℕ) → IsArriving a read → ReadsOn unread left read mid)
+  pub request_read : (unread left held holds : Option (List ℕ)) (a : Arriving) (mid after : ConnectionPhase) → ((read : List ℕ) → IsArriving a read → ReadsOn unread left read mid)
       → ((read : List ℕ) → AtPhase mid read [] → (put : List ℕ) × Appends held holds put × AtPhase after read put) → Turns calls lists begins watches unread left held holds (phase.Reading a) after
   request_read unread left held holds a mid after reads writes read written (arriving, none) =
       let r = reads read arriving in

@@ -4,8 +4,8 @@ use Rattle.std.proofs.KnownBytes.{Appends-nil, Appends-trans}
 use Rattle.std.proofs.Math.Seq.{take-add}
 use Rattle.std.proofs.lemmas.List.{take-append-drop, append_cancel_left}
 use Rattle.std.specs.Io.KnownBytes.{Appends}
-use Rattle.http_connection.specs.declared.phase.Phase.{Phase}
-use Rattle.http_connection.specs.declared.phase.Phase.TheVariants as phase
+use Rattle.http_connection.specs.declared.phase.ConnectionPhase.{ConnectionPhase}
+use Rattle.http_connection.specs.declared.phase.ConnectionPhase.TheVariants as phase
 use Rattle.http_connection.specs.declared.watching.Watching.{Watching}
 use Rattle.http_connection.specs.Sending.{IsAsFar, IsBegun, IsSent, IsWritten, Rests, WatchesOn}
 use Rattle.http_connection.specs.Watches.{unwritten}
@@ -58,7 +58,7 @@ module _ (a b : Option (List ℕ)) (w u : Watching) (h : IsWritten a b w u) wher
   pub begun_so_far : IsBegun a b w
   begun_so_far = (h.put, unwritten u, h.appends, h.rest)
 
-  pub watches_rest : (p : Phase) → Rests u p → WatchesOn a b w p
+  pub watches_rest : (p : ConnectionPhase) → Rests u p → WatchesOn a b w p
   watches_rest (phase.Watching v) as_far = written_as_far v as_far
   watches_rest (phase.Closing s) is = (is, begun_so_far)
   watches_rest (phase.Reading x) never = never

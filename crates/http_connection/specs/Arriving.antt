@@ -1,20 +1,20 @@
 -- A request that is not whole.
 use Rattle.std.specs.Prelude.{◌≡◌, ◌⊎◌, ℕ, List, ◌++◌, Option, Some, Ok, Err}
 use Rattle.std.specs.Io.KnownBytes.{Consumes}
-use Rattle.definitions.specs.Refusals.{Refusal, no_memory}
-use Rattle.definitions.specs.Replies.{outcome}
-use Rattle.definitions.specs.Verbs.{refused}
-use Rattle.asked.specs.Asked.{asked_seen}
-use Rattle.connections.specs.Connections.{IsHalfAHead, Asks}
-use Rattle.connections.specs.Replies.{reply_text}
-use Rattle.received.specs.Arriving.{WaitsFor}
+use Rattle.spec_api.specs.Refusals.{Refusal, no_memory}
+use Rattle.spec_api.specs.Replies.{outcome}
+use Rattle.spec_api.specs.Verbs.{refused}
+use Rattle.request_decoding.specs.Asked.{asked_seen}
+use Rattle.spec_http_server.specs.Connections.{IsHalfAHead, Asks}
+use Rattle.spec_http_server.specs.Replies.{reply_text}
+use Rattle.http_request_reader.specs.Arriving.{WaitsFor}
 use Rattle.api.specs.Responding.{text_of, IsReplyTo}
 use Rattle.api.specs.declared.served.Served.TheVariants as served
 use Rattle.http_connection.specs.declared.arriving.Arriving.{Arriving}
 use Rattle.http_connection.specs.declared.arriving.Awaited.{Awaited}
 use Rattle.http_connection.specs.declared.arriving.Awaited.TheVariants as awaited
-use Rattle.http_connection.specs.declared.phase.Phase.{Phase}
-use Rattle.http_connection.specs.declared.phase.Phase.TheVariants as phase
+use Rattle.http_connection.specs.declared.phase.ConnectionPhase.{ConnectionPhase}
+use Rattle.http_connection.specs.declared.phase.ConnectionPhase.TheVariants as phase
 
 -- these bytes are no whole request, nor are they refused, nor with more, before what is awaited has come
 abbrev pub Awaits : Awaited → List ℕ → Type 0
@@ -30,7 +30,7 @@ abbrev pub IsRefusal : List ℕ → List ℕ → Type 0
 IsRefusal read text = (text ≡ reply_text (outcome (refused no_memory))) ⊎ ((f : Refusal) × Asks read (Some (Err f)) × IsReplyTo (refused f) text)
 
 -- where a connection stands of which these bytes were read, and nothing was written or done
-abbrev pub Arrives : List ℕ → Phase → Type 0
+abbrev pub Arrives : List ℕ → ConnectionPhase → Type 0
 Arrives read (phase.Reading a) = IsArriving a read
 Arrives read (phase.Asked a) = Asks read (Some (Ok (asked_seen a)))
 Arrives read phase.Answering = ⊥
@@ -39,5 +39,5 @@ Arrives read (phase.Watching w) = ⊥
 Arrives read (phase.Closing s) = s ≡ served.NotAsked
 
 -- some more was read of a connection of which nothing was written
-abbrev pub ReadsOn : Option (List ℕ) → Option (List ℕ) → List ℕ → Phase → Type 0
+abbrev pub ReadsOn : Option (List ℕ) → Option (List ℕ) → List ℕ → ConnectionPhase → Type 0
 ReadsOn before after read phase = (more : List ℕ) × Consumes before after more × Arrives (read ++ more) phase

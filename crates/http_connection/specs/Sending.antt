@@ -3,8 +3,8 @@ use Rattle.std.specs.Prelude.{◌≡◌, ℕ, List, ◌++◌, take, Option, Some
 use Rattle.std.specs.Io.KnownBytes.{Appends}
 use Rattle.api.specs.Responding.{text_of}
 use Rattle.api.specs.declared.served.Served.TheVariants as served
-use Rattle.http_connection.specs.declared.phase.Phase.{Phase}
-use Rattle.http_connection.specs.declared.phase.Phase.TheVariants as phase
+use Rattle.http_connection.specs.declared.phase.ConnectionPhase.{ConnectionPhase}
+use Rattle.http_connection.specs.declared.phase.ConnectionPhase.TheVariants as phase
 use Rattle.http_connection.specs.declared.replying.Replying.{Replying}
 use Rattle.http_connection.specs.declared.sending.Sent.{Sent}
 use Rattle.http_connection.specs.declared.sending.Sent.TheVariants as sent
@@ -21,7 +21,7 @@ Sends before after bytes taken (sent.To n) = IsSent before after bytes taken n
 Sends before after bytes taken sent.Failed = (n : ℕ) × IsSent before after bytes taken n
 
 -- where a connection stands once so many bytes of its reply are written
-abbrev pub RepliedTo : Replying → ℕ → Phase → Type 0
+abbrev pub RepliedTo : Replying → ℕ → ConnectionPhase → Type 0
 RepliedTo r n (phase.Replying q) = (text_of q.text ≡ text_of r.text) × (q.taken ≡ n) × (q.served ≡ r.served)
 RepliedTo r n (phase.Closing s) = s ≡ r.served
 RepliedTo r n (phase.Reading a) = ⊥
@@ -29,7 +29,7 @@ RepliedTo r n (phase.Asked a) = ⊥
 RepliedTo r n phase.Answering = ⊥
 RepliedTo r n (phase.Watching w) = ⊥
 
-abbrev pub RepliesOn : Option (List ℕ) → Option (List ℕ) → Replying → Phase → Type 0
+abbrev pub RepliesOn : Option (List ℕ) → Option (List ℕ) → Replying → ConnectionPhase → Type 0
 RepliesOn before after r result = (n : ℕ) × IsSent before after (text_of r.text) r.taken n × RepliedTo r n result
 
 -- ---- watches
@@ -55,7 +55,7 @@ abbrev pub WatchSends : Option (List ℕ) → Option (List ℕ) → Watching →
 WatchSends before after w (Some u) = IsWritten before after w u
 WatchSends before after w None = IsBegun before after w
 
-abbrev pub Rests : Watching → Phase → Type 0
+abbrev pub Rests : Watching → ConnectionPhase → Type 0
 Rests w (phase.Watching u) = IsAsFar w u
 Rests w (phase.Closing s) = s ≡ served.Asked
 Rests w (phase.Reading a) = ⊥
@@ -64,7 +64,7 @@ Rests w phase.Answering = ⊥
 Rests w (phase.Replying r) = ⊥
 
 -- where a connection stands once some more of its watch is written
-abbrev pub WatchesOn : Option (List ℕ) → Option (List ℕ) → Watching → Phase → Type 0
+abbrev pub WatchesOn : Option (List ℕ) → Option (List ℕ) → Watching → ConnectionPhase → Type 0
 WatchesOn before after w (phase.Watching u) = IsWritten before after w u
 WatchesOn before after w (phase.Closing s) = (s ≡ served.Asked) × IsBegun before after w
 WatchesOn before after w (phase.Reading a) = ⊥

@@ -1,13 +1,13 @@
 -- A watch that goes on as its bytes are taken, with others served between its looks.
 use Rattle.std.specs.Prelude.{◌≡◌, ◌≤◌, ◌<◌, ◌+◌, ◌⊎◌, ℕ, List, [], ◌∷◌, ◌++◌, length, drop, Bool, Option, Some, None, Result, Ok, Err, ⊤}
-use Rattle.definitions.specs.declared.kinds.Kind.{Kind}
-use Rattle.definitions.specs.declared.versions.Start.{Start}
-use Rattle.definitions.specs.History.{View}
-use Rattle.definitions.specs.Refusals.{Refusal}
-use Rattle.definitions.specs.Versions.{Listed}
-use Rattle.definitions.specs.WatchReplies.{told_lines}
-use Rattle.watch_service.specs.declared.standing.Standing.{Standing}
-use Rattle.watch_service.specs.Watches.{Look, Opening, Opens, Ends, most_changes, most_idle, stands_after, idle_after, look_frames, ended_frames, opening_text}
+use Rattle.spec_api.specs.declared.kinds.Kind.{Kind}
+use Rattle.spec_api.specs.declared.versions.Start.{Start}
+use Rattle.spec_api.specs.History.{View}
+use Rattle.spec_api.specs.Refusals.{Refusal}
+use Rattle.spec_api.specs.Versions.{Listed}
+use Rattle.spec_api.specs.WatchReplies.{told_lines}
+use Rattle.http_watch.specs.declared.standing.WatchStanding.{WatchStanding}
+use Rattle.http_watch.specs.Watches.{Look, Opening, Opens, Ends, most_changes, most_idle, stands_after, idle_after, look_frames, ended_frames, opening_text}
 use Rattle.http_connection.specs.declared.watching.Watching.{Watching}
 
 module _ {S : Type 0} (watches : S → View → ℕ → ℕ → Look → S → Type 0) (v : View) where
@@ -41,13 +41,13 @@ idles_after bookmarks at idle (Ok w ∷ looks) = idles_after bookmarks w.stands 
 idles_after bookmarks at idle (Err f ∷ looks) = idles_after bookmarks at idle looks
 
 -- after these looks a watch stands here; nowhere where they end it, or where who holds it has ended it after them
-abbrev pub StandsAfter : Bool → Opening → List Look → Option Standing → Type 0
+abbrev pub StandsAfter : Bool → Opening → List Look → Option WatchStanding → Type 0
 StandsAfter bookmarks o looks (Some at) =
     Lasts bookmarks o.stands o.idle looks × (at.revision ≡ revision_after o.stands looks) × (at.idle ≡ idles_after bookmarks o.stands o.idle looks)
 StandsAfter bookmarks o looks None = Ends bookmarks o.stands o.idle looks ⊎ Lasts bookmarks o.stands o.idle looks
 
 -- what a watch is to be written by then: the head and the lines with which it opened, the frames of the looks, and its end once it is over
-abbrev pub text_by_then : Kind → Bool → Opening → List Look → Option Standing → List ℕ
+abbrev pub text_by_then : Kind → Bool → Opening → List Look → Option WatchStanding → List ℕ
 text_by_then k bookmarks o looks (Some at) = opening_text k o ++ look_frames k bookmarks o.stands looks
 text_by_then k bookmarks o looks None = opening_text k o ++ ended_frames k bookmarks o.stands looks
 

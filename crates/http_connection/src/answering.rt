@@ -1,24 +1,24 @@
 //! Requests that are whole, answered.
 ghost use Rattle.std.specs.Prelude.{ℕ, List};
 ghost use Rattle.api.specs.declared.response.Response.TheVariants as response;
-ghost use Rattle.asked.specs.Asked.{asked_seen};
+ghost use Rattle.request_decoding.specs.Asked.{asked_seen};
 ghost use Rattle.http_connection.specs.Phases.{Answers, IsToBeWritten, Stands};
-ghost use Rattle.http_connection.specs.declared.phase.Phase.TheVariants as phase;
+ghost use Rattle.http_connection.specs.declared.phase.ConnectionPhase.TheVariants as phase;
 
-use crate::phase::Phase;
+use crate::phase::ConnectionPhase;
 use crate::replying::Replying;
 use crate::watching::Watching;
 use api::{OpenWatch, Response, Served, Text, respond_to};
-use asked::Asked;
-use sites::Site;
-use stamps::moments::Moment;
+use http_backend::Site;
+use metadata_values::moments::Moment;
+use request_decoding::Asked;
 use std::alloc::Global;
 
 /// Returns where a connection stands that is to be written a reply.
-fn replied(text: Text) -> Phase
+fn replied(text: Text) -> ConnectionPhase
     ensures { IsToBeWritten (response.Reply text) result }
 {
-    Phase::Replying(Replying {
+    ConnectionPhase::Replying(Replying {
         text,
         taken: 0,
         served: Served::Asked,
@@ -26,10 +26,10 @@ fn replied(text: Text) -> Phase
 }
 
 /// Returns where a connection stands whose watch has opened.
-fn opened(alloc: Global, watch: OpenWatch) -> Phase
+fn opened(alloc: Global, watch: OpenWatch) -> ConnectionPhase
     ensures { IsToBeWritten (response.Watch watch) result }
 {
-    Phase::Watching(Watching {
+    ConnectionPhase::Watching(Watching {
         view: watch.view,
         bookmarks: watch.bookmarks,
         at: Some(watch.opened.at),
@@ -43,18 +43,18 @@ fn opened(alloc: Global, watch: OpenWatch) -> Phase
 }
 
 /// Returns where a connection stands whose request is whole, once this is the response to it. Nothing was written yet.
-pub fn answered(alloc: Global, response: Response) -> Phase
+pub fn answered(alloc: Global, response: Response) -> ConnectionPhase
     ensures { IsToBeWritten response result }
 {
     match response {
-        Response::Nothing => Phase::Closing(Served::NotAsked),
+        Response::Nothing => ConnectionPhase::Closing(Served::NotAsked),
         Response::Reply(text) => replied(text),
         Response::Watch(watch) => opened(alloc, watch),
     }
 }
 
 /// Does a request that is whole at a server, and returns where its connection then stands. Nothing was written yet.
-pub fn answer<S: Site>(alloc: Global, asked: Asked, site: &mut S, moment: Moment) -> Phase
+pub fn answer<S: Site>(alloc: Global, asked: Asked, site: &mut S, moment: Moment) -> ConnectionPhase
     ensures answers { Answers S.Calls S.Lists S.Begins S.Watches moment site.old site.new (asked_seen asked) result }
     ensures stands { (read written : List ℕ) → Stands S.Calls S.Lists S.Begins S.Watches (phase.Asked asked) read written
         → Stands S.Calls S.Lists S.Begins S.Watches result read written }

@@ -2,12 +2,12 @@
 ghost use Rattle.std.specs.Prelude.{ℕ, List};
 ghost use Rattle.http_connection.specs.Looking.{EndsFrom};
 ghost use Rattle.http_connection.specs.Phases.{Stands};
-ghost use Rattle.http_connection.specs.declared.phase.Phase.TheVariants as phase;
+ghost use Rattle.http_connection.specs.declared.phase.ConnectionPhase.TheVariants as phase;
 
 use crate::looking::with_end;
-use crate::phase::Phase;
+use crate::phase::ConnectionPhase;
 use crate::watching::Watching;
-use sites::Site;
+use http_backend::Site;
 use std::alloc::Global;
 
 /// Ends a watch, as who holds it does at a stop, and returns where its connection then stands: after the frames of its looks its end is to
@@ -15,13 +15,13 @@ use std::alloc::Global;
 /// room among what its peer leaves unwritten.
 ///
 /// The server that answers is named by the type alone.
-pub fn end_watch<S: Site>(alloc: Global, watching: Watching) -> Phase
+pub fn end_watch<S: Site>(alloc: Global, watching: Watching) -> ConnectionPhase
     ensures ends { EndsFrom watching watching.at result }
     ensures stands { (read written : List ℕ) → Stands S.Calls S.Lists S.Begins S.Watches (phase.Watching watching) read written
         → Stands S.Calls S.Lists S.Begins S.Watches result read written }
 {
     match watching.at {
         Some(_) => with_end(watching, Vec::new(alloc)),
-        None => Phase::Watching(watching),
+        None => ConnectionPhase::Watching(watching),
     }
 }

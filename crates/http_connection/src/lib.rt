@@ -17,7 +17,7 @@ pub use answering::{answer, answered};
 pub use arriving::{Arriving, Awaited};
 pub use ending::end_watch;
 pub use looking::look_on;
-pub use phase::Phase;
+pub use phase::ConnectionPhase;
 pub use receiving::arrived;
 pub use replying::Replying;
 pub use turning::turn;

@@ -3,15 +3,15 @@ ghost use Rattle.std.specs.Prelude.{◌≡◌, ◌++◌, ℕ, List, Some, None, 
 ghost use Rattle.chunked.specs.Bodies.{last_chunk};
 ghost use Rattle.http_connection.specs.Looking.{Adds, LooksFrom};
 ghost use Rattle.http_connection.specs.Phases.{Stands};
-ghost use Rattle.http_connection.specs.declared.phase.Phase.TheVariants as phase;
+ghost use Rattle.http_connection.specs.declared.phase.ConnectionPhase.TheVariants as phase;
 
-use crate::phase::Phase;
+use crate::phase::ConnectionPhase;
 use crate::watching::Watching;
 use api::Served;
-use responses::last_chunk;
-use sites::Site;
+use http_backend::Site;
+use http_response::last_chunk;
+use http_watch::{MOST_IDLE, WatchStanding, take_look};
 use std::alloc::Global;
-use watch_service::{MOST_IDLE, Standing, take_look};
 
 /// Returns a text after another one; nothing where memory ran out.
 fn joined(first: Vec<u8>, second: Vec<u8>) -> Option<Vec<u8>>
@@ -29,14 +29,14 @@ fn joined(first: Vec<u8>, second: Vec<u8>) -> Option<Vec<u8>>
 
 /// Returns a watch that stands here, with more to be written. It is left, unfinished, where that is more than may be left unwritten, or
 /// memory ran out.
-fn with_text(watching: Watching, text: Vec<u8>, at: Option<Standing>) -> Phase
+fn with_text(watching: Watching, text: Vec<u8>, at: Option<WatchStanding>) -> ConnectionPhase
     ensures { Adds watching text.items at result }
 {
     if !watching.has_room(watching.left(), text.len()) {
-        return Phase::Closing(Served::Asked);
+        return ConnectionPhase::Closing(Served::Asked);
     }
     match joined(watching.later, text) {
-        Some(later) => Phase::Watching(Watching {
+        Some(later) => ConnectionPhase::Watching(Watching {
             view: watching.view,
             bookmarks: watching.bookmarks,
             at,
@@ -47,23 +47,28 @@ fn with_text(watching: Watching, text: Vec<u8>, at: Option<Standing>) -> Phase
             pieces: watching.pieces,
             later,
         }),
-        None => Phase::Closing(Served::Asked),
+        None => ConnectionPhase::Closing(Served::Asked),
     }
 }
 
 /// Returns a watch that is over after this text, with its end to be written.
-pub(crate) fn with_end(watching: Watching, text: Vec<u8>) -> Phase
+pub(crate) fn with_end(watching: Watching, text: Vec<u8>) -> ConnectionPhase
     ensures { Adds watching (text.items ++ last_chunk) None result }
 {
     let mut text = text;
     match text.extend_from_slice(last_chunk()) {
         Ok(()) => with_text(watching, text, None),
-        Err(_) => Phase::Closing(Served::Asked),
+        Err(_) => ConnectionPhase::Closing(Served::Asked),
     }
 }
 
 /// Takes a look of a watch that stands here, and returns where its connection then stands.
-fn look_from<S: Site>(alloc: Global, watching: Watching, at: Standing, source: &mut S) -> Phase
+fn look_from<S: Site>(
+    alloc: Global,
+    watching: Watching,
+    at: WatchStanding,
+    source: &mut S,
+) -> ConnectionPhase
     ensures { LooksFrom S.Watches watching source.old source.new (Some at) result }
 {
     if at.idle >= MOST_IDLE {
@@ -74,20 +79,20 @@ fn look_from<S: Site>(alloc: Global, watching: Watching, at: Standing, source: &
             Some(next) => with_text(watching, looked.text, Some(next)),
             None => with_end(watching, looked.text),
         },
-        Err(_) => Phase::Closing(Served::Asked),
+        Err(_) => ConnectionPhase::Closing(Served::Asked),
     }
 }
 
 /// Takes one look of a watch, and returns where its connection then stands: its frames are to be written, and after a refusal, or 1,024
 /// looks in a row that gave no line, its end. A watch that is over looks no more. It is left, unfinished, where memory runs out, and
 /// where its peer leaves more than 4 MiB of frames unwritten.
-pub fn look_on<S: Site>(alloc: Global, watching: Watching, source: &mut S) -> Phase
+pub fn look_on<S: Site>(alloc: Global, watching: Watching, source: &mut S) -> ConnectionPhase
     ensures looks { LooksFrom S.Watches watching source.old source.new watching.at result }
     ensures stands { (read written : List ℕ) → Stands S.Calls S.Lists S.Begins S.Watches (phase.Watching watching) read written
         → Stands S.Calls S.Lists S.Begins S.Watches result read written }
 {
     match watching.at {
         Some(at) => look_from(alloc, watching, at, source),
-        None => Phase::Watching(watching),
+        None => ConnectionPhase::Watching(watching),
     }
 }

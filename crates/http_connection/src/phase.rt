@@ -6,12 +6,12 @@ use crate::arriving::Arriving;
 use crate::replying::Replying;
 use crate::watching::Watching;
 use api::Served;
-use asked::Asked;
-use definitions::kinds::Kind;
+use request_decoding::Asked;
+use spec_api::kinds::Kind;
 
 /// Where a connection stands.
 #[derive(Drop)]
-pub enum Phase {
+pub enum ConnectionPhase {
     /// Its request is being read.
     Reading(Arriving),
     /// Its request is whole, and is to be answered.
@@ -26,12 +26,12 @@ pub enum Phase {
     Closing(Served),
 }
 
-impl Phase {
+impl ConnectionPhase {
     /// Returns whether the request is still being read, as long as which a peer has until the deadline of requests.
     pub fn is_reading(&self) -> bool
         ensures { result ≡ is_reading self.now }
     {
-        matches!(self, Phase::Reading(_))
+        matches!(self, ConnectionPhase::Reading(_))
     }
 
     /// Returns whether bytes are to be written, or a reply of which there was no memory to make them.
@@ -39,8 +39,8 @@ impl Phase {
         ensures { result ≡ is_unwritten self.now }
     {
         match self {
-            Phase::Replying(_) => true,
-            Phase::Watching(watching) => watching.has_more(),
+            ConnectionPhase::Replying(_) => true,
+            ConnectionPhase::Watching(watching) => watching.has_more(),
             _ => false,
         }
     }
@@ -50,7 +50,7 @@ impl Phase {
         ensures { result ≡ watched_kind self.now }
     {
         match self {
-            Phase::Watching(watching) => match watching.at {
+            ConnectionPhase::Watching(watching) => match watching.at {
                 Some(_) => Some(watching.view.kind),
                 None => None,
             },
@@ -64,7 +64,7 @@ impl Phase {
         ensures { result ≡ is_behind self.now }
     {
         match self {
-            Phase::Watching(watching) => match watching.at {
+            ConnectionPhase::Watching(watching) => match watching.at {
                 Some(at) => at.idle == 0,
                 None => false,
             },
@@ -76,6 +76,6 @@ impl Phase {
     pub fn is_over(&self) -> bool
         ensures { result ≡ is_over self.now }
     {
-        matches!(self, Phase::Closing(_))
+        matches!(self, ConnectionPhase::Closing(_))
     }
 }

@@ -1,26 +1,26 @@
 //! Requests, as their bytes come.
 ghost use Rattle.std.specs.Prelude.{◌≡◌, ℕ, List, ◌++◌, true, false, length};
-ghost use Rattle.connections.specs.Connections.{IsHalfAHead};
-ghost use Rattle.received.specs.Arriving.{WaitsFor};
+ghost use Rattle.spec_http_server.specs.Connections.{IsHalfAHead};
+ghost use Rattle.http_request_reader.specs.Arriving.{WaitsFor};
 ghost use Rattle.api.specs.Responding.{text_of};
 ghost use Rattle.http_connection.specs.Arriving.{Arrives, Awaits, IsArriving, IsRefusal};
 
 use crate::arriving::{Arriving, Awaited};
-use crate::phase::Phase;
+use crate::phase::ConnectionPhase;
 use crate::replying::Replying;
 use api::{Served, Text, refusal_text};
+use http_request_head::FoundHead;
+use http_request_head::reading::{LONGEST_HEAD, MOST_FIELDS, find_head};
+use http_request_reader::{Arrived, Received, look_at};
 use httparse::spans::EMPTY_HEADER_SPAN;
-use received::{Arrived, Received, look_at};
-use request_heads::Found;
-use request_heads::reading::{LONGEST_HEAD, MOST_FIELDS, find_head};
-use routes::table::Routes;
+use request_routing::table::Routes;
 use std::alloc::Global;
 
 /// Returns where a connection stands that is refused with this.
-fn refused(text: Text) -> Phase
+fn refused(text: Text) -> ConnectionPhase
     ensures { (read : List ℕ) → IsRefusal read (text_of text) → Arrives read result }
 {
-    Phase::Replying(Replying {
+    ConnectionPhase::Replying(Replying {
         text,
         taken: 0,
         served: Served::NotAsked,
@@ -35,7 +35,7 @@ fn is_half_a_head(bytes: &[u8]) -> bool
         return false;
     }
     let mut fields = [EMPTY_HEADER_SPAN; MOST_FIELDS];
-    matches!(find_head(bytes, &mut fields), Found::Cut)
+    matches!(find_head(bytes, &mut fields), FoundHead::Cut)
 }
 
 /// Returns what has to come after bytes that ask nothing before there are so many.
@@ -51,17 +51,17 @@ fn awaited_after(bytes: &[u8], needs: usize) -> Awaited
 }
 
 /// Returns where a connection stands of which these bytes were read.
-fn look(alloc: Global, routes: &Routes, bytes: Vec<u8>) -> Phase
+fn look(alloc: Global, routes: &Routes, bytes: Vec<u8>) -> ConnectionPhase
     ensures { Arrives bytes.items result }
 {
     match look_at(alloc, routes, &bytes) {
         Ok(Arrived::Part(needs)) => {
             let awaited = awaited_after(&bytes, needs);
-            Phase::Reading(Arriving { bytes, awaited })
+            ConnectionPhase::Reading(Arriving { bytes, awaited })
         }
-        Ok(Arrived::Whole(Received::Asked(asked))) => Phase::Asked(asked),
+        Ok(Arrived::Whole(Received::Asked(asked))) => ConnectionPhase::Asked(asked),
         Ok(Arrived::Whole(Received::Refused(fault))) => refused(refusal_text(alloc, &fault)),
-        Ok(Arrived::Whole(Received::Ended)) => Phase::Closing(Served::NotAsked),
+        Ok(Arrived::Whole(Received::Ended)) => ConnectionPhase::Closing(Served::NotAsked),
         Err(_) => refused(Text::OutOfMemory),
     }
 }
@@ -80,7 +80,7 @@ fn is_to_be_looked_at(awaited: Awaited, len: usize) -> bool
 
 /// Returns where a connection stands whose request was not whole, after these bytes came: what it is does not depend on the pieces in
 /// which they came. Running out of memory is replied.
-pub fn arrived(alloc: Global, routes: &Routes, arriving: Arriving, piece: &[u8]) -> Phase
+pub fn arrived(alloc: Global, routes: &Routes, arriving: Arriving, piece: &[u8]) -> ConnectionPhase
     ensures { (read : List ℕ) → IsArriving arriving read → Arrives (read ++ piece.now) result }
 {
     let awaited = arriving.awaited;
@@ -91,6 +91,6 @@ pub fn arrived(alloc: Global, routes: &Routes, arriving: Arriving, piece: &[u8])
     if is_to_be_looked_at(awaited, bytes.len()) {
         look(alloc, routes, bytes)
     } else {
-        Phase::Reading(Arriving { bytes, awaited })
+        ConnectionPhase::Reading(Arriving { bytes, awaited })
     }
 }

@@ -3,11 +3,11 @@ ghost use Rattle.std.specs.Prelude.{◌≡◌, ◌≤◌, IfSome, length};
 ghost use Rattle.api.specs.Responding.{text_of};
 ghost use Rattle.http_connection.specs.Sending.{IsAsFar, RepliesOn, Rests, Sends, WatchSends, WatchesOn};
 
-use crate::phase::Phase;
+use crate::phase::ConnectionPhase;
 use crate::replying::Replying;
 use crate::watching::Watching;
 use api::{Served, Text};
-use responses::{out_of_memory, response};
+use http_response::{out_of_memory, response};
 use std::alloc::Global;
 use std::io::{ErrorKind, Write};
 
@@ -69,7 +69,11 @@ fn bytes_of(text: &Text) -> Option<&[u8]>
 
 /// Writes a reply on, and returns where its connection then stands. A reply for whose bytes there is no memory waits: it is written by a
 /// later call.
-pub(crate) fn reply_on<W: Write>(alloc: Global, replying: Replying, writer: &mut W) -> Phase
+pub(crate) fn reply_on<W: Write>(
+    alloc: Global,
+    replying: Replying,
+    writer: &mut W,
+) -> ConnectionPhase
     ensures { RepliesOn (W.contents writer.old) (W.contents writer.new) replying result }
 {
     let served = replying.served;
@@ -77,16 +81,16 @@ pub(crate) fn reply_on<W: Write>(alloc: Global, replying: Replying, writer: &mut
     let taken = match bytes_of(&text) {
         None => replying.taken,
         Some(bytes) => match write_on(bytes, replying.taken, writer) {
-            Sent::Failed => return Phase::Closing(served),
+            Sent::Failed => return ConnectionPhase::Closing(served),
             Sent::To(n) => {
                 if n >= bytes.len() {
-                    return Phase::Closing(served);
+                    return ConnectionPhase::Closing(served);
                 }
                 n
             }
         },
     };
-    Phase::Replying(Replying {
+    ConnectionPhase::Replying(Replying {
         text,
         taken,
         served,
@@ -134,16 +138,16 @@ fn refilled(alloc: Global, watching: Watching) -> Option<Watching>
 
 /// Returns where the connection of a watch stands that is written as far as it goes now. One that is over is closed once its end is
 /// written.
-fn rested(alloc: Global, watching: Watching) -> Phase
+fn rested(alloc: Global, watching: Watching) -> ConnectionPhase
     ensures { Rests watching result }
 {
     if watching.has_more() {
-        return Phase::Watching(watching);
+        return ConnectionPhase::Watching(watching);
     }
     if watching.at.is_none() {
-        return Phase::Closing(Served::Asked);
+        return ConnectionPhase::Closing(Served::Asked);
     }
-    Phase::Watching(Watching {
+    ConnectionPhase::Watching(Watching {
         out: Vec::new(alloc),
         taken: 0,
         ..watching
@@ -151,22 +155,26 @@ fn rested(alloc: Global, watching: Watching) -> Phase
 }
 
 /// Writes a watch on, and returns where its connection then stands. What it opened with is made as it is written.
-pub(crate) fn watch_on<W: Write>(alloc: Global, watching: Watching, writer: &mut W) -> Phase
+pub(crate) fn watch_on<W: Write>(
+    alloc: Global,
+    watching: Watching,
+    writer: &mut W,
+) -> ConnectionPhase
     ensures { WatchesOn (W.contents writer.old) (W.contents writer.new) watching result }
 {
     let mut watching = watching;
     for _ in 0..u64::MAX {
         match watch_sent(watching, writer) {
             Some(now) => watching = now,
-            None => return Phase::Closing(Served::Asked),
+            None => return ConnectionPhase::Closing(Served::Asked),
         }
         if watching.taken < watching.out.len() || !watching.has_more() {
             return rested(alloc, watching);
         }
         match refilled(alloc, watching) {
             Some(more) => watching = more,
-            None => return Phase::Closing(Served::Asked),
+            None => return ConnectionPhase::Closing(Served::Asked),
         }
     }
-    Phase::Closing(Served::Asked)
+    ConnectionPhase::Closing(Served::Asked)
 }

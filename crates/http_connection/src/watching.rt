@@ -2,8 +2,8 @@
 ghost use Rattle.std.specs.Prelude.{◌≡◌, ◌≤◌, ◌+◌, length, nat_lt, true};
 ghost use Rattle.http_connection.specs.Watches.{made, most_unwritten, unwritten};
 
+use http_watch::{FirstFrames, WatchStanding};
 use selector::View;
-use watch_service::{FirstFrames, Standing};
 
 /// How many bytes of the frames of a watch may be left unwritten. A watch whose peer leaves more is left.
 pub const MOST_UNWRITTEN: usize = 4_194_304;
@@ -16,7 +16,7 @@ pub struct Watching {
     /// Whether bookmarks are shown.
     pub bookmarks: bool,
     /// Where it stands: nowhere once it is over.
-    pub at: Option<Standing>,
+    pub at: Option<WatchStanding>,
     /// How many bytes were made as it opened, which may be left unwritten beside those of frames.
     pub opened: usize,
     /// What is being written.

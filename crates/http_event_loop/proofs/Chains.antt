@@ -1,21 +1,21 @@
 -- What was asked, one thing after another.
 use Rattle.std.proofs.Common.{◌≡◌, ◌≤◌, ◌+◌, ℕ, zero, suc, Bool, true, false, List, Option, Some, None, Result, inl, inr, refl, sym, subst, ◌∙◌, arith}
-use Rattle.definitions.specs.ListQueries.{ListOptions}
-use Rattle.definitions.specs.History.{View}
-use Rattle.definitions.specs.ObjectRequests.{Request}
-use Rattle.definitions.specs.Refusals.{Refusal}
-use Rattle.definitions.specs.Targets as targets
-use Rattle.definitions.specs.Verbs.{Outcome}
-use Rattle.definitions.specs.Versions.{Listed}
+use Rattle.spec_api.specs.ListQueries.{ListOptions}
+use Rattle.spec_api.specs.History.{View}
+use Rattle.spec_api.specs.ObjectRequests.{Request}
+use Rattle.spec_api.specs.Refusals.{Refusal}
+use Rattle.spec_api.specs.Targets as targets
+use Rattle.spec_api.specs.Verbs.{Outcome}
+use Rattle.spec_api.specs.Versions.{Listed}
 use Rattle.selector.specs.Views.{view_of}
-use Rattle.watch_service.specs.Watches.{Look}
-use Rattle.watch_service.specs.declared.standing.Standing.{Standing}
+use Rattle.http_watch.specs.Watches.{Look}
+use Rattle.http_watch.specs.declared.standing.WatchStanding.{WatchStanding}
 use Rattle.http_connection.specs.Looking.{LooksFrom}
 use Rattle.http_connection.specs.Phases.{Answers}
-use Rattle.http_connection.specs.declared.phase.Phase.{Phase}
+use Rattle.http_connection.specs.declared.phase.ConnectionPhase.{ConnectionPhase}
 use Rattle.http_connection.specs.declared.watching.Watching.{Watching}
-use Rattle.http_loop.specs.Asked.{AreLooks, AreAsked, HasAsked}
-use Rattle.http_loop.specs.declared.asker.Asker.{Asker}
+use Rattle.http_event_loop.specs.Asked.{AreLooks, AreAsked, HasAsked}
+use Rattle.http_event_loop.specs.declared.asker.Asker.{Asker}
 
 module _ {S : Type 0} (calls : S → Request → List ℕ → Outcome → S → Type 0) (lists : S → View → ListOptions → Outcome → S → Type 0)
     (begins : S → View → Option ℕ → Result Listed Refusal → S → Type 0) (watches : S → View → ℕ → ℕ → Look → S → Type 0) where
@@ -41,7 +41,7 @@ module _ {S : Type 0} (calls : S → Request → List ℕ → Outcome → S → 
       subst (λ i. AreAsked calls lists begins watches i s t) whole (before, after, asked_on n m s mid before first asked, one, looks)
 
   -- a look
-  looked : (w : Watching) (s t : S) (at : Option Standing) (p : Phase) → LooksFrom watches w s t at p → (k : ℕ) × AreLooks calls lists begins watches k s t
+  looked : (w : Watching) (s t : S) (at : Option WatchStanding) (p : ConnectionPhase) → LooksFrom watches w s t at p → (k : ℕ) × AreLooks calls lists begins watches k s t
   looked w s t None p (same, is) = (0, same)
   looked w s t (Some at) p (inl (over, same, adds)) = (0, same)
   looked w s t (Some at) p (inr (short, (look, given, shows))) = (1, (s, refl, (view_of w.view, at.revision, look, given)))
@@ -73,7 +73,7 @@ module _ {S L : Type 0} (calls : S → Request → List ℕ → Outcome → S �
   }
 
   -- a request that is whole
-  pub asks_one : (a b : Asker S L) (moment : List ℕ) (asked : targets.Asked) (p : Phase) → Answers calls lists begins watches moment a.site b.site asked p
+  pub asks_one : (a b : Asker S L) (moment : List ℕ) (asked : targets.Asked) (p : ConnectionPhase) → Answers calls lists begins watches moment a.site b.site asked p
       → b.asked ≡ a.asked + 1 → a.taken.count ≤ b.taken.count → HasAsked calls lists begins watches a b
   asks_one a b moment asked p (r, responds, written) counted taken = record {
     requests = 1;
@@ -83,7 +83,7 @@ module _ {S L : Type 0} (calls : S → Request → List ℕ → Outcome → S �
   }
 
   -- a look
-  pub asks_look : (a b : Asker S L) (w : Watching) (at : Option Standing) (p : Phase) → LooksFrom watches w a.site b.site at p → b.asked ≡ a.asked → a.taken.count ≤ b.taken.count
+  pub asks_look : (a b : Asker S L) (w : Watching) (at : Option WatchStanding) (p : ConnectionPhase) → LooksFrom watches w a.site b.site at p → b.asked ≡ a.asked → a.taken.count ≤ b.taken.count
       → HasAsked calls lists begins watches a b
   asks_look a b w at p looks asked taken = record {
     requests = 0;

@@ -9,19 +9,19 @@ use Rattle.std.proofs.Crossing as heap
 use Rattle.std.proofs.MapsCrossing as maps
 use Rattle.std.specs.contracts.alloc.Global as Global
 use Rattle.std.specs.declared.sync.ledger.Ledger.{Ghosts}
-use Rattle.routes.below.matchit.proofs.route.Route.TheSendSync as route
-use Rattle.routes.below.matchit.proofs.tree.Node.TheLaws.TheKnot as knot
-use Rattle.routes.below.slab.proofs.Entry.TheSendSync as place
-use Rattle.routes.below.slab.proofs.Slab.TheSendSync as slab
-use Rattle.routes.proofs.entries.Entry.TheSendSync as entry
-use Rattle.routes.specs.contracts.table.Routes as Routes
+use Rattle.request_routing.below.matchit.proofs.route.Route.TheSendSync as route
+use Rattle.request_routing.below.matchit.proofs.tree.Node.TheLaws.TheKnot as knot
+use Rattle.request_routing.below.slab.proofs.Entry.TheSendSync as place
+use Rattle.request_routing.below.slab.proofs.Slab.TheSendSync as slab
+use Rattle.request_routing.proofs.entries.RouteEntry.TheSendSync as entry
+use Rattle.request_routing.specs.contracts.table.Routes as Routes
 use Rattle.mio.proofs.poll.Poll.TheSendSync as poll_of
-use Rattle.http_loop.proofs.accepting.Accepting.TheSendSync as accepting_of
-use Rattle.http_loop.proofs.asker.Asker.TheSendSync as asker_of
-use Rattle.http_loop.proofs.loops.Loops.TheSendSync as loops_of
-use Rattle.http_loop.specs.contracts.asker.Asker as Asker
-use Rattle.http_loop.specs.contracts.event_loop.EventLoop as EventLoop
-use Rattle.http_loop.specs.contracts.loops.Loops as Loops
+use Rattle.http_event_loop.proofs.accepting.Accepting.TheSendSync as accepting_of
+use Rattle.http_event_loop.proofs.asker.Asker.TheSendSync as asker_of
+use Rattle.http_event_loop.proofs.loops.Loops.TheSendSync as loops_of
+use Rattle.http_event_loop.specs.contracts.asker.Asker as Asker
+use Rattle.http_event_loop.specs.contracts.event_loop.EventLoop as EventLoop
+use Rattle.http_event_loop.specs.contracts.loops.Loops as Loops
 
 alloc : IsSend (as_row Global.the_field)
 alloc = search (heap.send, sendable)

@@ -1,16 +1,16 @@
 -- What a loop makes of the server that it asks.
 use Rattle.std.specs.Prelude.{◌≡◌, ◌≤◌, ◌+◌, ℕ, zero, suc, List, Option, Some, Result, Ok}
-use Rattle.definitions.specs.ListQueries.{ListOptions}
-use Rattle.definitions.specs.History.{View}
-use Rattle.definitions.specs.ObjectRequests.{Request}
-use Rattle.definitions.specs.Refusals.{Refusal}
-use Rattle.definitions.specs.Targets as targets
-use Rattle.definitions.specs.Verbs.{Outcome}
-use Rattle.definitions.specs.Versions.{Listed}
-use Rattle.watch_service.specs.Watches.{Look, most_changes}
+use Rattle.spec_api.specs.ListQueries.{ListOptions}
+use Rattle.spec_api.specs.History.{View}
+use Rattle.spec_api.specs.ObjectRequests.{Request}
+use Rattle.spec_api.specs.Refusals.{Refusal}
+use Rattle.spec_api.specs.Targets as targets
+use Rattle.spec_api.specs.Verbs.{Outcome}
+use Rattle.spec_api.specs.Versions.{Listed}
+use Rattle.http_watch.specs.Watches.{Look, most_changes}
 use Rattle.api.specs.Responding.{Responds}
 use Rattle.api.specs.declared.response.Response.{Response}
-use Rattle.http_loop.specs.declared.asker.Asker.{Asker}
+use Rattle.http_event_loop.specs.declared.asker.Asker.{Asker}
 
 -- it asks this server, and has not yet
 abbrev pub IsNewAsker : {S L : Type 0} → S → Asker S L → Type 0

@@ -4,8 +4,8 @@ use Rattle.http_connection.specs.Watches.{unwritten}
 use Rattle.http_connection.specs.declared.arriving.Arriving.{Arriving}
 use Rattle.http_connection.specs.declared.arriving.Awaited.{Awaited}
 use Rattle.http_connection.specs.declared.arriving.Awaited.TheVariants as awaited
-use Rattle.http_connection.specs.declared.phase.Phase.{Phase}
-use Rattle.http_connection.specs.declared.phase.Phase.TheVariants as phase
+use Rattle.http_connection.specs.declared.phase.ConnectionPhase.{ConnectionPhase}
+use Rattle.http_connection.specs.declared.phase.ConnectionPhase.TheVariants as phase
 
 -- a head has ten seconds from when the peer connected, and a request thirty
 abbrev pub awaited_deadline : Awaited → List ℕ → ℕ
@@ -17,7 +17,7 @@ abbrev pub reading_deadline : Arriving → ℕ
 reading_deadline a = awaited_deadline a.awaited a.bytes.items
 
 -- a peer that takes nothing of what is to be written has thirty, and one that is to see its connection end four
-abbrev pub deadline : Phase → Option ℕ
+abbrev pub deadline : ConnectionPhase → Option ℕ
 deadline (phase.Reading a) = Some (reading_deadline a)
 deadline (phase.Asked a) = None
 deadline phase.Answering = None

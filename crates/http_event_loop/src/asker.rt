@@ -1,7 +1,7 @@
 //! What asks a server.
 ghost use Rattle.std.specs.Prelude.{◌≤◌};
 
-use crate::turns::{Taken, Turns};
+use crate::turns::{Turns, TurnsTaken};
 use std::sync::Mutex;
 use std::sync::ledger::Ledger;
 
@@ -16,7 +16,7 @@ pub struct Asker<'a, S, L: Ledger> {
     /// The turns that are left.
     pub turns: &'a Mutex<Turns<L>>,
     /// The turns that the connections of the loop took.
-    pub taken: Taken<L>,
+    pub taken: TurnsTaken<L>,
     /// How many requests it asked.
     pub asked: u64,
     ghost within: { asked ≤ taken.count },

@@ -1,18 +1,18 @@
 //! What a loop asks its server.
 ghost use Rattle.std.specs.Prelude.{◌≡◌, ◌<◌, ◌+◌, ℕ, List, true, false};
-ghost use Rattle.asked.specs.Asked.{asked_seen};
+ghost use Rattle.request_decoding.specs.Asked.{asked_seen};
 ghost use Rattle.http_connection.specs.Looking.{LooksFrom};
 ghost use Rattle.http_connection.specs.Phases.{Answers, Stands};
-ghost use Rattle.http_connection.specs.declared.phase.Phase.TheVariants as phase;
-ghost use Rattle.http_loop.specs.Asked.{HasAsked, IsNewAsker};
+ghost use Rattle.http_connection.specs.declared.phase.ConnectionPhase.TheVariants as phase;
+ghost use Rattle.http_event_loop.specs.Asked.{HasAsked, IsNewAsker};
 
 use crate::asker::Asker;
 use crate::turns::Turns;
 use api::Served;
-use asked::Asked;
-use http_connection::{Phase, Watching, answer, look_on};
-use sites::Site;
-use stamps::moments::Moment;
+use http_backend::Site;
+use http_connection::{ConnectionPhase, Watching, answer, look_on};
+use metadata_values::moments::Moment;
+use request_decoding::Asked;
 use std::alloc::Global;
 use std::sync::ledger::Ledger;
 use std::sync::{Mutex, Wait};
@@ -49,7 +49,7 @@ impl<'a, S, L: Ledger> Asker<'a, S, L> {
 impl<S: Site, L: Ledger> Asker<'_, S, L> {
     /// Asks what a connection asks whose request is whole, and returns where it then stands.
     #[tactic(auto, using(crate::proofs::Chains::asks_one, crate::proofs::Chains::asks_nothing))]
-    pub fn answer(&mut self, alloc: Global, asked: Asked, moment: Moment) -> Phase
+    pub fn answer(&mut self, alloc: Global, asked: Asked, moment: Moment) -> ConnectionPhase
         ensures asked { HasAsked S.Calls S.Lists S.Begins S.Watches self.old self.new }
         ensures counts { self.old.asked < self.old.taken.count → self.new.asked ≡ self.old.asked + 1 }
         ensures answers { self.old.asked < self.old.taken.count
@@ -59,7 +59,7 @@ impl<S: Site, L: Ledger> Asker<'_, S, L> {
             → Stands S.Calls S.Lists S.Begins S.Watches result read written }
     {
         if self.asked >= self.taken.count {
-            return Phase::Closing(Served::NotAsked);
+            return ConnectionPhase::Closing(Served::NotAsked);
         }
         self.asked += 1;
         answer(alloc, asked, &mut self.site, moment)
@@ -67,7 +67,7 @@ impl<S: Site, L: Ledger> Asker<'_, S, L> {
 
     /// Takes one look of a watch, and returns where its connection then stands.
     #[tactic(auto, using(crate::proofs::Chains::asks_look))]
-    pub fn look(&mut self, alloc: Global, watching: Watching) -> Phase
+    pub fn look(&mut self, alloc: Global, watching: Watching) -> ConnectionPhase
         ensures asked { HasAsked S.Calls S.Lists S.Begins S.Watches self.old self.new }
         ensures looks { LooksFrom S.Watches watching self.old.site self.new.site watching.at result }
         ensures stands { (read written : List ℕ) → Stands S.Calls S.Lists S.Begins S.Watches (phase.Watching watching) read written

@@ -1,14 +1,14 @@
 //! How many connections some loops took.
 ghost use Rattle.std.specs.Prelude.{◌≡◌, ◌≤◌, ◌<◌, ◌^◌};
-ghost use Rattle.http_loop.specs.Counted.{taken_over};
+ghost use Rattle.http_event_loop.specs.Counted.{taken_over};
 
 use crate::event_loop::EventLoop;
-use crate::turns::Taken;
+use crate::turns::TurnsTaken;
 use std::sync::ledger::Ledger;
 
 impl<S: Drop, L: Ledger> EventLoop<'_, S, L> {
     /// Returns the turns that its connections took.
-    fn into_taken(self) -> Taken<L>
+    fn into_taken(self) -> TurnsTaken<L>
         ensures { result ≡ self.entry.asker.taken }
     {
         self.asker.taken

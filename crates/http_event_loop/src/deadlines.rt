@@ -1,8 +1,8 @@
 //! How long a connection may stand where it does.
 ghost use Rattle.std.specs.Prelude.{◌≡◌};
-ghost use Rattle.http_loop.specs.Deadlines.{deadline, reading_deadline};
+ghost use Rattle.http_event_loop.specs.Deadlines.{deadline, reading_deadline};
 
-use http_connection::{Arriving, Awaited, Phase};
+use http_connection::{Arriving, Awaited, ConnectionPhase};
 
 /// How many seconds a peer has for its head, from when it connected.
 pub const HEAD_SECONDS: u64 = 10;
@@ -34,20 +34,20 @@ fn reading_seconds(arriving: &Arriving) -> u64
 
 /// Returns how many seconds a connection may stand here: while it is read, from when it connected; else from when its peer last took
 /// something. None where it waits for nothing of its peer.
-pub fn seconds(phase: &Phase) -> Option<u64>
+pub fn seconds(phase: &ConnectionPhase) -> Option<u64>
     ensures { result ≡ deadline phase.now }
 {
     match phase {
-        Phase::Reading(arriving) => Some(reading_seconds(arriving)),
-        Phase::Replying(_) => Some(WRITING_SECONDS),
-        Phase::Watching(watching) => {
+        ConnectionPhase::Reading(arriving) => Some(reading_seconds(arriving)),
+        ConnectionPhase::Replying(_) => Some(WRITING_SECONDS),
+        ConnectionPhase::Watching(watching) => {
             if watching.has_more() {
                 Some(WRITING_SECONDS)
             } else {
                 None
             }
         }
-        Phase::Asked(_) | Phase::Answering => None,
-        Phase::Closing(_) => Some(LINGERING_SECONDS),
+        ConnectionPhase::Asked(_) | ConnectionPhase::Answering => None,
+        ConnectionPhase::Closing(_) => Some(LINGERING_SECONDS),
     }
 }

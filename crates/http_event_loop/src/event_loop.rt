@@ -1,17 +1,17 @@
 //! A loop.
 ghost use Rattle.std.specs.Prelude.{IfOk};
-ghost use Rattle.http_loop.specs.Asked.{HasAsked, IsNewAsker};
+ghost use Rattle.http_event_loop.specs.Asked.{HasAsked, IsNewAsker};
 
 use crate::accepting::{Accepting, Listening};
 use crate::asker::Asker;
 use crate::loops::Loops;
 use crate::open_connections::Connections;
-use crate::place::Place;
+use crate::place::LoopPlace;
 use crate::rounds::Rounds;
 use crate::turns::Turns;
+use http_backend::Site;
 use mio::{Events, Poll};
-use routes::table::Routes;
-use sites::Site;
+use request_routing::table::Routes;
 use std::alloc::Global;
 use std::io;
 use std::sync::ledger::Ledger;
@@ -45,13 +45,13 @@ impl<'a, S: Drop, L: Ledger> EventLoop<'a, S, L> {
         alloc: Global,
         loops: &'a Loops,
         turns: &'a Mutex<Turns<L>>,
-        place: Place,
+        place: LoopPlace,
         listening: Option<Listening>,
         site: S,
     ) -> io::Result<EventLoop<'a, S, L>>
         ensures { IfOk result (λ made. IsNewAsker site made.asker) }
     {
-        let Place { poll, number } = place;
+        let LoopPlace { poll, number } = place;
         let accepting = match listening {
             Some(listening) => Some(Accepting::new(&poll, listening)?),
             None => None,

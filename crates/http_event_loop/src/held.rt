@@ -1,16 +1,16 @@
 //! A connection that a loop holds.
-ghost use Rattle.http_loop.specs.Asked.{HasAsked};
+ghost use Rattle.http_event_loop.specs.Asked.{HasAsked};
 
 use crate::asker::Asker;
 use crate::deadlines::seconds;
 use crate::ticks::Tick;
 use api::Served;
-use definitions::kinds::Kind;
-use http_connection::{Arriving, Phase, end_watch, turn};
+use http_backend::Site;
+use http_connection::{Arriving, ConnectionPhase, end_watch, turn};
 use mio::event::Event;
 use mio::net::TcpStream;
-use routes::table::Routes;
-use sites::Site;
+use request_routing::table::Routes;
+use spec_api::kinds::Kind;
 use std::alloc::Global;
 use std::io::{ErrorKind, Read};
 use std::net::Shutdown;
@@ -34,7 +34,7 @@ const PIECE: usize = 4096;
 #[derive(Drop)]
 pub(crate) struct Held {
     pub(crate) stream: TcpStream,
-    phase: Phase,
+    phase: ConnectionPhase,
     /// When the peer connected.
     since: Instant,
     /// When it last took something, or there was nothing for it to take.
@@ -50,10 +50,10 @@ pub(crate) struct Held {
 }
 
 /// Returns how many pieces were made of what there is to take, and how much is made and not taken; nothing where there is nothing to take.
-fn extent(phase: &Phase) -> Option<(usize, usize)> {
+fn extent(phase: &ConnectionPhase) -> Option<(usize, usize)> {
     match phase {
-        Phase::Replying(replying) => Some((0, usize::MAX - replying.taken)),
-        Phase::Watching(watching) if watching.has_more() => {
+        ConnectionPhase::Replying(replying) => Some((0, usize::MAX - replying.taken)),
+        ConnectionPhase::Watching(watching) if watching.has_more() => {
             Some((watching.pieces, watching.left()))
         }
         _ => None,
@@ -73,7 +73,7 @@ impl Held {
     pub(crate) fn new(alloc: Global, stream: TcpStream, now: Instant) -> Held {
         Held {
             stream,
-            phase: Phase::Reading(Arriving::new(alloc)),
+            phase: ConnectionPhase::Reading(Arriving::new(alloc)),
             since: now,
             took: now,
             watched: None,
@@ -84,8 +84,8 @@ impl Held {
     }
 
     /// Takes where the connection stands, which is to be put back.
-    fn take_phase(&mut self) -> Phase {
-        std::mem::replace(&mut self.phase, Phase::Answering)
+    fn take_phase(&mut self) -> ConnectionPhase {
+        std::mem::replace(&mut self.phase, ConnectionPhase::Answering)
     }
 
     /// Reads and writes as far as that goes now.
@@ -116,7 +116,7 @@ impl Held {
     {
         self.turn::<S>(alloc, routes, tick.now);
         match self.take_phase() {
-            Phase::Asked(asked) => {
+            ConnectionPhase::Asked(asked) => {
                 self.phase = asker.answer(alloc, asked, tick.moment);
                 self.took = tick.now;
                 self.turn::<S>(alloc, routes, tick.now);
@@ -137,7 +137,7 @@ impl Held {
         ensures { HasAsked S.Calls S.Lists S.Begins S.Watches asker.old asker.new }
     {
         match self.take_phase() {
-            Phase::Watching(watching) => {
+            ConnectionPhase::Watching(watching) => {
                 if !watching.has_more() {
                     self.took = now;
                 }
@@ -152,7 +152,7 @@ impl Held {
     /// Returns whether a look may be taken: all that the watch opened with is made, and its peer has taken enough of what was to be written.
     pub(crate) fn can_look(&self) -> bool {
         match &self.phase {
-            Phase::Watching(watching) => {
+            ConnectionPhase::Watching(watching) => {
                 watching.at.is_some() && !watching.rest.has_more() && watching.left() < MOST_AHEAD
             }
             _ => false,
@@ -161,7 +161,7 @@ impl Held {
 
     /// Has the watch looked at as soon as it can be, after a write of its kind.
     pub(crate) fn hurry(&mut self) {
-        if let Phase::Watching(watching) = &self.phase {
+        if let ConnectionPhase::Watching(watching) = &self.phase {
             if let Some(at) = watching.at {
                 if at.idle < MOST_HURRIED {
                     self.is_due = true;
@@ -185,18 +185,18 @@ impl Held {
 
     /// Leaves the connection as it is.
     pub(crate) fn leave(&mut self) {
-        self.phase = Phase::Closing(Served::Asked);
+        self.phase = ConnectionPhase::Closing(Served::Asked);
     }
 
     /// Ends the connection as far as that goes without its peer, as at a stop: a watch is written its end, a reply is written on, and what is
     /// no whole request is left.
     pub(crate) fn stop<S: Site>(&mut self, alloc: Global, routes: &Routes, now: Instant) {
         match self.take_phase() {
-            Phase::Watching(watching) => {
+            ConnectionPhase::Watching(watching) => {
                 self.phase = end_watch::<S>(alloc, watching);
                 self.turn::<S>(alloc, routes, now);
             }
-            Phase::Replying(replying) => self.phase = Phase::Replying(replying),
+            ConnectionPhase::Replying(replying) => self.phase = ConnectionPhase::Replying(replying),
             _ => self.leave(),
         }
     }
@@ -225,8 +225,8 @@ impl Held {
     /// still comes, up to 64 KiB: a stream that is closed before its bytes are read is reset, and its peer may lose the reply.
     pub(crate) fn goes_on(&mut self, now: Instant) -> bool {
         match &self.phase {
-            Phase::Closing(Served::Asked) => false,
-            Phase::Closing(Served::NotAsked) => self.reads_away(now),
+            ConnectionPhase::Closing(Served::Asked) => false,
+            ConnectionPhase::Closing(Served::NotAsked) => self.reads_away(now),
             _ => true,
         }
     }

@@ -28,5 +28,5 @@ pub use asker::Asker;
 pub use counting::count_taken;
 pub use event_loop::EventLoop;
 pub use loops::Loops;
-pub use place::Place;
-pub use turns::{Taken, Turns};
+pub use place::LoopPlace;
+pub use turns::{Turns, TurnsTaken};

@@ -2,10 +2,10 @@
 ghost use Rattle.std.specs.Prelude.{◌≡◌, IfOk, length};
 
 use crate::opened::Open;
-use crate::place::Place;
+use crate::place::LoopPlace;
 use crate::wakes::Wakes;
-use definitions::kinds::Kind;
 use mio::Poll;
+use spec_api::kinds::Kind;
 use std::alloc::Global;
 use std::io;
 use std::net::Net;
@@ -24,7 +24,7 @@ pub struct Loops {
 
 impl Loops {
     /// Returns what so many loops share, and where each waits.
-    pub fn open<R: Net>(rt: &R, alloc: Global, count: usize) -> io::Result<(Loops, Vec<Place>)>
+    pub fn open<R: Net>(rt: &R, alloc: Global, count: usize) -> io::Result<(Loops, Vec<LoopPlace>)>
         ensures { IfOk result (λ opened. length opened.1.items ≡ count) }
     {
         let mut wakes = Vec::with_capacity(alloc, count)?;
@@ -32,7 +32,7 @@ impl Loops {
         for number in 0..count {
             let poll = Poll::new(rt)?;
             wakes.push(Wakes::new(alloc, &poll)?)?;
-            places.push(Place { poll, number })?;
+            places.push(LoopPlace { poll, number })?;
         }
         let loops = Loops {
             wakes,

@@ -1,5 +1,5 @@
 //! The connections of a loop.
-ghost use Rattle.http_loop.specs.Asked.{HasAsked};
+ghost use Rattle.http_event_loop.specs.Asked.{HasAsked};
 
 use crate::asker::Asker;
 use crate::held::Held;
@@ -7,13 +7,13 @@ use crate::loops::Loops;
 use crate::rota::Rota;
 use crate::ticks::Tick;
 use crate::wakes::Wakes;
-use definitions::kinds::Kind;
+use http_backend::Site;
 use mio::event::Event;
 use mio::net::TcpStream;
 use mio::{Interest, Registry, Token};
-use routes::table::Routes;
-use sites::Site;
+use request_routing::table::Routes;
 use slab::Slab;
+use spec_api::kinds::Kind;
 use std::alloc::Global;
 use std::sync::Wait;
 use std::sync::ledger::Ledger;

@@ -1,6 +1,6 @@
 //! Turns among keys.
 ghost use Rattle.std.specs.Prelude.{◌≡◌, ◌≤◌, ◌+◌, ◌++◌, ◌∷◌, [], IfNone, IfSome, OnErr, OnOk, length, is_none, slice_get, slice_index_or, swap_remove};
-ghost use Rattle.http_loop.specs.Rotas.{turn};
+ghost use Rattle.http_event_loop.specs.Rotas.{turn};
 
 use std::alloc::{AllocError, Global};
 

@@ -1,5 +1,5 @@
 //! The rounds of a loop.
-ghost use Rattle.http_loop.specs.Asked.{HasAsked};
+ghost use Rattle.http_event_loop.specs.Asked.{HasAsked};
 
 use crate::accepting::{Accepting, LISTENER};
 use crate::asker::Asker;
@@ -7,10 +7,10 @@ use crate::loops::Loops;
 use crate::open_connections::Connections;
 use crate::ticks::Tick;
 use crate::wakes::{WAKER, Wakes};
+use http_backend::Site;
 use mio::event::Event;
 use mio::net::TcpStream;
 use mio::{Events, Poll, Registry};
-use sites::Site;
 use std::io;
 use std::io::ErrorKind;
 use std::sync::Wait;

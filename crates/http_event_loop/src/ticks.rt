@@ -1,6 +1,6 @@
 //! When a loop is.
 use clocks::moment;
-use stamps::moments::Moment;
+use metadata_values::moments::Moment;
 use std::time::{Clock, Duration, Instant};
 
 /// When a round of a loop is.

@@ -15,7 +15,7 @@ pub struct Turns<L: Ledger> {
 
 /// How many turns were taken.
 #[derive(Drop)]
-pub struct Taken<L: Ledger> {
+pub struct TurnsTaken<L: Ledger> {
     pub count: u64,
     parts: Share<L>,
     ghost counted: { parts.parts ≡ count },
@@ -34,17 +34,17 @@ impl<L: Ledger> Turns<L> {
     }
 
     /// Takes no turn.
-    pub fn take_none(&mut self) -> Taken<L>
+    pub fn take_none(&mut self) -> TurnsTaken<L>
         ensures { result.count ≡ 0 }
     {
-        Taken {
+        TurnsTaken {
             count: 0,
             parts: self.parts.empty(),
         }
     }
 
     /// Takes a turn, if one is left.
-    pub fn take(&mut self) -> Option<Taken<L>>
+    pub fn take(&mut self) -> Option<TurnsTaken<L>>
         ensures { IfSome result (λ taken. taken.count ≡ 1) }
     {
         if self.left == 0 {
@@ -53,27 +53,27 @@ impl<L: Ledger> Turns<L> {
         let Turns { left, parts } = self;
         let part = parts.split_off(1, 0);
         *left -= 1;
-        Some(Taken {
+        Some(TurnsTaken {
             count: 1,
             parts: part,
         })
     }
 }
 
-impl<L: Ledger> Taken<L> {
+impl<L: Ledger> TurnsTaken<L> {
     /// Adds the turns that were taken elsewhere, and returns whether they could be counted: they can where there are no more turns than a
     /// count can say.
-    pub fn add(&mut self, other: Taken<L>) -> bool
+    pub fn add(&mut self, other: TurnsTaken<L>) -> bool
         ensures sum { result ≡ true → self.new.count ≡ self.old.count + other.count }
         ensures most { result ≡ true → self.new.count ≤ L.parts }
         ensures none { result ≡ false → self.new.count ≡ self.old.count }
         ensures counts { L.parts < 2 ^ 64 → result ≡ true }
     {
-        let Taken {
+        let TurnsTaken {
             count: more,
             parts: others,
         } = other;
-        let Taken { count, parts } = self;
+        let TurnsTaken { count, parts } = self;
         parts.merge(others);
         match count.checked_add(more) {
             Some(sum) => {
@@ -92,7 +92,7 @@ impl<L: Ledger> Taken<L> {
         ensures count { result ≡ self.count }
         ensures most { result ≤ L.parts }
     {
-        let Taken { count, mut parts } = self;
+        let TurnsTaken { count, mut parts } = self;
         let none = parts.empty();
         parts.merge(none);
         count

@@ -1,8 +1,8 @@
 //! What other threads reach of a loop.
 use crossbeam_queue::ArrayQueue;
-use definitions::kinds::Kind;
 use mio::net::TcpStream;
 use mio::{Poll, Token, Waker};
+use spec_api::kinds::Kind;
 use std::alloc::Global;
 use std::io;
 use std::sync::Wait;

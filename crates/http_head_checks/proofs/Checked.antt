@@ -1,29 +1,29 @@
 -- The checks of a head, one after another.
 use Rattle.std.proofs.Common.{◌≡◌, ℕ, Bool, true, false, not, cond, Option, Some, None, Result, Ok, Err, inl, inr, refl, sym, ap, ◌∙◌, subst}
 use Rattle.std.specs.Prelude.{unwrap_or}
-use Rattle.definitions.specs.declared.methods.Method.{Method}
-use Rattle.definitions.specs.declared.methods.Method.TheVariants.{Get}
-use Rattle.definitions.specs.declared.refusals.Part.{Part}
-use Rattle.definitions.specs.declared.refusals.Part.TheVariants as part
-use Rattle.definitions.specs.Refusals.{Refusal, bad_request, no_such_path, method_not_allowed}
-use Rattle.definitions.specs.Targets.{Route, route, path_of, names_namespace, is_allowed, query_for}
-use Rattle.definitions.specs.Targets as queries
-use Rattle.connections.specs.Heads.{Head, stated_length, method_named}
-use Rattle.connections.specs.Checks as words
-use Rattle.connections.specs.Checks.{length_or_none, body_checked, query_checked, method_checked, path_checked, length_checked, checked}
-use Rattle.keys.specs.Faults.{refusal_of}
-use Rattle.keys.specs.declared.fault.Fault.{Fault}
-use Rattle.request_heads.specs.declared.body_length.BodyLength.{BodyLength}
-use Rattle.request_heads.specs.declared.body_length.BodyLength.TheVariants as kind
-use Rattle.request_heads.specs.Fields.{IsLength}
-use Rattle.requests.specs.Checked.{checked_route}
-use Rattle.requests.specs.Collected.{Gives}
-use Rattle.requests.specs.Faults.{query_fault}
-use Rattle.requests.specs.Queried.{query_seen}
-use Rattle.requests.specs.declared.faults.QueryFault.{QueryFault}
-use Rattle.requests.specs.declared.faults.QueryFault.TheVariants as query
-use Rattle.head_checks.specs.declared.opening.Opening.{Opening}
-use Rattle.head_checks.specs.Openings.{Opens, ChecksBody, opening_seen}
+use Rattle.spec_api.specs.declared.methods.Method.{Method}
+use Rattle.spec_api.specs.declared.methods.Method.TheVariants.{Get}
+use Rattle.spec_api.specs.declared.refusals.Part.{Part}
+use Rattle.spec_api.specs.declared.refusals.Part.TheVariants as part
+use Rattle.spec_api.specs.Refusals.{Refusal, bad_request, no_such_path, method_not_allowed}
+use Rattle.spec_api.specs.Targets.{Route, route, path_of, names_namespace, is_allowed, query_for}
+use Rattle.spec_api.specs.Targets as queries
+use Rattle.spec_http_server.specs.Heads.{Head, stated_length, method_named}
+use Rattle.spec_http_server.specs.Checks as words
+use Rattle.spec_http_server.specs.Checks.{length_or_none, body_checked, query_checked, method_checked, path_checked, length_checked, checked}
+use Rattle.object_keys.specs.Faults.{refusal_of}
+use Rattle.object_keys.specs.declared.fault.Fault.{Fault}
+use Rattle.http_request_head.specs.declared.body_length.BodyLength.{BodyLength}
+use Rattle.http_request_head.specs.declared.body_length.BodyLength.TheVariants as kind
+use Rattle.http_request_head.specs.Fields.{IsLength}
+use Rattle.request_parts.specs.Checked.{checked_route}
+use Rattle.request_parts.specs.Collected.{Gives}
+use Rattle.request_parts.specs.Faults.{query_fault}
+use Rattle.request_parts.specs.Queried.{query_seen}
+use Rattle.request_parts.specs.declared.faults.QueryFault.{QueryFault}
+use Rattle.request_parts.specs.declared.faults.QueryFault.TheVariants as query
+use Rattle.http_head_checks.specs.declared.opening.CheckedHead.{CheckedHead}
+use Rattle.http_head_checks.specs.Openings.{Opens, ChecksBody, opening_seen}
 
 -- what is no bad length is none, or one
 stated_is : (s : Option (Option ℕ)) (length : BodyLength) → IsLength s length → (length ≡ kind.Bad → ⊥) → (stated : Option ℕ) × (s ≡ Some stated)
@@ -32,7 +32,7 @@ stated_is s kind.Bad is good = absurd (good refl)
 stated_is s (kind.Stated n) is good = (Some n, is.0)
 stated_is s kind.TooLong is good = (Some is.0, is.1)
 
-pub from_path : (h : Head) (length : BodyLength) (r : Result Opening Fault) → IsLength (stated_length h) length → (length ≡ kind.Bad → ⊥)
+pub from_path : (h : Head) (length : BodyLength) (r : Result CheckedHead Fault) → IsLength (stated_length h) length → (length ≡ kind.Bad → ⊥)
     → ((stated : Option ℕ) → IsLength (Some stated) length → Opens (path_checked h stated (route (path_of h.target))) r) → Opens (checked h) r
 from_path h length r is good opens =
     let stated = stated_is (stated_length h) length is good in
@@ -105,7 +105,7 @@ query_refused h stated m r q query.BadQuery f gives is = inr (ap (query_checked 
 query_refused h stated m r q query.BadToken f gives is = inr (ap (query_checked h stated m r) gives ∙ ap (λ x. Err (refusal_of x)) (sym is))
 query_refused h stated m r q query.NoMemory f gives is = inl is
 
-pub body_opens : (h : Head) (stated : Option ℕ) (q : Result queries.Query Part) (o : Opening) (n : ℕ) → q ≡ Ok (query_seen o.query) → o.body_length ≡ n
+pub body_opens : (h : Head) (stated : Option ℕ) (q : Result queries.Query Part) (o : CheckedHead) (n : ℕ) → q ≡ Ok (query_seen o.query) → o.body_length ≡ n
     → ChecksBody h stated (record { method = o.method; route = (opening_seen o).route; query = query_seen o.query; body_length = length_or_none stated }) (Ok n)
     → query_checked h stated o.method (opening_seen o).route q ≡ Ok (opening_seen o)
 body_opens h stated q o n is same checks =

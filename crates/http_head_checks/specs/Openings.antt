@@ -1,22 +1,22 @@
 -- What heads ask, as connections have it.
 use Rattle.std.specs.Prelude.{◌≡◌, ◌⊎◌, ℕ, Option, Result, Ok, Err}
-use Rattle.definitions.specs.Refusals.{Refusal}
-use Rattle.connections.specs.Heads.{Head}
-use Rattle.connections.specs.Checks as words
-use Rattle.connections.specs.Checks.{body_checked}
-use Rattle.keys.specs.Faults.{refusal_of}
-use Rattle.keys.specs.declared.fault.Fault.{Fault}
-use Rattle.keys.specs.declared.fault.Fault.TheVariants as fault
-use Rattle.requests.specs.Queried.{query_seen}
-use Rattle.routes.specs.Seen.{route_seen}
-use Rattle.head_checks.specs.declared.opening.Opening.{Opening}
+use Rattle.spec_api.specs.Refusals.{Refusal}
+use Rattle.spec_http_server.specs.Heads.{Head}
+use Rattle.spec_http_server.specs.Checks as words
+use Rattle.spec_http_server.specs.Checks.{body_checked}
+use Rattle.object_keys.specs.Faults.{refusal_of}
+use Rattle.object_keys.specs.declared.fault.Fault.{Fault}
+use Rattle.object_keys.specs.declared.fault.Fault.TheVariants as fault
+use Rattle.request_parts.specs.Queried.{query_seen}
+use Rattle.request_routing.specs.Seen.{route_seen}
+use Rattle.http_head_checks.specs.declared.opening.CheckedHead.{CheckedHead}
 
 -- what a head asks, in the words of connections
-abbrev pub opening_seen : Opening → words.Opening
+abbrev pub opening_seen : CheckedHead → words.Opening
 opening_seen o = record { method = o.method; route = route_seen o.target; query = query_seen o.query; body_length = o.body_length }
 
 -- the result is what is asked, or this refusal, or out of memory
-abbrev pub Opens : Result words.Opening Refusal → Result Opening Fault → Type 0
+abbrev pub Opens : Result words.Opening Refusal → Result CheckedHead Fault → Type 0
 Opens wanted (Ok o) = wanted ≡ Ok (opening_seen o)
 Opens wanted (Err e) = (e ≡ fault.NoMemory) ⊎ (wanted ≡ Err (refusal_of e))
 

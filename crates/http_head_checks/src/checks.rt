@@ -1,31 +1,31 @@
 //! The checks of a head.
 ghost use Rattle.std.specs.Prelude.{◌≡◌, ℕ, Option, Some, ◌&&◌, not, is_some, map, codes};
-ghost use Rattle.definitions.specs.Targets.{Route, route, path_of, query_for};
-ghost use Rattle.connections.specs.Heads as heads;
-ghost use Rattle.connections.specs.Heads.{values_of, first_type};
-ghost use Rattle.connections.specs.Checks.{length_or_none, query_checked, path_checked, checked};
-ghost use Rattle.connections.specs.Checks as words;
-ghost use Rattle.request_heads.specs.Fields.{field_seen, IsLength};
-ghost use Rattle.request_heads.specs.RequestHeads.{head_seen};
-ghost use Rattle.requests.specs.Collected.{read_seen};
-ghost use Rattle.requests.specs.Queried.{query_seen};
-ghost use Rattle.routes.specs.Seen.{route_seen};
-ghost use Rattle.head_checks.specs.Openings.{Opens, ChecksBody};
+ghost use Rattle.spec_api.specs.Targets.{Route, route, path_of, query_for};
+ghost use Rattle.spec_http_server.specs.Heads as heads;
+ghost use Rattle.spec_http_server.specs.Heads.{values_of, first_type};
+ghost use Rattle.spec_http_server.specs.Checks.{length_or_none, query_checked, path_checked, checked};
+ghost use Rattle.spec_http_server.specs.Checks as words;
+ghost use Rattle.http_request_head.specs.Fields.{field_seen, IsLength};
+ghost use Rattle.http_request_head.specs.RequestHeads.{head_seen};
+ghost use Rattle.request_parts.specs.Collected.{read_seen};
+ghost use Rattle.request_parts.specs.Queried.{query_seen};
+ghost use Rattle.request_routing.specs.Seen.{route_seen};
+ghost use Rattle.http_head_checks.specs.Openings.{Opens, ChecksBody};
 
-use crate::opening::Opening;
-use definitions::methods::Method;
-use definitions::refusals::Part;
-use keys::Fault;
-use request_heads::body_length::content_length;
-use request_heads::field::has_transfer_coding;
-use request_heads::media_type::media_type;
-use request_heads::method::method_named;
-use request_heads::{BodyLength, Field, RequestHead};
-use requests::check::check_request;
-use requests::collections::Read;
-use requests::query::{Query, read_query};
-use routes::table::Routes;
-use routes::targets::Target;
+use crate::opening::CheckedHead;
+use http_request_head::body_length::content_length;
+use http_request_head::field::has_transfer_coding;
+use http_request_head::media_type::media_type;
+use http_request_head::method::method_named;
+use http_request_head::{BodyLength, HeaderField, RequestHead};
+use object_keys::Fault;
+use request_parts::check::check_request;
+use request_parts::collections::CollectionRead;
+use request_parts::query::{Query, read_query};
+use request_routing::table::Routes;
+use request_routing::targets::Target;
+use spec_api::methods::Method;
+use spec_api::refusals::Part;
 use std::alloc::Global;
 
 /// Returns what a head asks, but for its body. The error is the first refusal: of the length that it states, the path, the
@@ -35,7 +35,7 @@ pub fn check_head<'h>(
     alloc: Global,
     routes: &Routes,
     head: &RequestHead<'h>,
-) -> Result<Opening<'h>, Fault>
+) -> Result<CheckedHead<'h>, Fault>
     ensures { Opens (checked (head_seen head.now)) result }
 {
     match content_length(&head.fields) {
@@ -51,7 +51,7 @@ fn check_path<'h>(
     routes: &Routes,
     head: &RequestHead<'h>,
     length: BodyLength,
-) -> Result<Opening<'h>, Fault>
+) -> Result<CheckedHead<'h>, Fault>
     ensures { (stated : Option ℕ) → IsLength (Some stated) length
         → Opens (path_checked (head_seen head.now) stated (route (path_of head.now.target.now))) result }
 {
@@ -73,7 +73,7 @@ fn check_query<'h>(
     method: Method,
     target: Target<'h>,
     length: BodyLength,
-) -> Result<Opening<'h>, Fault>
+) -> Result<CheckedHead<'h>, Fault>
     ensures { (stated : Option ℕ) → IsLength (Some stated) length
         → Opens (query_checked (head_seen head.now) stated method (route_seen target.entry) (query_for method (route_seen target.entry) head.now.target.now)) result }
 {
@@ -82,7 +82,7 @@ fn check_query<'h>(
         Err(fault) => return Err(Fault::from(fault)),
     };
     match check_body(head, method, &query, length) {
-        Ok(body_length) => Ok(Opening {
+        Ok(body_length) => Ok(CheckedHead {
             method,
             target,
             query,
@@ -124,8 +124,8 @@ fn is_watch(query: &Query) -> bool
     ensures { result ≡ words.is_watch (read_seen query.now.collection.read) }
 {
     match query.collection.read {
-        Read::List(_) => false,
-        Read::Watch(_) => true,
+        CollectionRead::List(_) => false,
+        CollectionRead::Watch(_) => true,
     }
 }
 
@@ -140,7 +140,7 @@ fn is_missing(method: Method, length: BodyLength) -> bool
 }
 
 /// Returns whether a method takes a body of the media type that the fields of its head name.
-fn takes_type(method: Method, fields: &[Field<'_>]) -> bool
+fn takes_type(method: Method, fields: &[HeaderField<'_>]) -> bool
     ensures { result ≡ heads.takes_type method (first_type (values_of (codes "content-type") (map field_seen fields.now))) }
 {
     match (method, media_type(fields)) {

@@ -5,4 +5,4 @@ pub mod checks;
 pub mod opening;
 
 pub use checks::check_head;
-pub use opening::Opening;
+pub use opening::CheckedHead;

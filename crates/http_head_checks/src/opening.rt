@@ -1,11 +1,11 @@
 //! What a head asks.
-use definitions::methods::Method;
-use requests::query::Query;
-use routes::targets::Target;
+use request_parts::query::Query;
+use request_routing::targets::Target;
+use spec_api::methods::Method;
 
 /// What the head of a request asks, but for its body: a method, a target, a query, and how many bytes the body has.
 #[derive(Drop)]
-pub struct Opening<'h> {
+pub struct CheckedHead<'h> {
     pub method: Method,
     pub target: Target<'h>,
     pub query: Query,

@@ -7,7 +7,7 @@ use std::io::ErrorKind;
 
 /// Why a server does not serve, or no longer.
 #[derive(Debug, Clone, Copy, PartialEq, Eq)]
-pub enum ServeFault {
+pub enum ListenFault {
     /// The port could not be listened on, or its connections no longer be waited for.
     Listen,
     /// Where the server listens could not be written.
@@ -17,13 +17,13 @@ pub enum ServeFault {
 }
 
 /// Returns why a port is not listened on: out of memory, or it could not be.
-pub fn not_listening(error: &io::Error) -> ServeFault
-    ensures memory { error_kind error.now ≡ ErrorKind.OutOfMemory → result ≡ ServeFault.NoMemory }
-    ensures listen { error_kind error.now ≢ ErrorKind.OutOfMemory → result ≡ ServeFault.Listen }
+pub fn not_listening(error: &io::Error) -> ListenFault
+    ensures memory { error_kind error.now ≡ ErrorKind.OutOfMemory → result ≡ ListenFault.NoMemory }
+    ensures listen { error_kind error.now ≢ ErrorKind.OutOfMemory → result ≡ ListenFault.Listen }
 {
     if error.kind() == ErrorKind::OutOfMemory {
-        ServeFault::NoMemory
+        ListenFault::NoMemory
     } else {
-        ServeFault::Listen
+        ListenFault::Listen
     }
 }

@@ -8,7 +8,7 @@ pub mod listening;
 pub mod rows;
 pub mod runner;
 
-pub use fault::{ServeFault, not_listening};
+pub use fault::{ListenFault, not_listening};
 pub use listening::{announce, bind, listen};
 pub use rows::run_row;
 pub use runner::Runner;

@@ -1,8 +1,8 @@
 //! Rows, of which each runs on a thread of its own.
 ghost use Rattle.std.specs.Thread.{IsSend, IsSync};
-ghost use Rattle.serving.specs.Rows.{RunsEach};
+ghost use Rattle.http_listener.specs.Rows.{RunsEach};
 
-use crate::fault::ServeFault;
+use crate::fault::ListenFault;
 use crate::runner::Runner;
 use std::sync::Wait;
 use std::thread::{Threads, join_mut};
@@ -10,17 +10,17 @@ use std::time::Clock;
 
 /// Runs the first on a thread of its own, and meanwhile the others.
 #[cycle(row)]
-fn run_beside<R, H>(rt: &R, first: &mut H, rest: &mut [H]) -> Result<(), ServeFault>
+fn run_beside<R, H>(rt: &R, first: &mut H, rest: &mut [H]) -> Result<(), ListenFault>
 where
     R: Threads + Wait + Clock + Sync,
     H: Runner + Send,
     ensures own { H.step first.old first.new }
     ensures others { RunsEach H.step rest.old rest.new }
 {
-    let mut here = || -> Result<(), ServeFault>
+    let mut here = || -> Result<(), ListenFault>
         ensures { H.step first.entry.now first.exit.now }
     { first.run(rt) };
-    let mut there = || -> Result<(), ServeFault>
+    let mut there = || -> Result<(), ListenFault>
         requires { IsSync R.row × IsSend H.row }
         ensures { RunsEach H.step rest.entry.now rest.exit.now }
     { run_row(rt, rest) };
@@ -34,7 +34,7 @@ where
 ///
 /// No clause says that two of them run at one time.
 #[cycle(row)]
-pub fn run_row<R, H>(rt: &R, row: &mut [H]) -> Result<(), ServeFault>
+pub fn run_row<R, H>(rt: &R, row: &mut [H]) -> Result<(), ListenFault>
 where
     R: Threads + Wait + Clock + Sync,
     H: Runner + Send,

@@ -1,7 +1,7 @@
 //! What runs on a thread of its own.
-use crate::fault::{ServeFault, not_listening};
-use http_loop::EventLoop;
-use sites::Site;
+use crate::fault::{ListenFault, not_listening};
+use http_backend::Site;
+use http_event_loop::EventLoop;
 use std::sync::Wait;
 use std::sync::ledger::Ledger;
 use std::time::Clock;
@@ -12,16 +12,16 @@ pub trait Runner {
     ghost step: { Self → Self → Type 0 };
 
     /// Runs until all of the row are to stop. The error is one of the system, after which all of them stop.
-    fn run<R: Wait + Clock>(&mut self, rt: &R) -> Result<(), ServeFault>
+    fn run<R: Wait + Clock>(&mut self, rt: &R) -> Result<(), ListenFault>
         ensures { step self.old self.new };
 }
 
 impl<S: Site, L: Ledger> Runner for EventLoop<'_, S, L> {
-    ghost use Rattle.http_loop.specs.Asked.{HasAsked};
+    ghost use Rattle.http_event_loop.specs.Asked.{HasAsked};
 
     ghost step = { λ before after. HasAsked S.Calls S.Lists S.Begins S.Watches before.asker after.asker };
 
-    fn run<R: Wait + Clock>(&mut self, rt: &R) -> Result<(), ServeFault> {
+    fn run<R: Wait + Clock>(&mut self, rt: &R) -> Result<(), ListenFault> {
         match EventLoop::run(self, rt) {
             Ok(()) => Ok(()),
             Err(error) => Err(not_listening(&error)),

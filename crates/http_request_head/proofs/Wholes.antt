@@ -7,11 +7,11 @@ use Rattle.httparse.specs.declared.spans.RequestSpans.{RequestSpans}
 use Rattle.httparse.specs.Grammar.{RequestHead, ReadsRequest, NeverHasRequest, HasNoRequest}
 use Rattle.httparse.specs.Spans.{IsRequestAt}
 use Rattle.httparse.proofs.GrammarLemmas.{request_unique, ReadsRequest-append}
-use Rattle.connections.specs.Connections.{longest_head, IsWithinLimits, IsHeadTooLarge, Asks}
-use Rattle.connections.proofs.Staying.{never_after, too_large_after}
-use Rattle.request_heads.specs.Laws.{FoundHeadsAsk}
-use Rattle.request_heads.specs.Reading.{Reads}
-use Rattle.request_heads.specs.declared.found.Found.TheVariants as found
+use Rattle.spec_http_server.specs.Connections.{longest_head, IsWithinLimits, IsHeadTooLarge, Asks}
+use Rattle.spec_http_server.proofs.Staying.{never_after, too_large_after}
+use Rattle.http_request_head.specs.Laws.{FoundHeadsAsk}
+use Rattle.http_request_head.specs.Reading.{Reads}
+use Rattle.http_request_head.specs.declared.found.FoundHead.TheVariants as found
 
 -- two heads at the same place are one
 same_limits : (bytes : List ℕ) (fields : List HeaderSpan) (spans : RequestSpans) (h k : RequestHead) → IsRequestAt bytes fields spans h → IsRequestAt bytes fields spans k

@@ -1,13 +1,13 @@
 -- Fields, and what they state of a body's length, in the words of connections.
 use Rattle.std.specs.Prelude.{◌≡◌, ◌≤◌, ◌<◌, ℕ, Option, Some, None}
-use Rattle.definitions.specs.Targets.{longest_body}
-use Rattle.connections.specs.Heads as words
-use Rattle.request_heads.specs.declared.field.Field.{Field}
-use Rattle.request_heads.specs.declared.body_length.BodyLength.{BodyLength}
-use Rattle.request_heads.specs.declared.body_length.BodyLength.TheVariants as kind
+use Rattle.spec_api.specs.Targets.{longest_body}
+use Rattle.spec_http_server.specs.Heads as words
+use Rattle.http_request_head.specs.declared.field.HeaderField.{HeaderField}
+use Rattle.http_request_head.specs.declared.body_length.BodyLength.{BodyLength}
+use Rattle.http_request_head.specs.declared.body_length.BodyLength.TheVariants as kind
 
 -- the name and the value
-abbrev pub field_seen : Field → words.Field
+abbrev pub field_seen : HeaderField → words.Field
 field_seen f = (f.name.now, f.value.now)
 
 -- what a head states of its body's length

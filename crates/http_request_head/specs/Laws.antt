@@ -3,18 +3,18 @@ use Rattle.std.specs.Prelude.{◌≡◌, ℕ, List, [], ◌++◌, drop, Some, No
 use Rattle.httparse.specs.declared.spans.HeaderSpan.{HeaderSpan}
 use Rattle.httparse.specs.Grammar.{RequestHead}
 use Rattle.httparse.specs.Spans.{IsRequestAt}
-use Rattle.definitions.specs.declared.refusals.Part.TheVariants as part
-use Rattle.definitions.specs.Refusals.{bad_request, too_large}
-use Rattle.connections.specs.Heads.{head_of}
-use Rattle.connections.specs.Checks.{checked}
-use Rattle.connections.specs.Connections.{asked_after, Asks}
-use Rattle.request_heads.specs.Reading.{IsFound}
-use Rattle.request_heads.specs.declared.found.Found.{Found}
-use Rattle.request_heads.specs.declared.found.Found.TheVariants as found
+use Rattle.spec_api.specs.declared.refusals.Part.TheVariants as part
+use Rattle.spec_api.specs.Refusals.{bad_request, too_large}
+use Rattle.spec_http_server.specs.Heads.{head_of}
+use Rattle.spec_http_server.specs.Checks.{checked}
+use Rattle.spec_http_server.specs.Connections.{asked_after, Asks}
+use Rattle.http_request_head.specs.Reading.{IsFound}
+use Rattle.http_request_head.specs.declared.found.FoundHead.{FoundHead}
+use Rattle.http_request_head.specs.declared.found.FoundHead.TheVariants as found
 
 -- what a connection asks that goes on with `more` after the bytes that were read: what the head asks with what follows it, or a refusal; of a part of
 -- a head nothing, if nothing follows
-abbrev pub AsksAsFound : List ℕ → List HeaderSpan → Found → List ℕ → Type 0
+abbrev pub AsksAsFound : List ℕ → List HeaderSpan → FoundHead → List ℕ → Type 0
 AsksAsFound bytes fields (found.Whole spans) more =
     (h : RequestHead) → IsRequestAt bytes fields spans h → Asks (bytes ++ more) (asked_after (checked (head_of h)) (drop spans.len bytes ++ more))
 AsksAsFound bytes fields found.IllFormed more = Asks (bytes ++ more) (Some (Err (bad_request part.Head)))
@@ -22,4 +22,4 @@ AsksAsFound bytes fields found.TooLarge more = Asks (bytes ++ more) (Some (Err t
 AsksAsFound bytes fields found.Cut more = more ≡ [] → Asks (bytes ++ more) None
 
 abbrev pub FoundHeadsAsk : Type 0
-FoundHeadsAsk = (bytes : List ℕ) (fields : List HeaderSpan) (f : Found) (more : List ℕ) → IsFound bytes fields f → AsksAsFound bytes fields f more
+FoundHeadsAsk = (bytes : List ℕ) (fields : List HeaderSpan) (f : FoundHead) (more : List ℕ) → IsFound bytes fields f → AsksAsFound bytes fields f more

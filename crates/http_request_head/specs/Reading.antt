@@ -4,14 +4,14 @@ use Rattle.std.specs.Io.KnownBytes.{Consumes}
 use Rattle.httparse.specs.declared.spans.HeaderSpan.{HeaderSpan}
 use Rattle.httparse.specs.Grammar.{RequestHead, NeverHasRequest}
 use Rattle.httparse.specs.Spans.{IsRequestAt, IsRequestWithin}
-use Rattle.connections.specs.Connections.{IsWithinLimits, IsHeadTooLarge, IsHalfAHead}
-use Rattle.request_heads.specs.declared.fault.ReadFault.{ReadFault}
-use Rattle.request_heads.specs.declared.fault.ReadFault.TheVariants as fault
-use Rattle.request_heads.specs.declared.found.Found.{Found}
-use Rattle.request_heads.specs.declared.found.Found.TheVariants as found
+use Rattle.spec_http_server.specs.Connections.{IsWithinLimits, IsHeadTooLarge, IsHalfAHead}
+use Rattle.http_request_head.specs.declared.fault.ReadFault.{ReadFault}
+use Rattle.http_request_head.specs.declared.fault.ReadFault.TheVariants as fault
+use Rattle.http_request_head.specs.declared.found.FoundHead.{FoundHead}
+use Rattle.http_request_head.specs.declared.found.FoundHead.TheVariants as found
 
 -- what the bytes begin with
-abbrev pub IsFound : List ℕ → List HeaderSpan → Found → Type 0
+abbrev pub IsFound : List ℕ → List HeaderSpan → FoundHead → Type 0
 IsFound bytes fields (found.Whole spans) = ((h : RequestHead) × IsRequestAt bytes fields spans h × IsWithinLimits h) × IsRequestWithin bytes fields spans
 IsFound bytes fields found.IllFormed = NeverHasRequest bytes
 IsFound bytes fields found.TooLarge = IsHeadTooLarge bytes

@@ -1,8 +1,8 @@
 -- Heads in the words of connections.
 use Rattle.std.specs.Prelude.{map}
-use Rattle.connections.specs.Heads as words
-use Rattle.request_heads.specs.Fields.{field_seen}
-use Rattle.request_heads.specs.declared.request_head.RequestHead.{RequestHead}
+use Rattle.spec_http_server.specs.Heads as words
+use Rattle.http_request_head.specs.Fields.{field_seen}
+use Rattle.http_request_head.specs.declared.request_head.RequestHead.{RequestHead}
 
 -- a head, as its parts say
 abbrev pub head_seen : RequestHead → words.Head

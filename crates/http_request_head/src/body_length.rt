@@ -1,11 +1,11 @@
 //! How long a body is, as its head says.
 ghost use Rattle.std.specs.Prelude.{◌≡◌, ◌≤◌, ◌<◌, ◌^◌, IfSome, map, true, None, IsTrue, codes};
 ghost use Rattle.std.specs.Str.Parse.{digits_value};
-ghost use Rattle.definitions.specs.Targets.{longest_body};
-ghost use Rattle.connections.specs.Heads.{values_of, is_number, one_number, length_in};
-ghost use Rattle.request_heads.specs.Fields.{field_seen, IsLength};
+ghost use Rattle.spec_api.specs.Targets.{longest_body};
+ghost use Rattle.spec_http_server.specs.Heads.{values_of, is_number, one_number, length_in};
+ghost use Rattle.http_request_head.specs.Fields.{field_seen, IsLength};
 
-use crate::field::{Field, count, first_value};
+use crate::field::{HeaderField, count, first_value};
 
 /// What a head states of its body's length.
 #[derive(Debug, Clone, Copy, PartialEq, Eq)]
@@ -71,7 +71,7 @@ fn length_of(text: &[u8]) -> BodyLength
 }
 
 /// Returns what the fields of a head state of its body's length (RFC 9110, Content-Length).
-pub fn content_length(fields: &[Field<'_>]) -> BodyLength
+pub fn content_length(fields: &[HeaderField<'_>]) -> BodyLength
     ensures { IsLength (length_in (values_of (codes "content-length") (map field_seen fields.now))) result }
 {
     match first_value(fields, b"content-length") {

@@ -15,7 +15,7 @@ pub enum ReadFault {
 
 impl From<AllocError> for ReadFault {
     ghost use Rattle.std.specs.Prelude.{◌≡◌};
-    ghost use Rattle.request_heads.specs.declared.fault.ReadFault.TheVariants as fault;
+    ghost use Rattle.http_request_head.specs.declared.fault.ReadFault.TheVariants as fault;
 
     ghost from_gives = { λ e f. f ≡ fault.Want };
 

@@ -1,6 +1,6 @@
 //! How many lines of a head there are.
 ghost use Rattle.std.specs.Prelude.{◌≡◌, false};
-ghost use Rattle.request_heads.specs.FieldLines.{line_ends};
+ghost use Rattle.http_request_head.specs.FieldLines.{line_ends};
 
 /// Returns how many lines end in these bytes; the empty lines before a request line do not count (RFC 9112, Message Parsing).
 pub(crate) fn line_ends(bytes: &[u8]) -> usize

@@ -3,7 +3,7 @@ use httparse::spans::RequestSpans;
 
 /// What bytes begin with.
 #[derive(Debug, Clone, Copy, PartialEq, Eq)]
-pub enum Found {
+pub enum FoundHead {
     /// A whole head, with where its parts are.
     Whole(RequestSpans),
     /// What is no head, whatever follows.

@@ -15,6 +15,6 @@ pub mod request_head;
 
 pub use body_length::BodyLength;
 pub use fault::ReadFault;
-pub use field::Field;
-pub use found::Found;
+pub use field::HeaderField;
+pub use found::FoundHead;
 pub use request_head::RequestHead;

@@ -3,10 +3,10 @@ ghost use Rattle.std.specs.Prelude.{◌≡◌, MatchOption, Some, None, map, rev
 ghost use Rattle.std.specs.List.{before_first};
 ghost use Rattle.std.specs.Str.{str_eq_ignore_ascii_case};
 ghost use Rattle.httparse.specs.Grammar.{is_ows, skip_ows, trim_ows};
-ghost use Rattle.connections.specs.Heads.{values_of, without_parameters, first_type};
-ghost use Rattle.request_heads.specs.Fields.{field_seen};
+ghost use Rattle.spec_http_server.specs.Heads.{values_of, without_parameters, first_type};
+ghost use Rattle.http_request_head.specs.Fields.{field_seen};
 
-use crate::field::{Field, first_value};
+use crate::field::{HeaderField, first_value};
 
 /// Returns the bytes from the first that is no white space.
 fn skip_ows(text: &[u8]) -> &[u8]
@@ -76,7 +76,7 @@ pub fn is_type(value: &[u8], name: &[u8]) -> bool
 
 /// Returns the media type of a body, without parameters, if the fields of its head name one; the first counts
 /// (RFC 9110, Content-Type).
-pub fn media_type<'a>(fields: &[Field<'a>]) -> Option<&'a [u8]>
+pub fn media_type<'a>(fields: &[HeaderField<'a>]) -> Option<&'a [u8]>
     ensures { MatchOption result (first_type (values_of (codes "content-type") (map field_seen fields.now)) ≡ None)
         (λ t. first_type (values_of (codes "content-type") (map field_seen fields.now)) ≡ Some t.now) }
 {

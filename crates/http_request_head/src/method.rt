@@ -1,8 +1,8 @@
 //! Methods by their names.
 ghost use Rattle.std.specs.Prelude.{◌≡◌};
-ghost use Rattle.connections.specs.Heads.{method_named};
+ghost use Rattle.spec_http_server.specs.Heads.{method_named};
 
-use definitions::methods::Method;
+use spec_api::methods::Method;
 
 /// Returns the method of a name, if it is one that is served; case counts (RFC 9110, Methods).
 pub fn method_named(name: &[u8]) -> Option<Method>

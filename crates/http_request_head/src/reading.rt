@@ -3,14 +3,14 @@ ghost use Rattle.std.specs.Prelude.{◌≡◌, ◌≤◌, ◌<◌, ◌++◌, ℕ
 ghost use Rattle.std.specs.Io.KnownBytes.{Consumes, Keeps, IsAtEnd};
 ghost use Rattle.httparse.specs.Grammar.{HasNoRequest, MayBecomeRequest};
 ghost use Rattle.chunked.specs.Devices.{device_of, has_failed};
-ghost use Rattle.connections.specs.Connections.{longest_head, most_fields};
-ghost use Rattle.request_heads.specs.Reading.{IsFound, Reads, IsWatched};
-ghost use Rattle.request_heads.specs.declared.fault.ReadFault.TheVariants as fault;
-ghost use Rattle.request_heads.specs.declared.found.Found.TheVariants as found;
+ghost use Rattle.spec_http_server.specs.Connections.{longest_head, most_fields};
+ghost use Rattle.http_request_head.specs.Reading.{IsFound, Reads, IsWatched};
+ghost use Rattle.http_request_head.specs.declared.fault.ReadFault.TheVariants as fault;
+ghost use Rattle.http_request_head.specs.declared.found.FoundHead.TheVariants as found;
 
 use crate::fault::ReadFault;
 use crate::field_lines::line_ends;
-use crate::found::Found;
+use crate::found::FoundHead;
 use chunked::Watched;
 use httparse::spans::{HeaderSpan, parse_request};
 use httparse::{Error, Status};
@@ -54,7 +54,7 @@ fn read_piece<R: Read + Drop>(
 }
 
 /// Returns what the bytes begin with, if nothing has to follow to say it.
-fn look(bytes: &[u8], fields: &mut [HeaderSpan]) -> Option<Found>
+fn look(bytes: &[u8], fields: &mut [HeaderSpan]) -> Option<FoundHead>
     requires room { length fields.old ≡ most_fields }
     requires limit { length bytes.now ≤ longest_head }
     ensures found { IfSome result (λ f. IsFound bytes.now fields.new f) }
@@ -64,30 +64,30 @@ fn look(bytes: &[u8], fields: &mut [HeaderSpan]) -> Option<Found>
     ensures len { length fields.new ≡ length fields.old }
 {
     match parse_request(bytes, fields) {
-        Ok(Status::Complete(spans)) => Some(Found::Whole(spans)),
+        Ok(Status::Complete(spans)) => Some(FoundHead::Whole(spans)),
         Ok(Status::Partial) => None,
-        Err(Error::TooManyHeaders) => Some(Found::TooLarge),
-        Err(_) => Some(Found::IllFormed),
+        Err(Error::TooManyHeaders) => Some(FoundHead::TooLarge),
+        Err(_) => Some(FoundHead::IllFormed),
     }
 }
 
 /// Returns what the bytes are that end before a head does: a part of one, or of one with too many fields.
-fn look_at_end(bytes: &[u8]) -> Found
+fn look_at_end(bytes: &[u8]) -> FoundHead
     requires limit { length bytes.now < longest_head }
     requires none { HasNoRequest bytes.now }
     requires unfinished { MayBecomeRequest bytes.now }
     ensures { (fields : List HeaderSpan) → IsFound bytes.now fields result }
 {
     if line_ends(bytes) > MOST_FIELDS + 1 {
-        Found::TooLarge
+        FoundHead::TooLarge
     } else {
-        Found::Cut
+        FoundHead::Cut
     }
 }
 
 /// Returns what bytes begin with that have come so far: a whole head, what is no head whatever follows, a head that is too large, or
 /// a part of a head, which more may follow. It takes no memory.
-pub fn find_head(bytes: &[u8], fields: &mut [HeaderSpan]) -> Found
+pub fn find_head(bytes: &[u8], fields: &mut [HeaderSpan]) -> FoundHead
     requires room { length fields.old ≡ most_fields }
     requires limit { length bytes.now ≤ longest_head }
     ensures { IsFound bytes.now fields.new result }
@@ -98,7 +98,7 @@ pub fn find_head(bytes: &[u8], fields: &mut [HeaderSpan]) -> Found
             if bytes.len() < LONGEST_HEAD {
                 look_at_end(bytes)
             } else {
-                Found::TooLarge
+                FoundHead::TooLarge
             }
         }
     }
@@ -115,7 +115,7 @@ pub fn read_head<R: Read + Drop>(
     reader: &mut Watched<R>,
     bytes: &mut Vec<u8>,
     fields: &mut [HeaderSpan],
-) -> Result<Found, ReadFault>
+) -> Result<FoundHead, ReadFault>
     requires room { length fields.old ≡ most_fields }
     requires limit { length bytes.old.items ≤ longest_head }
     ensures found { IfOk result (λ f. IsFound bytes.new.items fields.new f) }
@@ -144,6 +144,6 @@ pub fn read_head<R: Read + Drop>(
     }
     match look(bytes.as_slice(), fields) {
         Some(found) => Ok(found),
-        None => Ok(Found::TooLarge),
+        None => Ok(FoundHead::TooLarge),
     }
 }

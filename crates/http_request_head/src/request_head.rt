@@ -2,11 +2,11 @@
 ghost use Rattle.std.specs.Prelude.{◌≡◌, IfOk, map, length, All};
 ghost use Rattle.httparse.specs.Spans.{IsRequestWithin, IsRequestAt, IsRequestOf, span_bytes, header_bytes, IsHeaderWithin};
 ghost use Rattle.httparse.specs.Grammar as grammar;
-ghost use Rattle.connections.specs.Heads.{head_of};
-ghost use Rattle.request_heads.specs.Fields.{field_seen};
-ghost use Rattle.request_heads.specs.RequestHeads.{head_seen};
+ghost use Rattle.spec_http_server.specs.Heads.{head_of};
+ghost use Rattle.http_request_head.specs.Fields.{field_seen};
+ghost use Rattle.http_request_head.specs.RequestHeads.{head_seen};
 
-use crate::field::Field;
+use crate::field::HeaderField;
 use httparse::spans::{HeaderSpan, RequestSpans};
 use std::alloc::{AllocError, Global};
 
@@ -17,7 +17,7 @@ pub struct RequestHead<'a> {
     pub target: &'a str,
     /// The minor version of HTTP/1.
     pub minor: u8,
-    pub fields: Vec<Field<'a>>,
+    pub fields: Vec<HeaderField<'a>>,
 }
 
 /// Returns the fields that spans cover.
@@ -25,7 +25,7 @@ pub fn fields_of<'a>(
     alloc: Global,
     bytes: &'a [u8],
     spans: &[HeaderSpan],
-) -> Result<Vec<Field<'a>>, AllocError>
+) -> Result<Vec<HeaderField<'a>>, AllocError>
     requires { All (IsHeaderWithin (length bytes.now)) spans.now }
     ensures { IfOk result (λ fields. map field_seen fields.items ≡ map (header_bytes bytes.now) spans.now) }
 {
@@ -33,7 +33,7 @@ pub fn fields_of<'a>(
     for span in spans {
         let name = span.name.of(bytes);
         let value = span.value.of(bytes);
-        fields.push(Field { name, value })?;
+        fields.push(HeaderField { name, value })?;
     }
     Ok(fields)
 }

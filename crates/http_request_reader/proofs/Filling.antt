@@ -4,9 +4,9 @@ use Rattle.std.proofs.lemmas.List.{take-append-le}
 use Rattle.std.proofs.Math.Seq.{take-append-add, take-append_seam}
 use Rattle.std.specs.Io.KnownBytes.{Consumes, Keeps, IsAtEnd}
 use Rattle.std.proofs.KnownBytes.{Consumes-nil, Consumes-trans, Consumes-kept}
-use Rattle.request_heads.specs.declared.fault.ReadFault.{ReadFault}
-use Rattle.request_heads.specs.declared.fault.ReadFault.TheVariants as fault
-use Rattle.received.specs.Bodies.{Fills, StopsShort}
+use Rattle.http_request_head.specs.declared.fault.ReadFault.{ReadFault}
+use Rattle.http_request_head.specs.declared.fault.ReadFault.TheVariants as fault
+use Rattle.http_request_reader.specs.Bodies.{Fills, StopsShort}
 use borrow.Rule.Slice.PartMut.{put_mid}
 
 -- what was consumed so far stands after the front, up to this place

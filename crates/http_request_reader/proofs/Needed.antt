@@ -7,18 +7,18 @@ use Rattle.httparse.specs.declared.spans.RequestSpans.{RequestSpans}
 use Rattle.httparse.specs.Spans.{IsRequestAt}
 use Rattle.httparse.specs.Grammar.{RequestHead, ReadsRequest, HasNoRequest, print_blank, print_version, print_end, print_section}
 use Rattle.httparse.proofs.GrammarLemmas.{request_unique, ReadsRequest-append, print_request-append}
-use Rattle.definitions.specs.Refusals.{Refusal}
-use Rattle.definitions.specs.Targets.{Asked}
-use Rattle.connections.specs.Heads.{head_of}
-use Rattle.connections.specs.Checks.{Opening, checked}
-use Rattle.connections.specs.Connections.{longest_head, asked_with_body, asked_after}
-use Rattle.request_heads.specs.Reading.{IsFound, Reads}
-use Rattle.request_heads.specs.declared.fault.ReadFault.{ReadFault}
-use Rattle.request_heads.specs.declared.fault.ReadFault.TheVariants as fault
-use Rattle.request_heads.specs.declared.found.Found.TheVariants as found
-use Rattle.received.specs.declared.received.Received.{Received}
-use Rattle.received.specs.Receiving.{IsWhole, IsNeeded, ReadsNoMore, Needs, IsOfBody, TellsWith, Tells}
-use Rattle.received.proofs.Told.{short_body}
+use Rattle.spec_api.specs.Refusals.{Refusal}
+use Rattle.spec_api.specs.Targets.{Asked}
+use Rattle.spec_http_server.specs.Heads.{head_of}
+use Rattle.spec_http_server.specs.Checks.{Opening, checked}
+use Rattle.spec_http_server.specs.Connections.{longest_head, asked_with_body, asked_after}
+use Rattle.http_request_head.specs.Reading.{IsFound, Reads}
+use Rattle.http_request_head.specs.declared.fault.ReadFault.{ReadFault}
+use Rattle.http_request_head.specs.declared.fault.ReadFault.TheVariants as fault
+use Rattle.http_request_head.specs.declared.found.FoundHead.TheVariants as found
+use Rattle.http_request_reader.specs.declared.received.Received.{Received}
+use Rattle.http_request_reader.specs.Receiving.{IsWhole, IsNeeded, ReadsNoMore, Needs, IsOfBody, TellsWith, Tells}
+use Rattle.http_request_reader.proofs.Told.{short_body}
 
 -- as many bytes as a head may have are needed
 short_needed : (bytes : List ℕ) → length bytes ≤ longest_head → IsNeeded bytes

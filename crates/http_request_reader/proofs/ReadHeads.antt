@@ -3,24 +3,24 @@ use Rattle.std.proofs.Common.{◌≡◌, ◌<◌, ◌≤◌, ℕ, List, [], ◌+
 use Rattle.std.specs.Result.{IsErrAnd}
 use Rattle.std.specs.Io.KnownBytes.{Consumes}
 use Rattle.std.proofs.KnownBytes.{Consumes-nil}
-use Rattle.definitions.specs.Refusals.{Refusal}
-use Rattle.definitions.specs.Targets as targets
-use Rattle.connections.specs.Checks.{Opening}
-use Rattle.connections.specs.Connections.{asked_with_body}
-use Rattle.keys.specs.Faults.{refusal_of}
-use Rattle.keys.specs.declared.fault.Fault.{Fault}
-use Rattle.keys.specs.declared.fault.Fault.TheVariants as fault
-use Rattle.asked.specs.Asked.{Asks, asked_seen}
-use Rattle.asked.specs.declared.meaning.Asked.{Asked}
-use Rattle.request_heads.specs.declared.fault.ReadFault.{ReadFault}
-use Rattle.request_heads.specs.declared.fault.ReadFault.TheVariants as read
-use Rattle.head_checks.specs.Openings.{Opens}
-use Rattle.received.specs.declared.received.Received.{Received}
-use Rattle.received.specs.declared.received.Received.TheVariants as received
-use Rattle.received.specs.Answered.{Answers, Refuses}
-use Rattle.received.specs.Bodies.{ReadsBody}
-use Rattle.received.specs.Receiving.{Says, Tells, IsOfBody, said}
-use Rattle.received.proofs.Told.{short_body, whole_body}
+use Rattle.spec_api.specs.Refusals.{Refusal}
+use Rattle.spec_api.specs.Targets as targets
+use Rattle.spec_http_server.specs.Checks.{Opening}
+use Rattle.spec_http_server.specs.Connections.{asked_with_body}
+use Rattle.object_keys.specs.Faults.{refusal_of}
+use Rattle.object_keys.specs.declared.fault.Fault.{Fault}
+use Rattle.object_keys.specs.declared.fault.Fault.TheVariants as fault
+use Rattle.request_decoding.specs.Asked.{Asks, asked_seen}
+use Rattle.request_decoding.specs.declared.meaning.Asked.{Asked}
+use Rattle.http_request_head.specs.declared.fault.ReadFault.{ReadFault}
+use Rattle.http_request_head.specs.declared.fault.ReadFault.TheVariants as read
+use Rattle.http_head_checks.specs.Openings.{Opens}
+use Rattle.http_request_reader.specs.declared.received.Received.{Received}
+use Rattle.http_request_reader.specs.declared.received.Received.TheVariants as received
+use Rattle.http_request_reader.specs.Answered.{Answers, Refuses}
+use Rattle.http_request_reader.specs.Bodies.{ReadsBody}
+use Rattle.http_request_reader.specs.Receiving.{Says, Tells, IsOfBody, said}
+use Rattle.http_request_reader.proofs.Told.{short_body, whole_body}
 
 -- where nothing was read of a body, no more was read than there is of it
 nothing_of_body : (c : Result Opening Refusal) (follows : List ℕ) → IsOfBody c follows []

@@ -6,20 +6,20 @@ use Rattle.httparse.specs.declared.spans.HeaderSpan.{HeaderSpan}
 use Rattle.httparse.specs.declared.spans.RequestSpans.{RequestSpans}
 use Rattle.httparse.specs.Spans.{IsRequestAt}
 use Rattle.httparse.specs.Grammar.{RequestHead}
-use Rattle.definitions.specs.declared.refusals.Part.TheVariants as part
-use Rattle.definitions.specs.Refusals.{bad_request, too_large}
-use Rattle.connections.specs.Heads.{head_of}
-use Rattle.connections.specs.Checks.{checked}
-use Rattle.connections.specs.Connections.{longest_head, asked_after, Asks}
-use Rattle.request_heads.proofs.Wholes.{found_asks}
-use Rattle.request_heads.specs.Reading.{IsFound}
-use Rattle.request_heads.specs.declared.fault.ReadFault.{ReadFault}
-use Rattle.request_heads.specs.declared.found.Found.TheVariants as found
-use Rattle.received.specs.Receiving.{said}
-use Rattle.received.specs.Arriving.{WaitsFor, AsksSoFar, ArrivesAfter}
-use Rattle.received.specs.declared.arrived.Arrived.{Arrived}
-use Rattle.received.specs.declared.arrived.Arrived.TheVariants as arrived
-use Rattle.received.proofs.Told.{short_body}
+use Rattle.spec_api.specs.declared.refusals.Part.TheVariants as part
+use Rattle.spec_api.specs.Refusals.{bad_request, too_large}
+use Rattle.spec_http_server.specs.Heads.{head_of}
+use Rattle.spec_http_server.specs.Checks.{checked}
+use Rattle.spec_http_server.specs.Connections.{longest_head, asked_after, Asks}
+use Rattle.http_request_head.proofs.Wholes.{found_asks}
+use Rattle.http_request_head.specs.Reading.{IsFound}
+use Rattle.http_request_head.specs.declared.fault.ReadFault.{ReadFault}
+use Rattle.http_request_head.specs.declared.found.FoundHead.TheVariants as found
+use Rattle.http_request_reader.specs.Receiving.{said}
+use Rattle.http_request_reader.specs.Arriving.{WaitsFor, AsksSoFar, ArrivesAfter}
+use Rattle.http_request_reader.specs.declared.arrived.Arrived.{Arrived}
+use Rattle.http_request_reader.specs.declared.arrived.Arrived.TheVariants as arrived
+use Rattle.http_request_reader.proofs.Told.{short_body}
 
 module _ (bytes front : List ℕ) (is : front ≡ take longest_head bytes) where
   -- the bytes are their front and the rest

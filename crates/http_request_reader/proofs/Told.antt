@@ -7,20 +7,20 @@ use Rattle.httparse.specs.declared.spans.HeaderSpan.{HeaderSpan}
 use Rattle.httparse.specs.declared.spans.RequestSpans.{RequestSpans}
 use Rattle.httparse.specs.Spans.{IsRequestAt}
 use Rattle.httparse.specs.Grammar.{RequestHead}
-use Rattle.definitions.specs.Refusals.{Refusal}
-use Rattle.definitions.specs.Targets.{Asked, asked}
-use Rattle.connections.specs.Heads.{head_of}
-use Rattle.connections.specs.Checks.{Opening, checked}
-use Rattle.connections.specs.Connections.{asked_with_body, asked_after, Asks}
-use Rattle.connections.proofs.Staying.{whole_stays}
-use Rattle.request_heads.proofs.Wholes.{found_asks}
-use Rattle.request_heads.specs.Reading.{IsFound, Reads}
-use Rattle.request_heads.specs.declared.fault.ReadFault.{ReadFault}
-use Rattle.request_heads.specs.declared.found.Found.{Found}
-use Rattle.request_heads.specs.declared.found.Found.TheVariants as found
-use Rattle.received.specs.declared.received.Received.{Received}
-use Rattle.received.specs.declared.received.Received.TheVariants as received
-use Rattle.received.specs.Receiving.{AsksKnown, Tells, said}
+use Rattle.spec_api.specs.Refusals.{Refusal}
+use Rattle.spec_api.specs.Targets.{Asked, asked}
+use Rattle.spec_http_server.specs.Heads.{head_of}
+use Rattle.spec_http_server.specs.Checks.{Opening, checked}
+use Rattle.spec_http_server.specs.Connections.{asked_with_body, asked_after, Asks}
+use Rattle.spec_http_server.proofs.Staying.{whole_stays}
+use Rattle.http_request_head.proofs.Wholes.{found_asks}
+use Rattle.http_request_head.specs.Reading.{IsFound, Reads}
+use Rattle.http_request_head.specs.declared.fault.ReadFault.{ReadFault}
+use Rattle.http_request_head.specs.declared.found.FoundHead.{FoundHead}
+use Rattle.http_request_head.specs.declared.found.FoundHead.TheVariants as found
+use Rattle.http_request_reader.specs.declared.received.Received.{Received}
+use Rattle.http_request_reader.specs.declared.received.Received.TheVariants as received
+use Rattle.http_request_reader.specs.Receiving.{AsksKnown, Tells, said}
 
 -- ---- what follows a whole request does not count
 

@@ -1,12 +1,12 @@
 -- What is asked, apart from running out of memory.
 use Rattle.std.specs.Prelude.{◌≡◌, Result, Ok, Err}
-use Rattle.keys.specs.declared.fault.Fault.{Fault}
-use Rattle.keys.specs.declared.fault.Fault.TheVariants as fault
-use Rattle.asked.specs.declared.meaning.Asked.{Asked}
-use Rattle.request_heads.specs.declared.fault.ReadFault.{ReadFault}
-use Rattle.request_heads.specs.declared.fault.ReadFault.TheVariants as read
-use Rattle.received.specs.declared.received.Received.{Received}
-use Rattle.received.specs.declared.received.Received.TheVariants as received
+use Rattle.object_keys.specs.declared.fault.Fault.{Fault}
+use Rattle.object_keys.specs.declared.fault.Fault.TheVariants as fault
+use Rattle.request_decoding.specs.declared.meaning.Asked.{Asked}
+use Rattle.http_request_head.specs.declared.fault.ReadFault.{ReadFault}
+use Rattle.http_request_head.specs.declared.fault.ReadFault.TheVariants as read
+use Rattle.http_request_reader.specs.declared.received.Received.{Received}
+use Rattle.http_request_reader.specs.declared.received.Received.TheVariants as received
 
 -- the result is this refusal, or out of memory
 abbrev pub Refuses : Fault → Result Received ReadFault → Type 0

@@ -1,15 +1,15 @@
 -- What is asked by bytes that have come so far.
 use Rattle.std.specs.Prelude.{◌≡◌, ◌<◌, ◌+◌, ℕ, List, ◌++◌, drop, length, None, Result, Ok, Err, ⊤}
-use Rattle.definitions.specs.Refusals.{Refusal}
-use Rattle.connections.specs.Checks.{Opening}
-use Rattle.connections.specs.Connections.{asked_after, Asks}
-use Rattle.keys.specs.declared.fault.Fault.TheVariants.{NoMemory}
-use Rattle.request_heads.specs.declared.fault.ReadFault.{ReadFault}
-use Rattle.request_heads.specs.declared.fault.ReadFault.TheVariants as fault
-use Rattle.received.specs.Receiving.{said}
-use Rattle.received.specs.declared.arrived.Arrived.{Arrived}
-use Rattle.received.specs.declared.arrived.Arrived.TheVariants as arrived
-use Rattle.received.specs.declared.received.Received.TheVariants as received
+use Rattle.spec_api.specs.Refusals.{Refusal}
+use Rattle.spec_http_server.specs.Checks.{Opening}
+use Rattle.spec_http_server.specs.Connections.{asked_after, Asks}
+use Rattle.object_keys.specs.declared.fault.Fault.TheVariants.{NoMemory}
+use Rattle.http_request_head.specs.declared.fault.ReadFault.{ReadFault}
+use Rattle.http_request_head.specs.declared.fault.ReadFault.TheVariants as fault
+use Rattle.http_request_reader.specs.Receiving.{said}
+use Rattle.http_request_reader.specs.declared.arrived.Arrived.{Arrived}
+use Rattle.http_request_reader.specs.declared.arrived.Arrived.TheVariants as arrived
+use Rattle.http_request_reader.specs.declared.received.Received.TheVariants as received
 
 -- the bytes ask nothing yet, nor do they, whatever follows, before there are so many in all
 abbrev pub WaitsFor : List ℕ → ℕ → Type 0

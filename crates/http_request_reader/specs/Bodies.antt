@@ -1,8 +1,8 @@
 -- Bodies that are read from a connection.
 use Rattle.std.specs.Prelude.{◌≡◌, ◌<◌, ℕ, List, [], ◌++◌, length, Option, Some, None, Bool, true, false, Result, Ok, Err, Vec}
 use Rattle.std.specs.Io.KnownBytes.{Consumes, IsAtEnd}
-use Rattle.request_heads.specs.declared.fault.ReadFault.{ReadFault}
-use Rattle.request_heads.specs.declared.fault.ReadFault.TheVariants as fault
+use Rattle.http_request_head.specs.declared.fault.ReadFault.{ReadFault}
+use Rattle.http_request_head.specs.declared.fault.ReadFault.TheVariants as fault
 
 -- what was read after the front fills the body; or the peer, or the reader, ended before it did
 abbrev pub FillsWith : List ℕ → List ℕ → List ℕ → Option (List ℕ) → Result Bool ReadFault → Type 0

@@ -2,17 +2,17 @@
 use Rattle.std.specs.Prelude.{◌≡◌, ◌<◌, ◌≤◌, ◌⊎◌, ℕ, List, [], ◌++◌, length, Option, Some, None, is_some, true, Result, Ok, Err, ⊤}
 use Rattle.std.specs.Io.KnownBytes.{Consumes, IsAtEnd}
 use Rattle.httparse.specs.Grammar.{RequestHead, ReadsRequest}
-use Rattle.definitions.specs.Refusals.{Refusal}
-use Rattle.definitions.specs.Targets as targets
-use Rattle.connections.specs.Heads.{head_of}
-use Rattle.connections.specs.Checks.{Opening, checked}
-use Rattle.connections.specs.Connections.{longest_head, asked_with_body, asked_after, Asks}
-use Rattle.keys.specs.Faults.{refusal_of}
-use Rattle.asked.specs.Asked.{asked_seen}
-use Rattle.request_heads.specs.declared.fault.ReadFault.{ReadFault}
-use Rattle.request_heads.specs.declared.fault.ReadFault.TheVariants as fault
-use Rattle.received.specs.declared.received.Received.{Received}
-use Rattle.received.specs.declared.received.Received.TheVariants as received
+use Rattle.spec_api.specs.Refusals.{Refusal}
+use Rattle.spec_api.specs.Targets as targets
+use Rattle.spec_http_server.specs.Heads.{head_of}
+use Rattle.spec_http_server.specs.Checks.{Opening, checked}
+use Rattle.spec_http_server.specs.Connections.{longest_head, asked_with_body, asked_after, Asks}
+use Rattle.object_keys.specs.Faults.{refusal_of}
+use Rattle.request_decoding.specs.Asked.{asked_seen}
+use Rattle.http_request_head.specs.declared.fault.ReadFault.{ReadFault}
+use Rattle.http_request_head.specs.declared.fault.ReadFault.TheVariants as fault
+use Rattle.http_request_reader.specs.declared.received.Received.{Received}
+use Rattle.http_request_reader.specs.declared.received.Received.TheVariants as received
 
 -- what a peer asks, in the words of connections
 abbrev pub said : Received → Option (Result targets.Asked Refusal)

@@ -1,13 +1,13 @@
 //! What is asked, apart from running out of memory.
 ghost use Rattle.std.specs.Prelude.{◌≡◌, IfOk};
-ghost use Rattle.keys.specs.declared.fault.Fault.TheVariants.{NoMemory};
-ghost use Rattle.received.specs.declared.received.Received.TheVariants as received;
-ghost use Rattle.received.specs.Answered.{Answers, Refuses};
+ghost use Rattle.object_keys.specs.declared.fault.Fault.TheVariants.{NoMemory};
+ghost use Rattle.http_request_reader.specs.declared.received.Received.TheVariants as received;
+ghost use Rattle.http_request_reader.specs.Answered.{Answers, Refuses};
 
 use crate::received::Received;
-use asked::Asked;
-use keys::Fault;
-use request_heads::ReadFault;
+use http_request_head::ReadFault;
+use object_keys::Fault;
+use request_decoding::Asked;
 
 /// Returns what is asked, or why it is refused; out of memory is no refusal of the request.
 pub(crate) fn answered(asked: Result<Asked, Fault>) -> Result<Received, ReadFault>

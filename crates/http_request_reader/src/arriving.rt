@@ -2,25 +2,25 @@
 ghost use Rattle.std.specs.Prelude.{◌≡◌, ◌≤◌, IfOk, length, take, Ok};
 ghost use Rattle.httparse.specs.Grammar as grammar;
 ghost use Rattle.httparse.specs.Spans.{IsRequestAt};
-ghost use Rattle.connections.specs.Heads.{head_of};
-ghost use Rattle.connections.specs.Checks.{checked};
-ghost use Rattle.connections.specs.Connections.{longest_head};
-ghost use Rattle.request_heads.specs.Reading.{IsFound};
-ghost use Rattle.request_heads.specs.declared.found.Found.TheVariants.{Whole};
-ghost use Rattle.head_checks.specs.Openings.{opening_seen};
-ghost use Rattle.received.specs.Arriving.{AsksSoFar, IsRefusal, ArrivesAfter};
+ghost use Rattle.spec_http_server.specs.Heads.{head_of};
+ghost use Rattle.spec_http_server.specs.Checks.{checked};
+ghost use Rattle.spec_http_server.specs.Connections.{longest_head};
+ghost use Rattle.http_request_head.specs.Reading.{IsFound};
+ghost use Rattle.http_request_head.specs.declared.found.FoundHead.TheVariants.{Whole};
+ghost use Rattle.http_head_checks.specs.Openings.{opening_seen};
+ghost use Rattle.http_request_reader.specs.Arriving.{AsksSoFar, IsRefusal, ArrivesAfter};
 
 use crate::answered::refused;
 use crate::arrived::Arrived;
 use crate::reading::with_body;
 use crate::received::Received;
-use definitions::refusals::Part;
-use head_checks::{Opening, check_head};
+use http_head_checks::{CheckedHead, check_head};
+use http_request_head::reading::{LONGEST_HEAD, MOST_FIELDS, find_head};
+use http_request_head::{FoundHead, ReadFault, RequestHead};
 use httparse::spans::{EMPTY_HEADER_SPAN, HeaderSpan, RequestSpans};
-use keys::Fault;
-use request_heads::reading::{LONGEST_HEAD, MOST_FIELDS, find_head};
-use request_heads::{Found, ReadFault, RequestHead};
-use routes::table::Routes;
+use object_keys::Fault;
+use request_routing::table::Routes;
+use spec_api::refusals::Part;
 use std::alloc::Global;
 
 /// Returns what the bytes of a connection ask that have come so far. Where they ask nothing yet it says how many are needed at least: a
@@ -34,10 +34,12 @@ pub fn look_at(alloc: Global, routes: &Routes, bytes: &[u8]) -> Result<Arrived, 
     let mut fields = [EMPTY_HEADER_SPAN; MOST_FIELDS];
     let front = front_of(bytes);
     match find_head(front, &mut fields) {
-        Found::Whole(found) => with_head(alloc, routes, bytes, front, found, &fields),
-        Found::IllFormed => Ok(Arrived::Whole(Received::Refused(Fault::BadRequest(Part::Head)))),
-        Found::TooLarge => Ok(Arrived::Whole(Received::Refused(Fault::TooLarge))),
-        Found::Cut => Ok(Arrived::Part(front.len() + 1)),
+        FoundHead::Whole(found) => with_head(alloc, routes, bytes, front, found, &fields),
+        FoundHead::IllFormed => Ok(Arrived::Whole(Received::Refused(Fault::BadRequest(
+            Part::Head,
+        )))),
+        FoundHead::TooLarge => Ok(Arrived::Whole(Received::Refused(Fault::TooLarge))),
+        FoundHead::Cut => Ok(Arrived::Part(front.len() + 1)),
     }
 }
 
@@ -80,7 +82,7 @@ fn with_head(
 /// Returns what is asked by a head whose checks pass, and that ends at this place, with the body that follows it.
 fn with_opening(
     alloc: Global,
-    opening: Opening<'_>,
+    opening: CheckedHead<'_>,
     place: usize,
     bytes: &[u8],
 ) -> Result<Arrived, ReadFault>

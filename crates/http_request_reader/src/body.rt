@@ -1,11 +1,11 @@
 //! Bodies, read.
 ghost use Rattle.std.specs.Prelude.{◌≡◌, ◌≤◌, ◌<◌, ℕ, List, IfOk, length, take, true, false};
 ghost use Rattle.chunked.specs.Devices.{device_of, has_failed};
-ghost use Rattle.request_heads.specs.Reading.{IsWatched};
-ghost use Rattle.received.specs.Bodies.{Fills, ReadsBody};
+ghost use Rattle.http_request_head.specs.Reading.{IsWatched};
+ghost use Rattle.http_request_reader.specs.Bodies.{Fills, ReadsBody};
 
 use chunked::Watched;
-use request_heads::ReadFault;
+use http_request_head::ReadFault;
 use std::alloc::Global;
 use std::io::Read;
 

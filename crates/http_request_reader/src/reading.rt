@@ -2,29 +2,29 @@
 ghost use Rattle.std.specs.Prelude.{◌≡◌, ◌≤◌, IfOk, length, drop, true, false, Ok, Err};
 ghost use Rattle.httparse.specs.Grammar as grammar;
 ghost use Rattle.httparse.specs.Spans.{IsRequestAt};
-ghost use Rattle.connections.specs.Heads.{head_of};
-ghost use Rattle.connections.specs.Checks.{checked};
+ghost use Rattle.spec_http_server.specs.Heads.{head_of};
+ghost use Rattle.spec_http_server.specs.Checks.{checked};
 ghost use Rattle.chunked.specs.Devices.{device_of, has_failed};
-ghost use Rattle.keys.specs.declared.fault.Fault.TheVariants.{NoMemory};
-ghost use Rattle.request_heads.specs.Reading.{IsFound, IsWatched};
-ghost use Rattle.request_heads.specs.declared.fault.ReadFault.TheVariants as fault;
-ghost use Rattle.request_heads.specs.declared.found.Found.TheVariants.{Whole};
-ghost use Rattle.head_checks.specs.Openings.{opening_seen};
-ghost use Rattle.received.specs.declared.received.Received.TheVariants as received;
-ghost use Rattle.received.specs.Receiving.{AsksKnown, Needs, Tells, Says};
+ghost use Rattle.object_keys.specs.declared.fault.Fault.TheVariants.{NoMemory};
+ghost use Rattle.http_request_head.specs.Reading.{IsFound, IsWatched};
+ghost use Rattle.http_request_head.specs.declared.fault.ReadFault.TheVariants as fault;
+ghost use Rattle.http_request_head.specs.declared.found.FoundHead.TheVariants.{Whole};
+ghost use Rattle.http_head_checks.specs.Openings.{opening_seen};
+ghost use Rattle.http_request_reader.specs.declared.received.Received.TheVariants as received;
+ghost use Rattle.http_request_reader.specs.Receiving.{AsksKnown, Needs, Tells, Says};
 
 use crate::answered::{answered, refused};
 use crate::body::read_body;
 use crate::received::Received;
-use asked::ask;
 use chunked::Watched;
-use definitions::refusals::Part;
-use head_checks::{Opening, check_head};
+use http_head_checks::{CheckedHead, check_head};
+use http_request_head::reading::{MOST_FIELDS, read_head};
+use http_request_head::{FoundHead, ReadFault, RequestHead};
 use httparse::spans::{EMPTY_HEADER_SPAN, HeaderSpan, RequestSpans};
-use keys::Fault;
-use request_heads::reading::{MOST_FIELDS, read_head};
-use request_heads::{Found, ReadFault, RequestHead};
-use routes::table::Routes;
+use object_keys::Fault;
+use request_decoding::ask;
+use request_routing::table::Routes;
+use spec_api::refusals::Part;
 use std::alloc::Global;
 use std::io::Read;
 
@@ -46,10 +46,10 @@ pub fn receive<R: Read + Drop>(
     let mut bytes = Vec::new(alloc);
     let mut fields = [EMPTY_HEADER_SPAN; MOST_FIELDS];
     match read_head(reader, &mut bytes, &mut fields) {
-        Ok(Found::Whole(found)) => after_head(alloc, routes, reader, &bytes, found, &fields),
-        Ok(Found::IllFormed) => Ok(Received::Refused(Fault::BadRequest(Part::Head))),
-        Ok(Found::TooLarge) => Ok(Received::Refused(Fault::TooLarge)),
-        Ok(Found::Cut) => Ok(Received::Ended),
+        Ok(FoundHead::Whole(found)) => after_head(alloc, routes, reader, &bytes, found, &fields),
+        Ok(FoundHead::IllFormed) => Ok(Received::Refused(Fault::BadRequest(Part::Head))),
+        Ok(FoundHead::TooLarge) => Ok(Received::Refused(Fault::TooLarge)),
+        Ok(FoundHead::Cut) => Ok(Received::Ended),
         Err(fault) => Err(fault),
     }
 }
@@ -81,7 +81,7 @@ fn after_head<R: Read + Drop>(
 fn after_opening<R: Read + Drop>(
     alloc: Global,
     reader: &mut Watched<R>,
-    opening: Opening<'_>,
+    opening: CheckedHead<'_>,
     follows: &[u8],
 ) -> Result<Received, ReadFault>
     requires sound { has_failed reader.old ≡ false }
@@ -102,7 +102,7 @@ fn after_opening<R: Read + Drop>(
 /// Returns what is asked by a head whose checks pass, with the body that these bytes begin with.
 pub(crate) fn with_body(
     alloc: Global,
-    opening: Opening<'_>,
+    opening: CheckedHead<'_>,
     bytes: &[u8],
 ) -> Result<Received, ReadFault>
     requires whole { opening.body_length ≤ length bytes.now }

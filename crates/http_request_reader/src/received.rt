@@ -1,6 +1,6 @@
 //! What a connection asks.
-use asked::Asked;
-use keys::Fault;
+use object_keys::Fault;
+use request_decoding::Asked;
 
 /// What a peer asks over a connection.
 #[derive(Drop)]

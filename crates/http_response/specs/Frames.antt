@@ -1,9 +1,9 @@
 -- Frames of watches, each as a chunk.
 use Rattle.std.specs.Prelude.{ℕ, List, map}
 use Rattle.serde_json.specs.Data.{Data}
-use Rattle.definitions.specs.declared.frames.FrameKind.TheVariants.{Added}
-use Rattle.definitions.specs.Events.{Event}
-use Rattle.definitions.specs.Frames.{frame_kind, frame_text}
+use Rattle.spec_api.specs.declared.frames.FrameKind.TheVariants.{Added}
+use Rattle.spec_api.specs.Events.{Event}
+use Rattle.spec_api.specs.Frames.{frame_kind, frame_text}
 use Rattle.chunked.specs.Bodies.{chunks_text}
 
 -- those of changes

@@ -1,10 +1,10 @@
 //! What is always the same, and takes no memory.
 ghost use Rattle.std.specs.Prelude.{◌≡◌};
 ghost use Rattle.chunked.specs.Bodies.{last_chunk};
-ghost use Rattle.connections.specs.Replies.{watch_head, reply_text};
-ghost use Rattle.definitions.specs.Replies.{outcome};
-ghost use Rattle.definitions.specs.Refusals.{no_memory};
-ghost use Rattle.definitions.specs.Verbs.{refused};
+ghost use Rattle.spec_http_server.specs.Replies.{watch_head, reply_text};
+ghost use Rattle.spec_api.specs.Replies.{outcome};
+ghost use Rattle.spec_api.specs.Refusals.{no_memory};
+ghost use Rattle.spec_api.specs.Verbs.{refused};
 
 /// Returns the bytes of the head of a watch. It takes no memory.
 pub fn watch_head() -> &'static [u8]

@@ -2,16 +2,16 @@
 //! memory; some of the frames may then have been added.
 ghost use Rattle.std.specs.Prelude.{◌≡◌, ◌++◌, OnOk, map, false, true};
 ghost use Rattle.chunked.specs.Bodies.{chunk_text};
-ghost use Rattle.definitions.specs.Frames.{frame_text, bookmark_frame, error_frame};
-ghost use Rattle.keys.specs.Faults.{refusal_of};
-ghost use Rattle.responses.specs.Frames.{change_frames, object_frames};
+ghost use Rattle.spec_api.specs.Frames.{frame_text, bookmark_frame, error_frame};
+ghost use Rattle.object_keys.specs.Faults.{refusal_of};
+ghost use Rattle.http_response.specs.Frames.{change_frames, object_frames};
 ghost use Rattle.revisions.specs.Events.{event_seen};
 
 use chunked::push_chunk;
-use definitions::kinds::Kind;
-use keys::Fault;
 use meta::StoredObject;
+use object_keys::Fault;
 use revisions::Event;
+use spec_api::kinds::Kind;
 use std::alloc::{AllocError, Global};
 
 /// Adds the frames of events.

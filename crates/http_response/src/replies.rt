@@ -1,12 +1,12 @@
 //! Replies whose body is known.
 ghost use Rattle.std.specs.Prelude.{◌≡◌, IfOk};
-ghost use Rattle.connections.specs.Replies.{response_text, reply_text};
-ghost use Rattle.definitions.specs.Replies.{outcome};
-ghost use Rattle.definitions.specs.Verbs.{refused};
-ghost use Rattle.keys.specs.Faults.{refusal_of};
+ghost use Rattle.spec_http_server.specs.Replies.{response_text, reply_text};
+ghost use Rattle.spec_api.specs.Replies.{outcome};
+ghost use Rattle.spec_api.specs.Verbs.{refused};
+ghost use Rattle.object_keys.specs.Faults.{refusal_of};
 
 use crate::heads::push_head;
-use keys::Fault;
+use object_keys::Fault;
 use reply::Reply;
 use std::alloc::{AllocError, Global};
 

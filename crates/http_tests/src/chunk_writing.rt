@@ -3,7 +3,7 @@ use crate::chunk_reading::read_all;
 use chunked::{ChunkFault, Reader, Watched, Writer};
 use std::alloc::Global;
 use std::io::{ErrorKind, Write};
-use test_devices::{Sink, Source};
+use test_devices::{Source, TestSink};
 
 /// What is written before the end, at which call the device fails and how, and whether it fails before; then what became of each call,
 /// what was written, and how many calls were made.
@@ -60,7 +60,7 @@ const WRITINGS: [Writing; 4] = [
 /// Writes the chunks and the end. Returns whether each call has this outcome.
 fn all_are(
     alloc: Global,
-    writer: &mut Writer<Sink>,
+    writer: &mut Writer<TestSink>,
     chunks: &[&[u8]],
     outcome: Result<(), ChunkFault>,
 ) -> bool {
@@ -74,7 +74,7 @@ fn all_are(
 
 /// Returns whether a writing ends as it says.
 fn ends_so(alloc: Global, writing: &Writing) -> bool {
-    let mut device = Watched::new(Sink {
+    let mut device = Watched::new(TestSink {
         written: Vec::new(alloc),
         bad: writing.bad,
         kind: writing.kind,

@@ -1,8 +1,8 @@
 //! Heads over a reader that fails at each of its calls.
 use chunked::Watched;
+use http_request_head::ReadFault;
+use http_request_head::reading::read_head;
 use httparse::spans::EMPTY_HEADER_SPAN;
-use request_heads::ReadFault;
-use request_heads::reading::read_head;
 use std::alloc::Global;
 use test_devices::Source;
 

@@ -1,12 +1,12 @@
 //! Initial streams of watches that are longer than what is made of them at once.
-use desk::Server;
-use http_connection::{Arriving, Phase, answer, look_on, turn};
-use routes::table::Routes;
-use sites::Solo;
-use stamps::moments::Moment;
+use http_backend::Solo;
+use http_connection::{Arriving, ConnectionPhase, answer, look_on, turn};
+use metadata_values::moments::Moment;
+use request_routing::table::Routes;
+use server::Server;
 use std::alloc::{AllocError, Global};
 use std::io::ErrorKind;
-use test_devices::{Sink, Source};
+use test_devices::{Source, TestSink};
 
 /// The names of the ConfigMaps that are there.
 const NAMES: &[u8] = b"abcdefghijklmnopqrstuvwx";
@@ -44,18 +44,29 @@ fn create(alloc: Global, name: u8) -> Result<Vec<u8>, AllocError> {
 }
 
 /// Lets a text come as a whole, and returns where its connection then stands, answered if its request is whole.
-fn asked(alloc: Global, routes: &Routes, site: &mut Solo, text: &[u8], sink: &mut Sink) -> Phase {
+fn asked(
+    alloc: Global,
+    routes: &Routes,
+    site: &mut Solo,
+    text: &[u8],
+    sink: &mut TestSink,
+) -> ConnectionPhase {
     let mut source = Source::new(text, 4096);
     source.kind = ErrorKind::WouldBlock;
-    let phase = Phase::Reading(Arriving::new(alloc));
-    match turn::<Solo, Source<'_>, Sink>(alloc, routes, phase, &mut source, sink) {
-        Phase::Asked(asked) => answer(alloc, asked, site, Moment::start()),
+    let phase = ConnectionPhase::Reading(Arriving::new(alloc));
+    match turn::<Solo, Source<'_>, TestSink>(alloc, routes, phase, &mut source, sink) {
+        ConnectionPhase::Asked(asked) => answer(alloc, asked, site, Moment::start()),
         other => other,
     }
 }
 
 /// Lets a connection be written a kilobyte at a time, as far as there is something to write.
-fn written(alloc: Global, routes: &Routes, phase: Phase, sink: &mut Sink) -> Phase {
+fn written(
+    alloc: Global,
+    routes: &Routes,
+    phase: ConnectionPhase,
+    sink: &mut TestSink,
+) -> ConnectionPhase {
     let mut source = Source::new(b"", 1);
     let mut phase = phase;
     for _ in 0..4096 {
@@ -63,14 +74,14 @@ fn written(alloc: Global, routes: &Routes, phase: Phase, sink: &mut Sink) -> Pha
             return phase;
         }
         sink.bad = sink.calls.saturating_add(256);
-        phase = turn::<Solo, Source<'_>, Sink>(alloc, routes, phase, &mut source, sink);
+        phase = turn::<Solo, Source<'_>, TestSink>(alloc, routes, phase, &mut source, sink);
     }
     phase
 }
 
 /// Returns a writer that takes nothing more where it fails.
-fn sink(alloc: Global) -> Sink {
-    Sink {
+fn sink(alloc: Global) -> TestSink {
+    TestSink {
         written: Vec::new(alloc),
         bad: u64::MAX,
         kind: ErrorKind::WouldBlock,
@@ -130,7 +141,7 @@ fn is_told_last(alloc: Global) -> Result<bool, AllocError> {
     let text = create(alloc, b'z')?;
     let _replied = asked(alloc, &routes, &mut site, &text, &mut sink(alloc));
     let looked = match opened {
-        Phase::Watching(watching) => look_on(alloc, watching, &mut site),
+        ConnectionPhase::Watching(watching) => look_on(alloc, watching, &mut site),
         other => other,
     };
     let _watching = written(alloc, &routes, looked, &mut taken);

@@ -1,11 +1,11 @@
 //! Requests over readers of whose bytes no contract speaks: no byte is read beyond what decides, and who is interrupted reads again.
-use asked::Asked;
 use chunked::Watched;
-use definitions::kinds::Kind;
-use keys::Fault;
-use received::{Received, receive};
-use requests::Request;
-use routes::table::Routes;
+use http_request_reader::{Received, receive};
+use object_keys::Fault;
+use request_decoding::Asked;
+use request_parts::Request;
+use request_routing::table::Routes;
+use spec_api::kinds::Kind;
 use std::alloc::{AllocError, Global};
 use std::io::ErrorKind;
 use test_devices::Source;

@@ -1,15 +1,15 @@
 //! Connections whose reader or writer fails at each of its calls in turn, and requests whose growths are refused.
 use api::{ServeFault, Served, serve_one};
 use chunked::Watched;
-use definitions::kinds::Kind;
-use desk::Server;
-use routes::table::Routes;
-use sites::Solo;
-use stamps::moments::Moment;
+use http_backend::Solo;
+use http_watch::LookPace;
+use metadata_values::moments::Moment;
+use request_routing::table::Routes;
+use server::Server;
+use spec_api::kinds::Kind;
 use std::alloc::{AllocError, Global};
 use std::io::ErrorKind;
-use test_devices::{Sink, Source};
-use watch_service::Pace;
+use test_devices::{Source, TestSink};
 
 /// A list of the ConfigMaps of all namespaces.
 const LIST: &[u8] = b"GET /api/v1/configmaps HTTP/1.1\r\n\r\n";
@@ -44,7 +44,7 @@ const NEVER: u64 = u64::MAX;
 #[derive(Drop)]
 struct AtOnce;
 
-impl Pace for AtOnce {
+impl LookPace for AtOnce {
     fn pause(&mut self, _kind: Kind, _idle: u64) {}
 }
 
@@ -64,7 +64,7 @@ fn serve(
 ) -> Result<(Result<Served, ServeFault>, Vec<u8>), AllocError> {
     let mut source = Source::new(text, 1);
     source.bad = bad.0;
-    let sink = Sink {
+    let sink = TestSink {
         written: Vec::with_capacity(alloc, 1024)?,
         bad: bad.1,
         kind: ErrorKind::BrokenPipe,

@@ -1,16 +1,16 @@
 //! Connections that go on in steps, a byte read and four written at a time: they are written what `serve_one` writes.
 use api::serve_one;
 use chunked::Watched;
-use definitions::kinds::Kind;
-use desk::Server;
-use http_connection::{Arriving, Phase, answer, look_on, turn};
-use routes::table::Routes;
-use sites::Solo;
-use stamps::moments::Moment;
+use http_backend::Solo;
+use http_connection::{Arriving, ConnectionPhase, answer, look_on, turn};
+use http_watch::LookPace;
+use metadata_values::moments::Moment;
+use request_routing::table::Routes;
+use server::Server;
+use spec_api::kinds::Kind;
 use std::alloc::{AllocError, Global};
 use std::io::ErrorKind;
-use test_devices::{Sink, Source};
-use watch_service::Pace;
+use test_devices::{Source, TestSink};
 
 /// A create of the ConfigMap `a`.
 const CREATE: &[u8] =
@@ -27,7 +27,7 @@ const WATCH: &[u8] = b"GET /api/v1/configmaps?watch=true&resourceVersion=1 HTTP/
 #[derive(Drop)]
 struct AtOnce;
 
-impl Pace for AtOnce {
+impl LookPace for AtOnce {
     fn pause(&mut self, _kind: Kind, _idle: u64) {}
 }
 
@@ -37,8 +37,8 @@ fn empty(alloc: Global) -> Result<Solo, AllocError> {
 }
 
 /// Returns a writer with room for a reply.
-fn sink(alloc: Global) -> Result<Sink, AllocError> {
-    Ok(Sink {
+fn sink(alloc: Global) -> Result<TestSink, AllocError> {
+    Ok(TestSink {
         written: Vec::with_capacity(alloc, 2048)?,
         bad: u64::MAX,
         kind: ErrorKind::WouldBlock,
@@ -68,22 +68,33 @@ fn at_once(
 }
 
 /// Lets a text come byte by byte, and returns where its connection then stands, answered if its request is whole.
-fn asked(alloc: Global, routes: &Routes, site: &mut Solo, text: &[u8], sink: &mut Sink) -> Phase {
+fn asked(
+    alloc: Global,
+    routes: &Routes,
+    site: &mut Solo,
+    text: &[u8],
+    sink: &mut TestSink,
+) -> ConnectionPhase {
     let mut source = Source::new(text, 1);
     source.kind = ErrorKind::WouldBlock;
-    let mut phase = Phase::Reading(Arriving::new(alloc));
+    let mut phase = ConnectionPhase::Reading(Arriving::new(alloc));
     for _ in 0..text.len() {
         source.bad = source.calls.saturating_add(1);
-        phase = turn::<Solo, Source<'_>, Sink>(alloc, routes, phase, &mut source, sink);
+        phase = turn::<Solo, Source<'_>, TestSink>(alloc, routes, phase, &mut source, sink);
     }
     match phase {
-        Phase::Asked(asked) => answer(alloc, asked, site, Moment::start()),
+        ConnectionPhase::Asked(asked) => answer(alloc, asked, site, Moment::start()),
         other => other,
     }
 }
 
 /// Lets a connection be written, as far as there is something to write.
-fn written(alloc: Global, routes: &Routes, phase: Phase, sink: &mut Sink) -> Phase {
+fn written(
+    alloc: Global,
+    routes: &Routes,
+    phase: ConnectionPhase,
+    sink: &mut TestSink,
+) -> ConnectionPhase {
     let mut source = Source::new(b"", 1);
     let mut phase = phase;
     for _ in 0..4096 {
@@ -91,15 +102,15 @@ fn written(alloc: Global, routes: &Routes, phase: Phase, sink: &mut Sink) -> Pha
             return phase;
         }
         sink.bad = sink.calls.saturating_add(1);
-        phase = turn::<Solo, Source<'_>, Sink>(alloc, routes, phase, &mut source, sink);
+        phase = turn::<Solo, Source<'_>, TestSink>(alloc, routes, phase, &mut source, sink);
     }
     phase
 }
 
 /// Takes a look, if the connection is one of a watch.
-fn looked(alloc: Global, phase: Phase, site: &mut Solo) -> Phase {
+fn looked(alloc: Global, phase: ConnectionPhase, site: &mut Solo) -> ConnectionPhase {
     match phase {
-        Phase::Watching(watching) => look_on(alloc, watching, site),
+        ConnectionPhase::Watching(watching) => look_on(alloc, watching, site),
         other => other,
     }
 }

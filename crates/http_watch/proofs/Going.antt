@@ -2,19 +2,19 @@
 use Rattle.std.proofs.Common.{◌≡◌, ◌≤◌, ◌<◌, inl, inr, ℕ, List, [], ◌∷◌, ◌++◌, Bool, false, Option, Some, None, Result, Ok, Err, refl, sym, ap, subst, ◌∙◌, append_assoc, append-nil}
 use Rattle.std.proofs.KnownBytes.{Appends-trans}
 use Rattle.std.specs.Io.KnownBytes.{Appends}
-use Rattle.definitions.specs.History.{View}
-use Rattle.definitions.specs.Versions.{Watched}
-use Rattle.definitions.specs.WatchReplies.{told_lines}
+use Rattle.spec_api.specs.History.{View}
+use Rattle.spec_api.specs.Versions.{Watched}
+use Rattle.spec_api.specs.WatchReplies.{told_lines}
 use Rattle.chunked.specs.Bodies.{last_chunk}
 use Rattle.chunked.specs.Devices.{AppendsBeginning, device_of, has_failed}
 use Rattle.chunked.specs.declared.watched.Watched as device
-use Rattle.connections.specs.Replies.{frames_text}
-use Rattle.watch_service.specs.declared.fault.Cut.{Cut}
-use Rattle.watch_service.specs.declared.fault.Cut.TheVariants as cut
-use Rattle.watch_service.specs.declared.standing.Standing.{Standing}
-use Rattle.watch_service.specs.Looked.{Writes, LooksOnce}
-use Rattle.watch_service.specs.Served.{Follows, WritesInParts}
-use Rattle.watch_service.specs.Watches.{Look, Looks, Ends, look_frames, ended_frames, idle_after, most_changes, most_idle}
+use Rattle.spec_http_server.specs.Replies.{frames_text}
+use Rattle.http_watch.specs.declared.fault.Cut.{Cut}
+use Rattle.http_watch.specs.declared.fault.Cut.TheVariants as cut
+use Rattle.http_watch.specs.declared.standing.WatchStanding.{WatchStanding}
+use Rattle.http_watch.specs.Looked.{Writes, LooksOnce}
+use Rattle.http_watch.specs.Served.{Follows, WritesInParts}
+use Rattle.http_watch.specs.Watches.{Look, Looks, Ends, look_frames, ended_frames, idle_after, most_changes, most_idle}
 
 pub appends_none : (known : Option (List ℕ)) → Appends known known []
 appends_none None = tt
@@ -68,7 +68,7 @@ module _ {S D : Type 0} (watches : S → View → ℕ → ℕ → Look → S →
       }
 
   -- the same by what is known of a look
-  pub went_on : (s : S) (at idle : ℕ) (t u : S) (place next : Standing) (before now after : device.Watched D) → IsUnderWay s at idle t place.revision place.idle before now
+  pub went_on : (s : S) (at idle : ℕ) (t u : S) (place next : WatchStanding) (before now after : device.Watched D) → IsUnderWay s at idle t place.revision place.idle before now
       → place.idle < most_idle → LooksOnce watches v b place t u contents now after (Ok (Some next)) → IsUnderWay s at idle u next.revision next.idle before after
   went_on s at idle t u place next before now after h lt (Ok w, g, put, stands) =
       subst (λ r. IsUnderWay s at idle u r next.idle before after) (sym stands.0)
@@ -96,7 +96,7 @@ module _ {S D : Type 0} (watches : S → View → ℕ → ℕ → Look → S →
       (subst (λ ls. Ends b at idle ls) (append-nil h.looks) (h.ends [] le)) h.written h.sound x
 
   -- after a look that was refused
-  pub ends_so : (s : S) (at idle : ℕ) (t u : S) (place : Standing) (before now mid after : device.Watched D) (r : Result (Unit {0}) Cut)
+  pub ends_so : (s : S) (at idle : ℕ) (t u : S) (place : WatchStanding) (before now mid after : device.Watched D) (r : Result (Unit {0}) Cut)
       → IsUnderWay s at idle t place.revision place.idle before now → place.idle < most_idle → LooksOnce watches v b place t u contents now mid (Ok None)
       → Writes last_chunk contents mid after r → Follows watches v b contents s u before after [] at idle r
   ends_so s at idle t u place before now mid after r h lt (Ok w, g, put, stands) x = absurd stands
@@ -106,7 +106,7 @@ module _ {S D : Type 0} (watches : S → View → ℕ → ℕ → Look → S →
       (Appends-trans _ _ _ (look_frames v.kind b at h.looks) (look_frames v.kind b place.revision (Err f ∷ [])) h.written put.1)) put.0 x
 
   -- left within a look
-  pub left_within : (s : S) (at idle : ℕ) (t u : S) (place : Standing) (before now after : device.Watched D) (c : Cut)
+  pub left_within : (s : S) (at idle : ℕ) (t u : S) (place : WatchStanding) (before now after : device.Watched D) (c : Cut)
       → IsUnderWay s at idle t place.revision place.idle before now → LooksOnce watches v b place t u contents now after (Err c)
       → Follows watches v b contents s u before after [] at idle (Err c)
   left_within s at idle t u place before now after cut.Device h (w, g, put, stands) = (

@@ -1,17 +1,17 @@
 -- Frames of lines, by their parts.
 use Rattle.std.proofs.Common.{◌≡◌, ℕ, Bool, List, [], ◌∷◌, ◌++◌, map, Option, Some, None, Result, Ok, Err, OnOk, false, refl, sym, ap, subst, ◌∙◌, append_assoc, append-nil}
-use Rattle.definitions.specs.declared.kinds.Kind.{Kind}
-use Rattle.definitions.specs.declared.frames.FrameKind.TheVariants.{Added}
-use Rattle.definitions.specs.Events.{Event}
-use Rattle.definitions.specs.Frames.{frame_text, bookmark_frame}
-use Rattle.definitions.specs.History.{Entries}
-use Rattle.definitions.specs.Streams.{Line, event, frame_of, added_lines}
-use Rattle.definitions.specs.WatchReplies.{opening_lines, closing_lines}
+use Rattle.spec_api.specs.declared.kinds.Kind.{Kind}
+use Rattle.spec_api.specs.declared.frames.FrameKind.TheVariants.{Added}
+use Rattle.spec_api.specs.Events.{Event}
+use Rattle.spec_api.specs.Frames.{frame_text, bookmark_frame}
+use Rattle.spec_api.specs.History.{Entries}
+use Rattle.spec_api.specs.Streams.{Line, event, frame_of, added_lines}
+use Rattle.spec_api.specs.WatchReplies.{opening_lines, closing_lines}
 use Rattle.chunked.specs.Bodies.{chunk_text}
-use Rattle.connections.specs.Replies.{frames_text}
-use Rattle.responses.specs.Frames.{change_frames, object_frames}
+use Rattle.spec_http_server.specs.Replies.{frames_text}
+use Rattle.http_response.specs.Frames.{change_frames, object_frames}
 use Rattle.revisions.specs.Watches.{last_bookmark}
-use Rattle.watch_service.specs.FirstFrames.{first_frames, member_frames}
+use Rattle.http_watch.specs.FirstFrames.{first_frames, member_frames}
 
 pub frames-append : (k : Kind) (ls ms : List Line) → frames_text k (ls ++ ms) ≡ frames_text k ls ++ frames_text k ms
 frames-append k [] ms = refl

@@ -5,26 +5,26 @@ use Rattle.std.proofs.KnownBytes.{Appends-trans}
 use Rattle.std.proofs.lemmas.Bool.{lt-ltb, ltb-false}
 use Rattle.std.specs.Io.KnownBytes.{Appends}
 use Rattle.serde_json.specs.Data.{Data}
-use Rattle.definitions.specs.declared.kinds.Kind.{Kind}
-use Rattle.definitions.specs.declared.frames.FrameKind.TheVariants.{Added}
-use Rattle.definitions.specs.Frames.{frame_text}
-use Rattle.definitions.specs.History.{Entries}
-use Rattle.definitions.specs.Keys.{Key}
-use Rattle.definitions.specs.Streams.{frame_of, initial_end}
-use Rattle.definitions.specs.WatchReplies.{closing_lines}
+use Rattle.spec_api.specs.declared.kinds.Kind.{Kind}
+use Rattle.spec_api.specs.declared.frames.FrameKind.TheVariants.{Added}
+use Rattle.spec_api.specs.Frames.{frame_text}
+use Rattle.spec_api.specs.History.{Entries}
+use Rattle.spec_api.specs.Keys.{Key}
+use Rattle.spec_api.specs.Streams.{frame_of, initial_end}
+use Rattle.spec_api.specs.WatchReplies.{closing_lines}
 use Rattle.chunked.specs.Bodies.{chunk_text, crlf}
 use Rattle.chunked.specs.Devices.{AppendsBeginning, device_of, has_failed}
 use Rattle.chunked.specs.declared.watched.Watched as device
-use Rattle.connections.specs.Replies.{frames_text}
+use Rattle.spec_http_server.specs.Replies.{frames_text}
 use Rattle.store.specs.Snapshots.{LeavesAfter}
-use Rattle.watch_service.specs.declared.fault.Cut.TheVariants as cut
-use Rattle.watch_service.specs.declared.fault.Cut.{Cut}
+use Rattle.http_watch.specs.declared.fault.Cut.TheVariants as cut
+use Rattle.http_watch.specs.declared.fault.Cut.{Cut}
 use Rattle.meta.specs.Members.{member_of}
 use Rattle.meta.specs.declared.lent_members.Member.{Member}
-use Rattle.watch_service.specs.FirstFrames.{first_frames, member_frames, StopsAt}
-use Rattle.watch_service.specs.Looked.{Writes}
-use Rattle.watch_service.specs.Served.{WritesInParts}
-use Rattle.watch_service.proofs.Going.{appends_none, begun_then}
+use Rattle.http_watch.specs.FirstFrames.{first_frames, member_frames, StopsAt}
+use Rattle.http_watch.specs.Looked.{Writes}
+use Rattle.http_watch.specs.Served.{WritesInParts}
+use Rattle.http_watch.proofs.Going.{appends_none, begun_then}
 
 -- ---- what is left to be made
 

@@ -1,12 +1,12 @@
 -- The frames with which a watch begins.
 use Rattle.std.specs.Prelude.{◌≡◌, ◌<◌, ℕ, List, ◌∷◌, ◌++◌, Bool, length, map}
 use Rattle.serde_json.specs.Data.{Data}
-use Rattle.definitions.specs.declared.kinds.Kind.{Kind}
-use Rattle.definitions.specs.History.{Entries}
-use Rattle.definitions.specs.Keys.{Key}
-use Rattle.definitions.specs.WatchReplies.{closing_lines}
-use Rattle.connections.specs.Replies.{frames_text}
-use Rattle.responses.specs.Frames.{object_frames}
+use Rattle.spec_api.specs.declared.kinds.Kind.{Kind}
+use Rattle.spec_api.specs.History.{Entries}
+use Rattle.spec_api.specs.Keys.{Key}
+use Rattle.spec_api.specs.WatchReplies.{closing_lines}
+use Rattle.spec_http_server.specs.Replies.{frames_text}
+use Rattle.http_response.specs.Frames.{object_frames}
 
 -- those of members
 abbrev pub member_frames : Entries → List ℕ

@@ -1,11 +1,11 @@
 -- What is given, as the definitions say it.
 use Rattle.std.specs.Prelude.{ℕ, Option, Some, None, Result, Ok, Err}
-use Rattle.definitions.specs.History.{Entries}
-use Rattle.definitions.specs.Refusals.{Refusal}
-use Rattle.definitions.specs.Versions.{Listed, listed_as, once_present}
-use Rattle.keys.specs.Faults.{refusal_of}
-use Rattle.keys.specs.declared.fault.Fault.{Fault}
-use Rattle.watch_service.specs.declared.begun.Begun.{Begun}
+use Rattle.spec_api.specs.History.{Entries}
+use Rattle.spec_api.specs.Refusals.{Refusal}
+use Rattle.spec_api.specs.Versions.{Listed, listed_as, once_present}
+use Rattle.object_keys.specs.Faults.{refusal_of}
+use Rattle.object_keys.specs.declared.fault.Fault.{Fault}
+use Rattle.http_watch.specs.declared.begun.Begun.{Begun}
 
 -- what is given, or why it is refused, is so
 abbrev pub Gives : {X Y : Type 0} → (Y → X) → (Result X Refusal → Type 0) → Result Y Fault → Type 0

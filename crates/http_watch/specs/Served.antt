@@ -1,18 +1,18 @@
 -- What becomes of a watch.
 use Rattle.std.specs.Prelude.{◌≡◌, ◌⊎◌, ℕ, List, ◌++◌, Bool, true, false, Option, Result, Ok, Err}
-use Rattle.definitions.specs.declared.versions.Start.{Start}
-use Rattle.definitions.specs.History.{View}
-use Rattle.definitions.specs.Refusals.{Refusal}
-use Rattle.definitions.specs.Versions.{Listed}
+use Rattle.spec_api.specs.declared.versions.Start.{Start}
+use Rattle.spec_api.specs.History.{View}
+use Rattle.spec_api.specs.Refusals.{Refusal}
+use Rattle.spec_api.specs.Versions.{Listed}
 use Rattle.chunked.specs.Devices.{AppendsBeginning, device_of, has_failed}
 use Rattle.chunked.specs.declared.watched.Watched.{Watched}
 use Rattle.std.specs.Io.KnownBytes.{Appends}
-use Rattle.watch_service.specs.declared.fault.Cut.{Cut}
-use Rattle.watch_service.specs.declared.fault.Cut.TheVariants as cut
-use Rattle.watch_service.specs.declared.fault.WatchFault.{WatchFault}
-use Rattle.watch_service.specs.declared.fault.WatchFault.TheVariants as left
-use Rattle.watch_service.specs.Watches.{Look, Opening, Opens, Looks, Ends, look_frames, ended_frames, opening_text}
-use Rattle.watch_service.specs.Opened.{Refuses}
+use Rattle.http_watch.specs.declared.fault.Cut.{Cut}
+use Rattle.http_watch.specs.declared.fault.Cut.TheVariants as cut
+use Rattle.http_watch.specs.declared.fault.WatchFault.{WatchFault}
+use Rattle.http_watch.specs.declared.fault.WatchFault.TheVariants as left
+use Rattle.http_watch.specs.Watches.{Look, Opening, Opens, Looks, Ends, look_frames, ended_frames, opening_text}
+use Rattle.http_watch.specs.Opened.{Refuses}
 
 -- whether the writer has failed, where a watch is left
 abbrev pub has_writer_failed : Cut → Bool

@@ -1,17 +1,17 @@
 -- A watch as its looks give it, and what is written for them.
 use Rattle.std.specs.Prelude.{◌≡◌, ◌≤◌, ◌<◌, ◌+◌, ℕ, List, [], ◌∷◌, ◌++◌, Bool, Option, None, Result, Ok, Err}
 use Rattle.std.specs.Result.{result_map_both}
-use Rattle.definitions.specs.declared.kinds.Kind.{Kind}
-use Rattle.definitions.specs.declared.versions.Start.{Start}
-use Rattle.definitions.specs.declared.versions.Start.TheVariants as start
-use Rattle.definitions.specs.Frames.{frame_text, error_frame}
-use Rattle.definitions.specs.History.{View}
-use Rattle.definitions.specs.Refusals.{Refusal}
-use Rattle.definitions.specs.Streams.{Line, added_lines}
-use Rattle.definitions.specs.Versions.{Listed, Watched}
-use Rattle.definitions.specs.WatchReplies.{told_lines, opening_lines}
+use Rattle.spec_api.specs.declared.kinds.Kind.{Kind}
+use Rattle.spec_api.specs.declared.versions.Start.{Start}
+use Rattle.spec_api.specs.declared.versions.Start.TheVariants as start
+use Rattle.spec_api.specs.Frames.{frame_text, error_frame}
+use Rattle.spec_api.specs.History.{View}
+use Rattle.spec_api.specs.Refusals.{Refusal}
+use Rattle.spec_api.specs.Streams.{Line, added_lines}
+use Rattle.spec_api.specs.Versions.{Listed, Watched}
+use Rattle.spec_api.specs.WatchReplies.{told_lines, opening_lines}
 use Rattle.chunked.specs.Bodies.{chunk_text, last_chunk}
-use Rattle.connections.specs.Replies.{watch_head, frames_text}
+use Rattle.spec_http_server.specs.Replies.{watch_head, frames_text}
 
 -- a look gives changes, or is refused
 abbrev pub Look : Type 0

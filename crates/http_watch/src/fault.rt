@@ -1,5 +1,5 @@
 //! Why a watch is not served to its end.
-use keys::Fault;
+use object_keys::Fault;
 use std::alloc::{AllocError, AllocFailed};
 
 /// Why a watch that has begun is left before its end.
@@ -22,7 +22,7 @@ pub enum WatchFault {
 
 impl From<AllocError> for Cut {
     ghost use Rattle.std.specs.Prelude.{◌≡◌};
-    ghost use Rattle.watch_service.specs.declared.fault.Cut.TheVariants as cut;
+    ghost use Rattle.http_watch.specs.declared.fault.Cut.TheVariants as cut;
 
     ghost from_gives = { λ e f. f ≡ cut.NoMemory };
 
@@ -33,7 +33,7 @@ impl From<AllocError> for Cut {
 
 impl<T: Drop> From<AllocFailed<T>> for Cut {
     ghost use Rattle.std.specs.Prelude.{◌≡◌};
-    ghost use Rattle.watch_service.specs.declared.fault.Cut.TheVariants as cut;
+    ghost use Rattle.http_watch.specs.declared.fault.Cut.TheVariants as cut;
 
     ghost from_gives = { λ e f. f ≡ cut.NoMemory };
 

@@ -1,18 +1,18 @@
 //! The frames of what is there as a watch begins, made as they are written.
 ghost use Rattle.std.specs.Prelude.{◌≡◌, ◌++◌, [], IfErr, IfNone, IfOk, IfSome, OnOk, length, nat_lt};
 ghost use Rattle.chunked.specs.Bodies.{chunk_text};
-ghost use Rattle.connections.specs.Replies.{frames_text};
-ghost use Rattle.definitions.specs.Frames.{frame_text};
-ghost use Rattle.definitions.specs.WatchReplies.{closing_lines};
-ghost use Rattle.definitions.specs.declared.frames.FrameKind.TheVariants.{Added};
-ghost use Rattle.keys.specs.Keys.{key_of};
-ghost use Rattle.watch_service.specs.FirstFrames.{first_frames, member_frames, StopsAt};
+ghost use Rattle.spec_http_server.specs.Replies.{frames_text};
+ghost use Rattle.spec_api.specs.Frames.{frame_text};
+ghost use Rattle.spec_api.specs.WatchReplies.{closing_lines};
+ghost use Rattle.spec_api.specs.declared.frames.FrameKind.TheVariants.{Added};
+ghost use Rattle.object_keys.specs.Keys.{key_of};
+ghost use Rattle.http_watch.specs.FirstFrames.{first_frames, member_frames, StopsAt};
 
 use crate::begun::Begun;
-use definitions::kinds::Kind;
-use keys::Key;
+use http_response::{push_closing, push_objects};
 use meta::StoredObject;
-use responses::{push_closing, push_objects};
+use object_keys::Key;
+use spec_api::kinds::Kind;
 use std::alloc::{AllocError, Global};
 use std::marker::Model;
 use store::ViewSnapshot;
@@ -35,7 +35,7 @@ pub struct FirstFrames {
 
 impl Model for FirstFrames {
     ghost use Rattle.std.specs.Prelude.{◌≡◌, ℕ, List, length, nat_lt};
-    ghost use Rattle.watch_service.specs.FirstFrames.{first_frames};
+    ghost use Rattle.http_watch.specs.FirstFrames.{first_frames};
 
     ghost Value = { List ℕ };
 

@@ -1,25 +1,25 @@
 //! The frames of what a watch is given, written.
 ghost use Rattle.std.specs.Prelude.{◌≡◌, ◌<◌, ◌++◌, IfOk, IfErr, OnOk, None, map, true};
 ghost use Rattle.chunked.specs.Bodies.{chunk_text};
-ghost use Rattle.connections.specs.Replies.{frames_text};
-ghost use Rattle.definitions.specs.Frames.{frame_text, error_frame};
-ghost use Rattle.definitions.specs.Streams.{event};
-ghost use Rattle.definitions.specs.WatchReplies.{told_lines};
-ghost use Rattle.keys.specs.Faults.{refusal_of};
+ghost use Rattle.spec_http_server.specs.Replies.{frames_text};
+ghost use Rattle.spec_api.specs.Frames.{frame_text, error_frame};
+ghost use Rattle.spec_api.specs.Streams.{event};
+ghost use Rattle.spec_api.specs.WatchReplies.{told_lines};
+ghost use Rattle.object_keys.specs.Faults.{refusal_of};
 ghost use Rattle.revisions.specs.Watches.{watched_of, last_bookmark};
-ghost use Rattle.watch_service.specs.Looked.{Writes, IsShown};
-ghost use Rattle.watch_service.specs.Watches.{idle_after, most_idle};
-ghost use Rattle.watch_service.specs.declared.fault.Cut.TheVariants as cut;
+ghost use Rattle.http_watch.specs.Looked.{Writes, IsShown};
+ghost use Rattle.http_watch.specs.Watches.{idle_after, most_idle};
+ghost use Rattle.http_watch.specs.declared.fault.Cut.TheVariants as cut;
 
 use crate::fault::Cut;
 use crate::looked::Looked;
-use crate::standing::Standing;
+use crate::standing::WatchStanding;
 use chunked::Watched as Device;
-use definitions::kinds::Kind;
-use keys::Fault;
-use responses::{push_bookmark, push_changes, push_error};
-use revisions::Watched;
+use http_response::{push_bookmark, push_changes, push_error};
+use object_keys::Fault;
+use revisions::WatchedEvents;
 use revisions::watched::last_bookmark;
+use spec_api::kinds::Kind;
 use std::alloc::{AllocError, Global};
 use std::io::Write;
 
@@ -39,7 +39,7 @@ pub(crate) fn push_look(
     alloc: Global,
     text: &mut Vec<u8>,
     kind: Kind,
-    watched: &Watched,
+    watched: &WatchedEvents,
     bookmark: Option<u64>,
 ) -> Result<(), AllocError>
     ensures { OnOk result (text.new.items ≡ text.old.items
@@ -53,7 +53,7 @@ pub(crate) fn push_look(
 }
 
 /// Returns how many looks in a row have given no line, after one that gave these.
-pub(crate) fn idle_after(idle: u64, watched: &Watched, bookmark: Option<u64>) -> u64
+pub(crate) fn idle_after(idle: u64, watched: &WatchedEvents, bookmark: Option<u64>) -> u64
     requires { idle < most_idle }
     ensures { result ≡ idle_after idle (map event (watched_of watched.now).events ++ last_bookmark bookmark) }
 {
@@ -69,8 +69,8 @@ pub(crate) fn shown(
     alloc: Global,
     kind: Kind,
     bookmarks: bool,
-    at: Standing,
-    watched: &Watched,
+    at: WatchStanding,
+    watched: &WatchedEvents,
 ) -> Result<Looked, AllocError>
     requires idle { at.idle < most_idle }
     ensures { IfOk result (λ l. IsShown kind bookmarks at (watched_of watched.now) l) }
@@ -78,7 +78,7 @@ pub(crate) fn shown(
     let bookmark = last_bookmark(bookmarks, at.revision, watched);
     let mut text = Vec::new(alloc);
     push_look(alloc, &mut text, kind, watched, bookmark)?;
-    let next = Standing {
+    let next = WatchStanding {
         revision: watched.stands,
         idle: idle_after(at.idle, watched, bookmark),
     };

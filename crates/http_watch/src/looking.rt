@@ -2,16 +2,16 @@
 ghost use Rattle.std.specs.Prelude.{◌≡◌, ◌<◌, false};
 ghost use Rattle.chunked.specs.Devices.{has_failed};
 ghost use Rattle.selector.specs.Views.{view_of};
-ghost use Rattle.watch_service.specs.Looked.{IsLook, LooksOnce};
-ghost use Rattle.watch_service.specs.Watches.{most_idle};
+ghost use Rattle.http_watch.specs.Looked.{IsLook, LooksOnce};
+ghost use Rattle.http_watch.specs.Watches.{most_idle};
 
 use crate::fault::Cut;
 use crate::frames::{shown, told, write_text};
 use crate::looked::Looked;
 use crate::source::WatchSource;
-use crate::standing::Standing;
+use crate::standing::WatchStanding;
 use chunked::Watched as Device;
-use keys::Fault;
+use object_keys::Fault;
 use selector::View;
 use std::alloc::{AllocError, Global};
 use std::io::Write;
@@ -26,7 +26,7 @@ pub fn take_look<S: WatchSource>(
     source: &mut S,
     view: &View,
     bookmarks: bool,
-    at: Standing,
+    at: WatchStanding,
 ) -> Result<Looked, AllocError>
     requires idle { at.idle < most_idle }
     ensures { IsLook S.Watches (view_of view.now) bookmarks at source.old source.new result }
@@ -51,9 +51,9 @@ pub(crate) fn look<S: WatchSource, W: Write + Drop>(
     source: &mut S,
     view: &View,
     bookmarks: bool,
-    at: Standing,
+    at: WatchStanding,
     writer: &mut Device<W>,
-) -> Result<Option<Standing>, Cut>
+) -> Result<Option<WatchStanding>, Cut>
     requires idle { at.idle < most_idle }
     requires sound { has_failed writer.old ≡ false }
     ensures { LooksOnce S.Watches (view_of view.now) bookmarks at source.old source.new W.contents writer.old writer.new result }

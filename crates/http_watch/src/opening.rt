@@ -1,32 +1,32 @@
 //! How a watch opens.
 ghost use Rattle.std.specs.Prelude.{◌≡◌, ◌++◌, IfOk, false, map};
-ghost use Rattle.connections.specs.Replies.{watch_head, frames_text};
-ghost use Rattle.definitions.specs.Streams.{event};
+ghost use Rattle.spec_http_server.specs.Replies.{watch_head, frames_text};
+ghost use Rattle.spec_api.specs.Streams.{event};
 ghost use Rattle.revisions.specs.Watches.{watched_of, last_bookmark};
 ghost use Rattle.selector.specs.Views.{view_of};
-ghost use Rattle.watch_service.specs.FirstFrames.{first_frames};
-ghost use Rattle.watch_service.specs.Opened.{IsOpened, opening_of};
+ghost use Rattle.http_watch.specs.FirstFrames.{first_frames};
+ghost use Rattle.http_watch.specs.Opened.{IsOpened, opening_of};
 
 use crate::begun::Begun;
 use crate::first_frames::FirstFrames;
 use crate::frames::{idle_after, push_look};
 use crate::looking::MOST_CHANGES;
 use crate::source::WatchSource;
-use crate::standing::Standing;
-use definitions::kinds::Kind;
-use definitions::versions::Start;
-use keys::Fault;
-use responses::watch_head;
-use revisions::Watched;
+use crate::standing::WatchStanding;
+use http_response::watch_head;
+use object_keys::Fault;
+use revisions::WatchedEvents;
 use revisions::watched::last_bookmark;
 use selector::View;
+use spec_api::kinds::Kind;
+use spec_api::versions::Start;
 use std::alloc::{AllocError, Global};
 
 /// A watch that has opened.
 #[derive(Drop)]
-pub struct Opened {
+pub struct WatchStart {
     /// Where it stands.
-    pub at: Standing,
+    pub at: WatchStanding,
     /// What it opens with: the head, and the first frames.
     pub text: Vec<u8>,
     /// The frames after these, which are still to be made.
@@ -46,7 +46,7 @@ fn head_text(alloc: Global) -> Result<Vec<u8>, AllocError>
 fn first_text(
     alloc: Global,
     kind: Kind,
-    watched: &Watched,
+    watched: &WatchedEvents,
     bookmark: Option<u64>,
 ) -> Result<Vec<u8>, AllocError>
     ensures { IfOk result (λ text. text.items
@@ -58,11 +58,11 @@ fn first_text(
 }
 
 /// Returns where a watch stands that has begun, before any look.
-fn standing_at(begun: &Begun) -> Standing
+fn standing_at(begun: &Begun) -> WatchStanding
     ensures revision { result.revision ≡ begun.now.revision }
     ensures idle { result.idle ≡ 0 }
 {
-    Standing {
+    WatchStanding {
         revision: begun.revision,
         idle: 0,
     }
@@ -74,7 +74,7 @@ fn opened_with(
     kind: Kind,
     bookmarks: bool,
     begun: Begun,
-) -> Result<Opened, AllocError>
+) -> Result<WatchStart, AllocError>
     ensures opening { IfOk result (λ r. opening_of r ≡ watch_head ++ first_frames kind bookmarks begun.revision begun.objects) }
     ensures revision { IfOk result (λ r. r.at.revision ≡ begun.revision) }
     ensures idle { IfOk result (λ r. r.at.idle ≡ 0) }
@@ -83,11 +83,15 @@ fn opened_with(
     let mut text = head_text(alloc)?;
     let mut rest = FirstFrames::of(alloc, kind, bookmarks, begun)?;
     rest.push_next(alloc, &mut text)?;
-    Ok(Opened { at, text, rest })
+    Ok(WatchStart { at, text, rest })
 }
 
 /// Opens a watch with what is there.
-fn open_with<S: WatchSource>(alloc: Global, source: &mut S, view: &View) -> Result<Opened, Fault>
+fn open_with<S: WatchSource>(
+    alloc: Global,
+    source: &mut S,
+    view: &View,
+) -> Result<WatchStart, Fault>
     ensures { IsOpened S.Begins S.Watches (view_of view.now) false Start.Listed source.old source.new result }
 {
     let begun = match source.initial(alloc, view, None) {
@@ -107,7 +111,7 @@ fn open_closed<S: WatchSource>(
     view: &View,
     bookmarks: bool,
     least: Option<u64>,
-) -> Result<Opened, Fault>
+) -> Result<WatchStart, Fault>
     ensures { IsOpened S.Begins S.Watches (view_of view.now) bookmarks (Start.Streamed least) source.old source.new result }
 {
     let begun = match source.initial(alloc, view, least) {
@@ -121,7 +125,11 @@ fn open_closed<S: WatchSource>(
 }
 
 /// Opens a watch after the present revision.
-fn open_after<S: WatchSource>(alloc: Global, source: &mut S, view: &View) -> Result<Opened, Fault>
+fn open_after<S: WatchSource>(
+    alloc: Global,
+    source: &mut S,
+    view: &View,
+) -> Result<WatchStart, Fault>
     ensures { IsOpened S.Begins S.Watches (view_of view.now) false Start.Present source.old source.new result }
 {
     let begun = match source.initial(alloc, view, None) {
@@ -129,7 +137,7 @@ fn open_after<S: WatchSource>(alloc: Global, source: &mut S, view: &View) -> Res
         Err(fault) => return Err(fault),
     };
     match head_text(alloc) {
-        Ok(text) => Ok(Opened {
+        Ok(text) => Ok(WatchStart {
             at: standing_at(&begun),
             text,
             rest: FirstFrames::none(alloc, view.kind),
@@ -145,7 +153,7 @@ fn open_at<S: WatchSource>(
     view: &View,
     bookmarks: bool,
     from: u64,
-) -> Result<Opened, Fault>
+) -> Result<WatchStart, Fault>
     ensures { IsOpened S.Begins S.Watches (view_of view.now) bookmarks (Start.After from) source.old source.new result }
 {
     let watched = match source.watch_from(alloc, view, from, MOST_CHANGES) {
@@ -155,8 +163,8 @@ fn open_at<S: WatchSource>(
     let bookmark = last_bookmark(bookmarks, from, &watched);
     let idle = idle_after(0, &watched, bookmark);
     match first_text(alloc, view.kind, &watched, bookmark) {
-        Ok(text) => Ok(Opened {
-            at: Standing {
+        Ok(text) => Ok(WatchStart {
+            at: WatchStanding {
                 revision: watched.stands,
                 idle,
             },
@@ -175,7 +183,7 @@ pub fn open<S: WatchSource>(
     view: &View,
     bookmarks: bool,
     start: Start,
-) -> Result<Opened, Fault>
+) -> Result<WatchStart, Fault>
     ensures { IsOpened S.Begins S.Watches (view_of view.now) bookmarks start source.old source.new result }
 {
     match start {

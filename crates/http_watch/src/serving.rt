@@ -3,21 +3,21 @@ ghost use Rattle.std.specs.Prelude.{◌≡◌, ◌++◌, [], false};
 ghost use Rattle.chunked.specs.Devices.{has_failed};
 ghost use Rattle.selector.specs.Views.{view_of};
 ghost use Rattle.chunked.specs.Bodies.{last_chunk};
-ghost use Rattle.watch_service.specs.Looked.{Writes};
-ghost use Rattle.watch_service.specs.Opened.{opening_of};
-ghost use Rattle.watch_service.specs.Served.{Follows, Serves, WritesInParts};
+ghost use Rattle.http_watch.specs.Looked.{Writes};
+ghost use Rattle.http_watch.specs.Opened.{opening_of};
+ghost use Rattle.http_watch.specs.Served.{Follows, Serves, WritesInParts};
 
 use crate::fault::{Cut, WatchFault};
 use crate::first_frames::FirstFrames;
 use crate::frames::write_text;
 use crate::looking::look;
-use crate::opening::{Opened, open};
-use crate::source::{Pace, WatchSource};
-use crate::standing::Standing;
+use crate::opening::{WatchStart, open};
+use crate::source::{LookPace, WatchSource};
+use crate::standing::WatchStanding;
 use chunked::Watched as Device;
-use definitions::versions::Start;
-use responses::last_chunk;
+use http_response::last_chunk;
 use selector::View;
+use spec_api::versions::Start;
 use std::alloc::Global;
 use std::io::Write;
 
@@ -33,12 +33,12 @@ fn finish<W: Write + Drop>(writer: &mut Device<W>) -> Result<(), Cut>
 
 /// Goes on with a watch that has opened, from where it stands: looks what is new, and writes it, again and again. A look after
 /// one that gave nothing waits for the pace.
-fn follow<S: WatchSource, P: Pace, W: Write + Drop>(
+fn follow<S: WatchSource, P: LookPace, W: Write + Drop>(
     alloc: Global,
     source: &mut S,
     view: &View,
     bookmarks: bool,
-    from: Standing,
+    from: WatchStanding,
     pace: &mut P,
     writer: &mut Device<W>,
 ) -> Result<(), Cut>
@@ -118,12 +118,12 @@ fn write_opening<W: Write + Drop>(
 
 /// Writes what a watch opened with, and goes on with it: writes the frames of each look as they come, those of one look in one write,
 /// and at last its end. A look after one that gave nothing waits for the pace.
-pub fn go_on<S: WatchSource, P: Pace, W: Write + Drop>(
+pub fn go_on<S: WatchSource, P: LookPace, W: Write + Drop>(
     alloc: Global,
     source: &mut S,
     view: &View,
     bookmarks: bool,
-    opened: Opened,
+    opened: WatchStart,
     pace: &mut P,
     writer: &mut Device<W>,
 ) -> Result<(), Cut>
@@ -147,7 +147,7 @@ pub fn go_on<S: WatchSource, P: Pace, W: Write + Drop>(
 /// come, those of one look in one write. The watch is over after 1,024 looks in a row that gave no line, or by a refusal, which
 /// is its last frame. Only a watch that is over has an end: one that is left, because the writer fails or out of memory, is
 /// seen to be cut.
-pub fn serve_watch<S: WatchSource, P: Pace, W: Write + Drop>(
+pub fn serve_watch<S: WatchSource, P: LookPace, W: Write + Drop>(
     alloc: Global,
     source: &mut S,
     view: &View,

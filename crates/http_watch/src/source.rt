@@ -1,18 +1,18 @@
 //! What watches are served over.
 ghost use Rattle.std.specs.Prelude.{ℕ, Option, Result};
-ghost use Rattle.definitions.specs.History as history;
-ghost use Rattle.definitions.specs.Refusals.{Refusal};
-ghost use Rattle.definitions.specs.Versions as versions;
-ghost use Rattle.definitions.specs.Versions.{Listed};
+ghost use Rattle.spec_api.specs.History as history;
+ghost use Rattle.spec_api.specs.Refusals.{Refusal};
+ghost use Rattle.spec_api.specs.Versions as versions;
+ghost use Rattle.spec_api.specs.Versions.{Listed};
 ghost use Rattle.revisions.specs.Watches.{watched_of};
 ghost use Rattle.selector.specs.Views.{view_of};
-ghost use Rattle.watch_service.specs.Given.{Gives, GivesBegun};
+ghost use Rattle.http_watch.specs.Given.{Gives, GivesBegun};
 
 use crate::begun::Begun;
-use definitions::kinds::Kind;
-use keys::Fault;
-use revisions::Watched;
+use object_keys::Fault;
+use revisions::WatchedEvents;
 use selector::View;
+use spec_api::kinds::Kind;
 use std::alloc::Global;
 
 /// What can be watched. Others may write between two calls, so that what a call gives is a relation between what was seen
@@ -31,7 +31,7 @@ pub trait WatchSource {
         view: &View,
         after: u64,
         most: usize,
-    ) -> Result<Watched, Fault>
+    ) -> Result<WatchedEvents, Fault>
         ensures watches { Gives watched_of (λ w. Watches self.old (view_of view.now) after most w self.new) result };
 
     /// Returns what is there of a view, not older than a revision, if one is named.
@@ -40,7 +40,7 @@ pub trait WatchSource {
 }
 
 /// What is done between a look that gave nothing and the next one.
-pub trait Pace {
+pub trait LookPace {
     /// Waits for as long as it sees fit for a change of a kind, after so many looks in a row that gave nothing.
     fn pause(&mut self, kind: Kind, idle: u64);
 }

@@ -2,7 +2,7 @@
 
 /// Where a watch stands.
 #[derive(Debug, Clone, Copy, PartialEq, Eq)]
-pub struct Standing {
+pub struct WatchStanding {
     /// The revision up to which all events were given.
     pub revision: u64,
     /// How many looks in a row have given no line.

@@ -6,14 +6,14 @@ use Rattle.std.specs.Ordering.{ordering_then}
 use Rattle.std.specs.Cmp.Lexicographic.{slice_cmp}
 use Rattle.std.specs.BTreeMap.Range.{range_contains}
 use Rattle.std.specs.declared.ops.Bound.TheVariants.{Included, Excluded}
-use Rattle.definitions.specs.Kinds.{rank}
-use Rattle.definitions.specs.declared.kinds.Kind.{Kind}
-use Rattle.definitions.specs.Keys.{Key as Name, key_cmp as name_cmp}
-use Rattle.keys.specs.Keys.{key_of}
-use Rattle.keys.specs.declared.key.Key.{Key}
-use Rattle.keys.proofs.KeyOrder.{key_cmp-name_cmp}
+use Rattle.spec_api.specs.Kinds.{rank}
+use Rattle.spec_api.specs.declared.kinds.Kind.{Kind}
+use Rattle.spec_api.specs.Keys.{Key as Name, key_cmp as name_cmp}
+use Rattle.object_keys.specs.Keys.{key_of}
+use Rattle.object_keys.specs.declared.key.Key.{Key}
+use Rattle.object_keys.proofs.KeyOrder.{key_cmp-name_cmp}
 use Rattle.indexer.specs.Links.{link_of, link_cmp, first_name, first_link}
-use Rattle.indexer.specs.declared.links.Link.{Link}
+use Rattle.indexer.specs.declared.links.OwnerLink.{OwnerLink}
 use Rattle.indexer.proofs.LinkSets.{pair_cmp, link_cmp-pair}
 use Rattle.reflector.proofs.SeenMaps.{key_cmp}
 
@@ -65,10 +65,10 @@ least_name n =
     (then_least (slice_cmp nat_cmp [] n.namespace) (slice_cmp nat_cmp [] n.name) (nil_first n.name) ∙ nil_first n.namespace)
     ∙ least_rank (rank n.kind)
 
-link-pair : (a : Link) (p : List ℕ × Name) (q : Link) → link_of a ≡ p → is_le (link_cmp a q) ≡ is_le (pair_cmp p (link_of q))
+link-pair : (a : OwnerLink) (p : List ℕ × Name) (q : OwnerLink) → link_of a ≡ p → is_le (link_cmp a q) ≡ is_le (pair_cmp p (link_of q))
 link-pair a p q is = ap is_le (link_cmp-pair a q ∙ ap (λ p. pair_cmp p (link_of q)) is)
 
-pub links_between : (u : List ℕ) (first past : Link) → link_of first ≡ first_link u → link_of past ≡ first_link (u ++ 0 ∷ []) → (q : Link)
+pub links_between : (u : List ℕ) (first past : OwnerLink) → link_of first ≡ first_link u → link_of past ≡ first_link (u ++ 0 ∷ []) → (q : OwnerLink)
     → range_contains link_cmp (Included first) (Excluded past) q ≡ bytes_eq u (string_bytes q.uid)
 links_between u first past begins ends q =
     ap (λ b. b && not (is_le (link_cmp past q))) (link-pair first (first_link u) q begins)

@@ -1,10 +1,10 @@
 -- Entries that are laid over a map, one after another.
 use Rattle.std.proofs.Common.{◌≡◌, List, ◌∷◌, sym, ap, ◌∙◌}
 use Rattle.std.specs.BTreeMap.{insert_entry}
-use Rattle.definitions.specs.Keys.{key_cmp as name_cmp}
-use Rattle.keys.specs.Keys.{key_of}
-use Rattle.keys.specs.declared.key.Key.{Key}
-use Rattle.controllers.specs.Shifts.{overlaid}
+use Rattle.spec_api.specs.Keys.{key_cmp as name_cmp}
+use Rattle.object_keys.specs.Keys.{key_of}
+use Rattle.object_keys.specs.declared.key.Key.{Key}
+use Rattle.spec_client_go.specs.Shifts.{overlaid}
 use Rattle.reflector.specs.Seen.{members_seen}
 use Rattle.reflector.specs.declared.shared_objects.SharedObject.{SharedObject}
 use Rattle.reflector.proofs.SeenMaps.{key_cmp, seen-put_entry}

@@ -3,10 +3,10 @@ use Rattle.std.proofs.Common.{◌≡◌, List, [], ◌∷◌, Less, sym, ◌∙�
 use Rattle.std.specs.List.{AllByRecursion}
 use Rattle.std.specs.List.Sorted.{IsStrictlySortedBy}
 use Rattle.std.specs.Map.{keys_of}
-use Rattle.definitions.specs.Keys.{Key as Name, key_cmp as name_cmp}
-use Rattle.keys.specs.Keys.{key_of}
-use Rattle.keys.specs.declared.key.Key.{Key}
-use Rattle.keys.proofs.KeyOrder.{key_cmp-name_cmp}
+use Rattle.spec_api.specs.Keys.{Key as Name, key_cmp as name_cmp}
+use Rattle.object_keys.specs.Keys.{key_of}
+use Rattle.object_keys.specs.declared.key.Key.{Key}
+use Rattle.object_keys.proofs.KeyOrder.{key_cmp-name_cmp}
 use Rattle.reflector.specs.declared.shared_objects.SharedObject.{SharedObject}
 use Rattle.reflector.specs.Seen.{members_seen}
 use Rattle.reflector.proofs.SeenMaps.{key_cmp}

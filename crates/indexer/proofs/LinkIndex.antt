@@ -8,19 +8,19 @@ use Rattle.std.specs.BTreeMap.{is_at}
 use Rattle.std.specs.Map.{lookup}
 use Rattle.std.proofs.lemmas.Map.Text.{is_eq-slice_cmp}
 use Rattle.serde_json.specs.Data.{Data}
-use Rattle.definitions.specs.History.{Entries, found}
-use Rattle.definitions.specs.Keys.{Key as Name, key_cmp as name_cmp, is_same_key}
-use Rattle.definitions.specs.Metadata.{Owner, owners}
-use Rattle.definitions.specs.SelectorValues.{is_some_and}
-use Rattle.controllers.specs.OwnerReferences.{is_owned_by, is_text}
-use Rattle.controllers.proofs.WorkKeyOrder.{name_total, name_tells}
-use Rattle.keys.specs.Keys.{key_of}
-use Rattle.keys.specs.declared.key.Key.{Key}
-use Rattle.keys.proofs.KeyOrder.{key_cmp-name_cmp}
+use Rattle.spec_api.specs.History.{Entries, found}
+use Rattle.spec_api.specs.Keys.{Key as Name, key_cmp as name_cmp, is_same_key}
+use Rattle.spec_api.specs.Metadata.{Owner, owners}
+use Rattle.spec_api.specs.SelectorValues.{is_some_and}
+use Rattle.spec_client_go.specs.OwnerReferences.{is_owned_by, is_text}
+use Rattle.spec_client_go.proofs.WorkKeyOrder.{name_total, name_tells}
+use Rattle.object_keys.specs.Keys.{key_of}
+use Rattle.object_keys.specs.declared.key.Key.{Key}
+use Rattle.object_keys.proofs.KeyOrder.{key_cmp-name_cmp}
 use Rattle.reflector.specs.declared.shared_objects.SharedObject.{SharedObject}
 use Rattle.indexer.specs.Links.{link_of, link_to, links_at, has_link, IsIndexOf, Relinks}
 use Rattle.reflector.specs.Seen.{members_seen}
-use Rattle.indexer.specs.declared.links.Link.{Link}
+use Rattle.indexer.specs.declared.links.OwnerLink.{OwnerLink}
 use Rattle.indexer.proofs.LinkSets.{pair_cmp, link_cmp-pair, is-Equal, is_eq-reverse}
 use Rattle.reflector.proofs.SeenMaps.{key_cmp, data_of}
 use Rattle.indexer.proofs.SeenMaps.{seen-lookup}
@@ -30,7 +30,7 @@ use Rattle.indexer.proofs.SeenMaps.{seen-lookup}
 abbrev has_pair : List (List ℕ × Name) → List ℕ × Name → Bool
 has_pair ps p = list_any (λ (r : List ℕ × Name). is_eq (pair_cmp p r)) ps
 
-seen-has : (ls : List Link) (q : Link) → has_link ls q ≡ has_pair (map link_of ls) (link_of q)
+seen-has : (ls : List OwnerLink) (q : OwnerLink) → has_link ls q ≡ has_pair (map link_of ls) (link_of q)
 seen-has [] q = refl
 seen-has (l ∷ ls) q = ap (λ o. is_eq o || has_link ls q) (link_cmp-pair q l) ∙ ap (λ b. is_eq (pair_cmp (link_of q) (link_of l)) || b) (seen-has ls q)
 
@@ -69,7 +69,7 @@ of_object p n None = neither (is_same_key p.1 n) false refl
 of_object p n (Some d) = of_owners p n (owners d)
 
 -- the links of an object are under its key, and of its owners
-pub has-at : (ls : List Link) (n : Name) (w : Option Data) → map link_of ls ≡ links_at n w → (q : Link) → has_link ls q ≡ (is_same_key (key_of q.key) n && is_some_and (is_owned_by (string_bytes q.uid)) w)
+pub has-at : (ls : List OwnerLink) (n : Name) (w : Option Data) → map link_of ls ≡ links_at n w → (q : OwnerLink) → has_link ls q ≡ (is_same_key (key_of q.key) n && is_some_and (is_owned_by (string_bytes q.uid)) w)
 has-at ls n w is q = seen-has ls q ∙ ap (λ ps. has_pair ps (link_of q)) is ∙ of_object (link_of q) n w
 
 -- ---- one object changes
@@ -108,8 +108,8 @@ at_one : (k n : Name) (ms : Entries) (u : List ℕ) → is_same_key k n ≡ true
 at_one k n ms u is = ap (λ k. is_some_and (is_owned_by u) (found k ms)) (name_tells k n (is-Equal (name_cmp k n) is))
 
 -- the links of an object stand in the place of those that it had: they are those of the members with it
-pub index_changes : (old new more gone : List Link) (ms ns : Entries) (n : Name) (w : Option Data) → IsIndexOf old ms → map link_of more ≡ links_at n w → map link_of gone ≡ links_at n (found n ms)
-    → Relinks new old gone more → ((q : Link) → found (key_of q.key) ns ≡ cond (is_same_key (key_of q.key) n) w (found (key_of q.key) ms)) → IsIndexOf new ns
+pub index_changes : (old new more gone : List OwnerLink) (ms ns : Entries) (n : Name) (w : Option Data) → IsIndexOf old ms → map link_of more ≡ links_at n w → map link_of gone ≡ links_at n (found n ms)
+    → Relinks new old gone more → ((q : OwnerLink) → found (key_of q.key) ns ≡ cond (is_same_key (key_of q.key) n) w (found (key_of q.key) ms)) → IsIndexOf new ns
 index_changes old new more gone ms ns n w indexed mine had changes put =
     record {
       exact = λ q.
@@ -123,7 +123,7 @@ index_changes old new more gone ms ns n w indexed mine had changes put =
     }
 
 -- where an object has the links that it had, nothing changes
-pub index_stays : (old more gone : List Link) (ms : Entries) (n : Name) → IsIndexOf old ms → map link_of gone ≡ links_at n (found n ms) → ((q : Link) → has_link more q ≡ has_link gone q) → Relinks old old gone more
+pub index_stays : (old more gone : List OwnerLink) (ms : Entries) (n : Name) → IsIndexOf old ms → map link_of gone ≡ links_at n (found n ms) → ((q : OwnerLink) → has_link more q ≡ has_link gone q) → Relinks old old gone more
 index_stays old more gone ms n indexed had same =
     record {
       has = λ q.
@@ -147,7 +147,7 @@ key_turned : (k q : Key) → is_eq (key_cmp k q) ≡ is_same_key (key_of q) (key
 key_turned k q = ap is_eq (key_cmp-name_cmp k q ∙ name_total.antisymm (key_of k) (key_of q)) ∙ is_eq-reverse (name_cmp (key_of q) (key_of k))
 
 pub found_removed : (es fs : List (Key × SharedObject)) (k : Key) → ((q : Key) → lookup (is_at (key_cmp q)) fs ≡ cond (is_at (key_cmp k) q) None (lookup (is_at (key_cmp q)) es))
-    → (q : Link) → found (key_of q.key) (members_seen fs) ≡ cond (is_same_key (key_of q.key) (key_of k)) None (found (key_of q.key) (members_seen es))
+    → (q : OwnerLink) → found (key_of q.key) (members_seen fs) ≡ cond (is_same_key (key_of q.key) (key_of k)) None (found (key_of q.key) (members_seen es))
 found_removed es fs k cut q =
     sym (seen-lookup fs q.key) ∙ ap (option_map data_of) (cut q.key)
     ∙ removed_at (is_eq (key_cmp k q.key)) (is_same_key (key_of q.key) (key_of k)) (lookup (is_at (key_cmp q.key)) es) (found (key_of q.key) (members_seen es)) (key_turned k q.key) (seen-lookup es q.key)

@@ -9,23 +9,23 @@ use Rattle.std.proofs.lemmas.Map.{lookup-remove_entry}
 use Rattle.std.proofs.lemmas.Map.Keys.{IsDistinct-from_sorted}
 use Rattle.shared_map.specs.Entries.{put_entry}
 use Rattle.std.specs.BTreeMap.{is_at}
-use Rattle.definitions.specs.Keys.{Key as Name, key_cmp as name_cmp}
-use Rattle.keys.proofs.KeyOrder.{key_cmp-name_cmp}
+use Rattle.spec_api.specs.Keys.{Key as Name, key_cmp as name_cmp}
+use Rattle.object_keys.proofs.KeyOrder.{key_cmp-name_cmp}
 use Rattle.indexer.specs.Links.{link_of, link_cmp, has_link, HasLinks, RemovesLinks, Relinks}
-use Rattle.indexer.specs.contracts.links.LinkPartialEq.TheImpl as link_eq
-use Rattle.indexer.specs.contracts.links.LinkOrd.TheImpl.Laws.{matches_eq-law, total-law}
-use Rattle.indexer.specs.declared.links.Link.{Link}
+use Rattle.indexer.specs.contracts.links.OwnerLinkPartialEq.TheImpl as link_eq
+use Rattle.indexer.specs.contracts.links.OwnerLinkOrd.TheImpl.Laws.{matches_eq-law, total-law}
+use Rattle.indexer.specs.declared.links.OwnerLink.{OwnerLink}
 
 -- ---- the order of links
 
 abbrev pub pair_cmp : List ℕ × Name → List ℕ × Name → Ordering
 pair_cmp p q = ordering_then (slice_cmp nat_cmp p.0 q.0) (name_cmp p.1 q.1)
 
-pub link_cmp-pair : (a b : Link) → link_cmp a b ≡ pair_cmp (link_of a) (link_of b)
+pub link_cmp-pair : (a b : OwnerLink) → link_cmp a b ≡ pair_cmp (link_of a) (link_of b)
 link_cmp-pair a b = search (rules, key_cmp-name_cmp)
 
 -- whether two links are one
-abbrev pub same : Link → Link → Bool
+abbrev pub same : OwnerLink → OwnerLink → Bool
 same a b = is_eq (link_cmp a b)
 
 pub is_eq-reverse : (o : Ordering) → is_eq (ordering_reverse o) ≡ is_eq o
@@ -38,11 +38,11 @@ is-Equal Less e = cc
 is-Equal Equal e = refl
 is-Equal Greater e = cc
 
-pub same_sym : (a b : Link) → same a b ≡ same b a
+pub same_sym : (a b : OwnerLink) → same a b ≡ same b a
 same_sym a b = ap is_eq (total-law.antisymm a b) ∙ is_eq-reverse (link_cmp b a)
 
 -- equal lists have the same links
-pub same_lists : (ls ms : List Link) → true ≡ pointwise (link_eq.ghosts).eq ls ms → (q : Link) → has_link ls q ≡ has_link ms q
+pub same_lists : (ls ms : List OwnerLink) → true ≡ pointwise (link_eq.ghosts).eq ls ms → (q : OwnerLink) → has_link ls q ≡ has_link ms q
 same_lists [] [] is q = refl
 same_lists [] (m ∷ ms) is q = cc
 same_lists (l ∷ ls) [] is q = cc
@@ -55,7 +55,7 @@ same_lists (l ∷ ls) (m ∷ ms) is q = by ((link_eq.ghosts).eq l m) (λ rest. s
         ∙ ap (λ b. same q m || b) (same_rest is)
 
 -- an empty list has no links
-pub no_links : (ls : List Link) → length ls ≡ 0 → (q : Link) → has_link [] q ≡ has_link ls q
+pub no_links : (ls : List OwnerLink) → length ls ≡ 0 → (q : OwnerLink) → has_link [] q ≡ has_link ls q
 no_links [] none q = refl
 no_links (l ∷ ls) none q = absurd (omega (arith, none))
 
@@ -73,11 +73,11 @@ kept false false h e = refl
 kept true false h e = cc
 kept false true h e = cc
 
-same_as : (a b q : Link) → link_cmp a b ≡ Equal → same q a ≡ same q b
+same_as : (a b q : OwnerLink) → link_cmp a b ≡ Equal → same q a ≡ same q b
 same_as a b q is = same_sym q a ∙ ap is_eq (total-law.congr a b q is) ∙ same_sym b q
 
 module _ {V : Type 0} where
-  pub has_put : (es : List (Link × V)) (e : Link × V) (q : Link) → has_link (keys_of (put_entry link_cmp es e)) q ≡ (same q e.0 || has_link (keys_of es) q)
+  pub has_put : (es : List (OwnerLink × V)) (e : OwnerLink × V) (q : OwnerLink) → has_link (keys_of (put_entry link_cmp es e)) q ≡ (same q e.0 || has_link (keys_of es) q)
   has_put [] e q = refl
   has_put (f ∷ fs) e q = by (link_cmp e.0 f.0) refl (has_put fs e q)
     where
@@ -91,7 +91,7 @@ module _ {V : Type 0} where
   is_there (Some v) = true
   is_there None = false
 
-  has_found : (es : List (Link × V)) (q : Link) → has_link (keys_of es) q ≡ is_there (lookup (is_at (link_cmp q)) es)
+  has_found : (es : List (OwnerLink × V)) (q : OwnerLink) → has_link (keys_of es) q ≡ is_there (lookup (is_at (link_cmp q)) es)
   has_found [] q = refl
   has_found (e ∷ es) q = by (same q e.0) (has_found es q)
     where
@@ -105,7 +105,7 @@ module _ {V : Type 0} where
   there_but false o true e = sym e
   there_but false o false e = sym e
 
-  pub has_removed : (l q : Link) (es : List (Link × V)) → IsStrictlySortedBy link_cmp (keys_of es) → has_link (keys_of (remove_entry (is_at (link_cmp l)) es)) q ≡ (has_link (keys_of es) q && not (same l q))
+  pub has_removed : (l q : OwnerLink) (es : List (OwnerLink × V)) → IsStrictlySortedBy link_cmp (keys_of es) → has_link (keys_of (remove_entry (is_at (link_cmp l)) es)) q ≡ (has_link (keys_of es) q && not (same l q))
   has_removed l q es sorted =
       has_found (remove_entry (is_at (link_cmp l)) es) q
       ∙ ap is_there (lookup-remove_entry (eq_by_cmp_equiv total-law) (is_at (link_cmp l)) (λ x y is. ap is_eq (total-law.congr l x y (is-Equal (link_cmp l x) is))) q es (IsDistinct-from_sorted link_cmp (keys_of es) sorted))
@@ -113,14 +113,14 @@ module _ {V : Type 0} where
 
   -- ---- links added
 
-  pub record IsAdding (now first : List (Link × V)) (rest more : List Link) : Type 0 where
-    pub has : (l : Link) → (has_link (keys_of now) l || has_link rest l) ≡ (has_link (keys_of first) l || has_link more l)
+  pub record IsAdding (now first : List (OwnerLink × V)) (rest more : List OwnerLink) : Type 0 where
+    pub has : (l : OwnerLink) → (has_link (keys_of now) l || has_link rest l) ≡ (has_link (keys_of first) l || has_link more l)
 
-  pub adds_one : (old new first : List (Link × V)) (rest before more : List Link) (link : Link) (v : V) → before ≡ link ∷ rest → new ≡ put_entry link_cmp old (link, v)
+  pub adds_one : (old new first : List (OwnerLink × V)) (rest before more : List OwnerLink) (link : OwnerLink) (v : V) → before ≡ link ∷ rest → new ≡ put_entry link_cmp old (link, v)
       → IsAdding old first before more → IsAdding new first rest more
   adds_one old new first rest before more link v goes put a =
       record {
-        has = λ l. ap (λ (es : List (Link × V)). has_link (keys_of es) l || has_link rest l) put ∙ ap (λ b. b || has_link rest l) (has_put old (link, v) l)
+        has = λ l. ap (λ (es : List (OwnerLink × V)). has_link (keys_of es) l || has_link rest l) put ∙ ap (λ b. b || has_link rest l) (has_put old (link, v) l)
             ∙ moved (same l link) (has_link (keys_of old) l) (has_link rest l)
             ∙ ap (λ ls. has_link (keys_of old) l || has_link ls l) (sym goes) ∙ a.has l;
       }
@@ -133,14 +133,14 @@ module _ {V : Type 0} where
 
   -- ---- links removed
 
-  pub record IsRemoving (now first : List (Link × V)) (rest gone : List Link) : Type 0 where
-    pub has : (l : Link) → (has_link (keys_of now) l && not (has_link rest l)) ≡ (has_link (keys_of first) l && not (has_link gone l))
+  pub record IsRemoving (now first : List (OwnerLink × V)) (rest gone : List OwnerLink) : Type 0 where
+    pub has : (l : OwnerLink) → (has_link (keys_of now) l && not (has_link rest l)) ≡ (has_link (keys_of first) l && not (has_link gone l))
 
-  pub removes_one : (old new first : List (Link × V)) (rest before gone : List Link) (link : Link) → before ≡ link ∷ rest → IsStrictlySortedBy link_cmp (keys_of old)
+  pub removes_one : (old new first : List (OwnerLink × V)) (rest before gone : List OwnerLink) (link : OwnerLink) → before ≡ link ∷ rest → IsStrictlySortedBy link_cmp (keys_of old)
       → new ≡ remove_entry (is_at (link_cmp link)) old → IsRemoving old first before gone → IsRemoving new first rest gone
   removes_one old new first rest before gone link goes sorted cut a =
       record {
-        has = λ l. ap (λ (es : List (Link × V)). has_link (keys_of es) l && not (has_link rest l)) cut ∙ ap (λ b. b && not (has_link rest l)) (has_removed link l old sorted)
+        has = λ l. ap (λ (es : List (OwnerLink × V)). has_link (keys_of es) l && not (has_link rest l)) cut ∙ ap (λ b. b && not (has_link rest l)) (has_removed link l old sorted)
             ∙ ap (λ s. (has_link (keys_of old) l && not s) && not (has_link rest l)) (same_sym link l)
             ∙ moved (has_link (keys_of old) l) (same l link) (has_link rest l)
             ∙ ap (λ ls. has_link (keys_of old) l && not (has_link ls l)) (sym goes) ∙ a.has l;
@@ -152,5 +152,5 @@ module _ {V : Type 0} where
       moved false s r = refl
 
 -- what is gone is removed, and then more is added
-pub relinks : (new cut old gone more : List Link) → RemovesLinks cut old gone → HasLinks new cut more → Relinks new old gone more
+pub relinks : (new cut old gone more : List OwnerLink) → RemovesLinks cut old gone → HasLinks new cut more → Relinks new old gone more
 relinks new cut old gone more cuts adds = record { has = λ l. adds.has l ∙ ap (λ b. b || has_link more l) (cuts.has l) }

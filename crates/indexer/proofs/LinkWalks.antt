@@ -12,20 +12,20 @@ use Rattle.std.specs.BTreeMap.{is_at}
 use Rattle.std.specs.BTreeMap.Range.{entries_between, range_contains}
 use Rattle.std.specs.declared.ops.Bound.TheVariants.{Included, Excluded}
 use Rattle.serde_json.specs.Data.{Data}
-use Rattle.definitions.specs.History.{Entries, found}
-use Rattle.definitions.specs.Keys.{Key as Name, key_cmp as name_cmp}
-use Rattle.definitions.specs.SelectorValues.{is_some_and}
-use Rattle.controllers.specs.Informers.{of_owner}
-use Rattle.controllers.specs.OwnerReferences.{is_owned_by}
-use Rattle.controllers.proofs.WorkKeyOrder.{name_tells}
-use Rattle.keys.specs.Keys.{key_of}
-use Rattle.keys.specs.contracts.key.KeyOrd.TheImpl.Laws.{total-law}
-use Rattle.keys.specs.declared.key.Key.{Key}
-use Rattle.keys.proofs.KeyOrder.{key_cmp-name_cmp}
+use Rattle.spec_api.specs.History.{Entries, found}
+use Rattle.spec_api.specs.Keys.{Key as Name, key_cmp as name_cmp}
+use Rattle.spec_api.specs.SelectorValues.{is_some_and}
+use Rattle.spec_client_go.specs.Informers.{of_owner}
+use Rattle.spec_client_go.specs.OwnerReferences.{is_owned_by}
+use Rattle.spec_client_go.proofs.WorkKeyOrder.{name_tells}
+use Rattle.object_keys.specs.Keys.{key_of}
+use Rattle.object_keys.specs.contracts.key.KeyOrd.TheImpl.Laws.{total-law}
+use Rattle.object_keys.specs.declared.key.Key.{Key}
+use Rattle.object_keys.proofs.KeyOrder.{key_cmp-name_cmp}
 use Rattle.reflector.specs.declared.shared_objects.SharedObject.{SharedObject}
 use Rattle.indexer.specs.Links.{link_of, link_cmp, has_link, IsIndexOf}
 use Rattle.reflector.specs.Seen.{members_seen}
-use Rattle.indexer.specs.declared.links.Link.{Link}
+use Rattle.indexer.specs.declared.links.OwnerLink.{OwnerLink}
 use Rattle.indexer.proofs.LinkSets.{link_cmp-pair, is-Equal}
 use Rattle.indexer.proofs.LinkIndex.{is_pair}
 use Rattle.reflector.proofs.SeenMaps.{key_cmp, data_of}
@@ -34,18 +34,18 @@ use Rattle.indexer.proofs.Walks.{picked, passing, walked}
 use Rattle.std.proofs.lemmas.Map.Text.{is_eq-slice_cmp}
 
 -- the links to a uid
-abbrev pub to_uid : List ℕ → List Link → List Link
-to_uid u ls = filter (λ (l : Link). bytes_eq u (string_bytes l.uid)) ls
+abbrev pub to_uid : List ℕ → List OwnerLink → List OwnerLink
+to_uid u ls = filter (λ (l : OwnerLink). bytes_eq u (string_bytes l.uid)) ls
 
-abbrev keys_in : List Link → List Key
-keys_in ls = map (λ (l : Link). l.key) ls
+abbrev keys_in : List OwnerLink → List Key
+keys_in ls = map (λ (l : OwnerLink). l.key) ls
 
 abbrev shown : Key → SharedObject → Name × Data
 shown k o = (key_of k, o.value)
 
 -- what is found under the keys of links
-abbrev pub looked : List (Key × SharedObject) → List Link → Entries
-looked es ls = filter_map (λ (l : Link). option_map (shown l.key) (lookup (is_at (key_cmp l.key)) es)) ls
+abbrev pub looked : List (Key × SharedObject) → List OwnerLink → Entries
+looked es ls = filter_map (λ (l : OwnerLink). option_map (shown l.key) (lookup (is_at (key_cmp l.key)) es)) ls
 
 abbrev owned : List ℕ → SharedObject → Bool
 owned u o = is_owned_by u o.value
@@ -53,7 +53,7 @@ owned u o = is_owned_by u o.value
 alike : (a b : Key) (o : SharedObject) → key_cmp a b ≡ Equal → shown a o ≡ shown b o
 alike a b o is = ap (λ n. (n, o.value)) (name_tells (key_of a) (key_of b) (sym (key_cmp-name_cmp a b) ∙ is))
 
-looked-picked : (u : List ℕ) (es : List (Key × SharedObject)) (ls : List Link) → looked es ls ≡ picked total-law (owned u) shown alike es (keys_in ls)
+looked-picked : (u : List ℕ) (es : List (Key × SharedObject)) (ls : List OwnerLink) → looked es ls ≡ picked total-law (owned u) shown alike es (keys_in ls)
 looked-picked u es [] = refl
 looked-picked u es (l ∷ ls) = ap (λ ms. cons_option (option_map (shown l.key) (lookup (is_at (key_cmp l.key)) es)) ms) (looked-picked u es ls)
 
@@ -68,10 +68,10 @@ passing-owned u (e ∷ es) = by (owned u e.1) (passing-owned u es)
     by false rest = rest
 
 -- nothing is left to be looked up
-pub looked_all : {V : Type 0} (es : List (Key × SharedObject)) (ms : Entries) (rest whole items : List (Bor (Link × V))) → length rest ≡ 0 → whole ≡ items
-    → ms ++ looked es (keys_of (map (λ (e : Bor (Link × V)). e.now) rest)) ≡ looked es (keys_of (map (λ (e : Bor (Link × V)). e.now) whole))
-    → ms ≡ looked es (keys_of (map (λ (e : Bor (Link × V)). e.now) items))
-looked_all {V} es ms [] whole items none same all = sym (append-nil ms) ∙ all ∙ ap (λ (l : List (Bor (Link × V))). looked es (keys_of (map (λ (e : Bor (Link × V)). e.now) l))) same
+pub looked_all : {V : Type 0} (es : List (Key × SharedObject)) (ms : Entries) (rest whole items : List (Bor (OwnerLink × V))) → length rest ≡ 0 → whole ≡ items
+    → ms ++ looked es (keys_of (map (λ (e : Bor (OwnerLink × V)). e.now) rest)) ≡ looked es (keys_of (map (λ (e : Bor (OwnerLink × V)). e.now) whole))
+    → ms ≡ looked es (keys_of (map (λ (e : Bor (OwnerLink × V)). e.now) items))
+looked_all {V} es ms [] whole items none same all = sym (append-nil ms) ∙ all ∙ ap (λ (l : List (Bor (OwnerLink × V))). looked es (keys_of (map (λ (e : Bor (OwnerLink × V)). e.now) l))) same
 looked_all es ms (e ∷ rest) whole items none same all = absurd (omega (arith, none))
 
 -- ---- the links to a uid are in the order of their keys
@@ -83,7 +83,7 @@ key_less : (a b : Key) (u v w : List ℕ) → bytes_eq u v ≡ true → bytes_eq
 key_less a b u v w at also is =
     key_cmp-name_cmp a b ∙ ap (λ r. ordering_then r (name_cmp (key_of a) (key_of b))) (sym (is-Equal (slice_cmp nat_cmp v w) (is_eq-slice_cmp v w ∙ ap (λ v. bytes_eq v w) (sym (same_text u v at)) ∙ also))) ∙ is
 
-below_kept : (u : List ℕ) (k : Link) (ls : List Link) → bytes_eq u (string_bytes k.uid) ≡ true → AllByRecursion (λ (l : Link). link_cmp k l ≡ Less) ls → AllByRecursion (λ (l : Key). key_cmp k.key l ≡ Less) (keys_in (to_uid u ls))
+below_kept : (u : List ℕ) (k : OwnerLink) (ls : List OwnerLink) → bytes_eq u (string_bytes k.uid) ≡ true → AllByRecursion (λ (l : OwnerLink). link_cmp k l ≡ Less) ls → AllByRecursion (λ (l : Key). key_cmp k.key l ≡ Less) (keys_in (to_uid u ls))
 below_kept u k [] at below = tt
 below_kept u k (l ∷ ls) at below = by (bytes_eq u (string_bytes l.uid)) refl (below_kept u k ls at below.1)
   where
@@ -91,7 +91,7 @@ below_kept u k (l ∷ ls) at below = by (bytes_eq u (string_bytes l.uid)) refl (
     by true is rest = (key_less k.key l.key u (string_bytes k.uid) (string_bytes l.uid) at is (sym (link_cmp-pair k l) ∙ below.0), rest)
     by false is rest = rest
 
-keys_in_order : (u : List ℕ) (ls : List Link) → IsStrictlySortedBy link_cmp ls → IsStrictlySortedBy key_cmp (keys_in (to_uid u ls))
+keys_in_order : (u : List ℕ) (ls : List OwnerLink) → IsStrictlySortedBy link_cmp ls → IsStrictlySortedBy key_cmp (keys_in (to_uid u ls))
 unfolding IsStrictlySortedBy
 keys_in_order u [] sorted = tt
 keys_in_order u (l ∷ ls) sorted = by (bytes_eq u (string_bytes l.uid)) refl (keys_in_order u ls sorted.1)
@@ -102,7 +102,7 @@ keys_in_order u (l ∷ ls) sorted = by (bytes_eq u (string_bytes l.uid)) refl (k
 
 -- ---- they are of just the objects with the owner
 
-has_kept : (u : List ℕ) (q : Link) → string_bytes q.uid ≡ u → (ls : List Link) → list_any (is_at (key_cmp q.key)) (keys_in (to_uid u ls)) ≡ has_link ls q
+has_kept : (u : List ℕ) (q : OwnerLink) → string_bytes q.uid ≡ u → (ls : List OwnerLink) → list_any (is_at (key_cmp q.key)) (keys_in (to_uid u ls)) ≡ has_link ls q
 has_kept u q is [] = refl
 has_kept u q is (l ∷ ls) =
     by (bytes_eq u (string_bytes l.uid)) (is_eq (key_cmp q.key l.key)) (has_kept u q is ls)
@@ -127,17 +127,17 @@ owned_at u None = refl
 owned_at u (Some o) = refl
 
 -- the links to a uid lead to the objects with the owner, in order
-pub links_lead : (first : Link) (u : List ℕ) → string_bytes first.uid ≡ u → (es : List (Key × SharedObject)) (ls : List Link) → IsStrictlySortedBy key_cmp (keys_of es) → IsStrictlySortedBy link_cmp ls
+pub links_lead : (first : OwnerLink) (u : List ℕ) → string_bytes first.uid ≡ u → (es : List (Key × SharedObject)) (ls : List OwnerLink) → IsStrictlySortedBy key_cmp (keys_of es) → IsStrictlySortedBy link_cmp ls
     → IsIndexOf ls (members_seen es) → looked es (to_uid u ls) ≡ of_owner u (members_seen es)
 links_lead first u named es ls in_order sorted indexed =
     looked-picked u es (to_uid u ls)
     ∙ walked total-law (owned u) shown alike es (keys_in (to_uid u ls)) in_order (keys_in_order u ls sorted)
-    (λ k. let q : Link = record { uid = first.uid; key = k } in
+    (λ k. let q : OwnerLink = record { uid = first.uid; key = k } in
     has_kept u q named ls ∙ indexed.exact q ∙ ap (λ u. is_some_and (is_owned_by u) (found (key_of k) (members_seen es))) named ∙ ap (is_some_and (is_owned_by u)) (sym (seen-lookup es k)) ∙ owned_at u (lookup (is_at (key_cmp k)) es))
     ∙ passing-owned u es
 
 -- the links of the entries between two keys
-pub keys_in_span : {V : Type 0} (u : List ℕ) (first past : Link) → ((q : Link) → range_contains link_cmp (Included first) (Excluded past) q ≡ bytes_eq u (string_bytes q.uid)) → (es : List (Link × V))
+pub keys_in_span : {V : Type 0} (u : List ℕ) (first past : OwnerLink) → ((q : OwnerLink) → range_contains link_cmp (Included first) (Excluded past) q ≡ bytes_eq u (string_bytes q.uid)) → (es : List (OwnerLink × V))
     → keys_of (entries_between link_cmp (Included first) (Excluded past) es) ≡ to_uid u (keys_of es)
 keys_in_span u first past spans [] = refl
 keys_in_span {V} u first past spans (e ∷ es) =

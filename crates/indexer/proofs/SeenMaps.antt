@@ -7,14 +7,14 @@ use Rattle.std.specs.List.Sorted.{IsStrictlySortedBy}
 use Rattle.std.proofs.lemmas.Cmp.{eq_by_cmp_equiv}
 use Rattle.std.proofs.lemmas.Map.{lookup-remove_entry}
 use Rattle.std.proofs.lemmas.Map.Keys.{IsDistinct-from_sorted}
-use Rattle.keys.specs.contracts.key.KeyOrd.TheImpl.Laws.{total-law}
+use Rattle.object_keys.specs.contracts.key.KeyOrd.TheImpl.Laws.{total-law}
 use Rattle.std.specs.BTreeMap.{is_at}
-use Rattle.keys.specs.Keys.{key_of}
-use Rattle.keys.specs.declared.key.Key.{Key}
-use Rattle.keys.proofs.KeyOrder.{key_cmp-name_cmp}
-use Rattle.keys.proofs.MapViews.{option_map-lookup}
-use Rattle.definitions.specs.History.{found}
-use Rattle.definitions.specs.Keys.{key_cmp as name_cmp}
+use Rattle.object_keys.specs.Keys.{key_of}
+use Rattle.object_keys.specs.declared.key.Key.{Key}
+use Rattle.object_keys.proofs.KeyOrder.{key_cmp-name_cmp}
+use Rattle.object_keys.proofs.MapViews.{option_map-lookup}
+use Rattle.spec_api.specs.History.{found}
+use Rattle.spec_api.specs.Keys.{key_cmp as name_cmp}
 use Rattle.reflector.proofs.SeenMaps.{key_cmp, data_of}
 use Rattle.reflector.specs.Seen.{members_seen}
 use Rattle.reflector.specs.declared.shared_objects.SharedObject.{SharedObject}

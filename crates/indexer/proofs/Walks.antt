@@ -7,7 +7,7 @@ use Rattle.std.specs.List.Sorted.{IsStrictlySortedBy}
 use Rattle.std.specs.Map.{keys_of, lookup}
 use Rattle.std.specs.Ordering.{ordering_reverse}
 use Rattle.std.specs.BTreeMap.{is_at}
-use Rattle.definitions.specs.SelectorValues.{is_some_and}
+use Rattle.spec_api.specs.SelectorValues.{is_some_and}
 
 module _ {K X Y : Type 0} {R : K → K → Ordering} (o : IsTotalOrder R) (p : X → Bool) (g : K → X → Y) (alike : (a b : K) (x : X) → R a b ≡ Equal → g a x ≡ g b x) where
   -- a key below all of these

@@ -2,9 +2,9 @@
 use Rattle.std.specs.Prelude.{ℕ, ◌&&◌, List, filter}
 use Rattle.std.specs.Str.{bytes_eq}
 use Rattle.std.specs.Ordering.{nat_cmp, is_eq}
-use Rattle.definitions.specs.Kinds.{rank}
-use Rattle.definitions.specs.declared.kinds.Kind.{Kind}
-use Rattle.definitions.specs.History.{Entries}
+use Rattle.spec_api.specs.Kinds.{rank}
+use Rattle.spec_api.specs.declared.kinds.Kind.{Kind}
+use Rattle.spec_api.specs.History.{Entries}
 
 -- those of a kind in a namespace
 abbrev pub of_kind : Kind → List ℕ → Entries → Entries

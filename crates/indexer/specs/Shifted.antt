@@ -1,7 +1,7 @@
 -- What a shift says.
 use Rattle.std.specs.Prelude.{option_map}
-use Rattle.controllers.specs.Shifts as words
-use Rattle.keys.specs.Keys.{key_of}
+use Rattle.spec_client_go.specs.Shifts as words
+use Rattle.object_keys.specs.Keys.{key_of}
 use Rattle.indexer.specs.declared.shifts.Shift.{Shift}
 
 abbrev pub shift_of : Shift → words.Shift

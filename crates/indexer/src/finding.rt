@@ -1,20 +1,20 @@
 //! Objects that are found by a namespace or by an owner.
 ghost use Rattle.std.specs.Prelude.{◌≡◌, ◌++◌, ◌∷◌, [], IfOk, OnOk, map, string_bytes};
 ghost use Rattle.std.specs.Map.{keys_of};
-ghost use Rattle.keys.specs.Keys.{key_of};
-ghost use Rattle.controllers.specs.Informers.{of_namespace, of_owner};
-ghost use Rattle.turns.specs.Entries.{entry_of};
+ghost use Rattle.object_keys.specs.Keys.{key_of};
+ghost use Rattle.spec_client_go.specs.Informers.{of_namespace, of_owner};
+ghost use Rattle.reconcile_types.specs.Entries.{entry_of};
 ghost use Rattle.indexer.specs.Links.{link_of, first_name, first_link, IsIndexOf};
 ghost use Rattle.reflector.specs.Seen.{members_seen};
 ghost use Rattle.indexer.specs.Seen.{of_kind};
 
-use crate::links::Link;
-use definitions::kinds::Kind;
-use keys::Key;
+use crate::links::OwnerLink;
+use object_keys::Key;
+use reconcile_types::Entry;
 use reflector::SharedObject;
 use shared_map::SharedMap;
+use spec_api::kinds::Kind;
 use std::alloc::{AllocError, Global};
-use turns::Entry;
 
 /// Returns the first key of a kind in a namespace.
 fn first_key(alloc: Global, kind: Kind, namespace: String) -> Key
@@ -28,10 +28,10 @@ fn first_key(alloc: Global, kind: Kind, namespace: String) -> Key
 }
 
 /// Returns the first link to a uid.
-fn first_link(alloc: Global, uid: String) -> Link
+fn first_link(alloc: Global, uid: String) -> OwnerLink
     ensures { link_of result ≡ first_link (string_bytes uid) }
 {
-    Link {
+    OwnerLink {
         uid,
         key: first_key(alloc, Kind::ConfigMap, String::new(alloc)),
     }
@@ -50,7 +50,7 @@ fn text_after(alloc: Global, text: &str) -> Result<String, AllocError>
 pub fn by_owner<'a>(
     alloc: Global,
     objects: &'a SharedMap<Key, SharedObject>,
-    links: &'a SharedMap<Link, ()>,
+    links: &'a SharedMap<OwnerLink, ()>,
     uid: &str,
 ) -> Result<Vec<Entry<'a>>, AllocError>
     requires indexed { IsIndexOf (keys_of links.now) (members_seen objects.now) }

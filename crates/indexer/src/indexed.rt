@@ -1,13 +1,13 @@
 //! An indexed copy.
 use crate::objects::ObjectMap;
 use crate::shifts::{Shift, shifts_between, shifts_of};
-use keys::Key;
 use meta::Object;
+use object_keys::Key;
+use reconcile_types::Entry;
 use reflector::Delta;
 use reflector::identities::revision_of;
 use std::alloc::{AllocError, Global};
 use std::marker::Model;
-use turns::Entry;
 
 /// The objects that deltas made to be there, in the order of their keys, with the revision that the last delta named.
 /// It is seen as a snapshot.
@@ -19,8 +19,8 @@ pub struct Indexed {
 }
 
 impl Model for Indexed {
-    ghost use Rattle.server_state.specs.Snapshots.{Snapshot};
-    ghost use Rattle.server_state.specs.Codes.{coded_snapshot};
+    ghost use Rattle.spec_server.specs.Snapshots.{Snapshot};
+    ghost use Rattle.spec_server.specs.Codes.{coded_snapshot};
 
     ghost Value = { Snapshot };
 
@@ -33,13 +33,13 @@ impl Indexed {
     ghost use Rattle.std.specs.Prelude.{◌≡◌, IfOk, OnOk, OnErr, length, map, option_map};
     ghost use Rattle.std.specs.List.Sorted.{IsStrictlySortedBy};
     ghost use Rattle.std.specs.Map.{keys_of};
-    ghost use Rattle.keys.specs.Keys.{key_of};
-    ghost use Rattle.definitions.specs.History.{found};
-    ghost use Rattle.definitions.specs.Keys.{key_cmp};
+    ghost use Rattle.object_keys.specs.Keys.{key_of};
+    ghost use Rattle.spec_api.specs.History.{found};
+    ghost use Rattle.spec_api.specs.Keys.{key_cmp};
     ghost use Rattle.reflector.specs.Deltas.{delta_of};
-    ghost use Rattle.controllers.specs.Informers.{nothing, of_namespace, of_owner, applied};
-    ghost use Rattle.controllers.specs.Shifts.{shifts_of};
-    ghost use Rattle.turns.specs.Entries.{entry_of};
+    ghost use Rattle.spec_client_go.specs.Informers.{nothing, of_namespace, of_owner, applied};
+    ghost use Rattle.spec_client_go.specs.Shifts.{shifts_of};
+    ghost use Rattle.reconcile_types.specs.Entries.{entry_of};
     ghost use Rattle.indexer.specs.Shifted.{shift_of};
 
     /// Returns the copy before the first list: nothing is there, at revision 0.

@@ -1,27 +1,27 @@
 //! Maps of objects, with an index by owner.
 use crate::finding;
-use crate::links::Link;
+use crate::links::OwnerLink;
 use crate::putting::{lay_over, put_made, put_under, remove_under};
-use keys::Key;
+use object_keys::Key;
+use reconcile_types::Entry;
 use reflector::SharedObject;
 use reflector::identities::key_of;
 use shared_map::SharedMap;
 use std::alloc::{AllocError, Global};
 use std::marker::Model;
-use turns::Entry;
 
 /// The objects that are there, in the order of their keys, with an index of those that name an owner. It is seen as members.
 #[derive(Drop)]
 pub struct ObjectMap {
     objects: SharedMap<Key, SharedObject>,
-    links: SharedMap<Link, ()>,
+    links: SharedMap<OwnerLink, ()>,
     alloc: Global,
 }
 
 impl Model for ObjectMap {
-    ghost use Rattle.definitions.specs.History.{Entries};
+    ghost use Rattle.spec_api.specs.History.{Entries};
     ghost use Rattle.std.specs.Map.{keys_of};
-    ghost use Rattle.server_state.specs.Codes.{coded_members};
+    ghost use Rattle.spec_server.specs.Codes.{coded_members};
     ghost use Rattle.indexer.specs.Links.{IsIndexOf};
     ghost use Rattle.reflector.specs.Seen.{members_seen};
 
@@ -38,14 +38,14 @@ impl ObjectMap {
     ghost use Rattle.std.specs.Prelude.{◌≡◌, [], IfOk, OnOk, OnErr, None, length, map, option_map};
     ghost use Rattle.std.specs.List.Sorted.{IsStrictlySortedBy};
     ghost use Rattle.std.specs.Map.{keys_of};
-    ghost use Rattle.definitions.specs.Keys.{key_cmp};
-    ghost use Rattle.controllers.specs.Informers.{of_namespace, of_owner};
-    ghost use Rattle.controllers.specs.Shifts.{overlaid};
+    ghost use Rattle.spec_api.specs.Keys.{key_cmp};
+    ghost use Rattle.spec_client_go.specs.Informers.{of_namespace, of_owner};
+    ghost use Rattle.spec_client_go.specs.Shifts.{overlaid};
     ghost use Rattle.reflector.specs.Seen.{members_seen};
-    ghost use Rattle.turns.specs.Entries.{entry_of};
-    ghost use Rattle.keys.specs.Keys.{key_of};
-    ghost use Rattle.definitions.specs.History.{found, put_or_remove};
-    ghost use Rattle.controllers.specs.Reflectors.{put_in, put_all};
+    ghost use Rattle.reconcile_types.specs.Entries.{entry_of};
+    ghost use Rattle.object_keys.specs.Keys.{key_of};
+    ghost use Rattle.spec_api.specs.History.{found, put_or_remove};
+    ghost use Rattle.spec_client_go.specs.Reflectors.{put_in, put_all};
 
     /// Returns a map without objects.
     pub fn new(alloc: Global) -> ObjectMap

@@ -1,16 +1,16 @@
 //! Objects that are put and removed, with their links.
 ghost use Rattle.std.specs.Prelude.{◌≡◌, IfOk, OnOk, OnErr, None, map};
-ghost use Rattle.keys.specs.Keys.{key_of};
-ghost use Rattle.definitions.specs.History.{found, put_or_remove};
-ghost use Rattle.definitions.specs.Keys.{key_cmp};
-ghost use Rattle.controllers.specs.Shifts.{overlaid};
+ghost use Rattle.object_keys.specs.Keys.{key_of};
+ghost use Rattle.spec_api.specs.History.{found, put_or_remove};
+ghost use Rattle.spec_api.specs.Keys.{key_cmp};
+ghost use Rattle.spec_client_go.specs.Shifts.{overlaid};
 ghost use Rattle.std.specs.BTreeMap.{insert_entry};
 ghost use Rattle.std.specs.Map.{keys_of};
 ghost use Rattle.indexer.specs.Links.{link_of, links_at, IsIndexOf};
 ghost use Rattle.reflector.specs.Seen.{members_seen};
 
-use crate::links::{Link, links_of, relink, relinked};
-use keys::Key;
+use crate::links::{OwnerLink, links_of, relink, relinked};
+use object_keys::Key;
 use reflector::SharedObject;
 use shared_map::SharedMap;
 use std::alloc::{AllocError, Global};
@@ -20,7 +20,7 @@ fn links_under(
     alloc: Global,
     objects: &SharedMap<Key, SharedObject>,
     key: &Key,
-) -> Result<Vec<Link>, AllocError>
+) -> Result<Vec<OwnerLink>, AllocError>
     ensures { IfOk result (λ v. map link_of v.items ≡ links_at (key_of key.now) (found (key_of key.now) (members_seen objects.now))) }
 {
     match objects.get(key) {
@@ -48,7 +48,7 @@ fn put_object(
 pub fn put_made(
     alloc: Global,
     objects: &mut SharedMap<Key, SharedObject>,
-    links: &mut SharedMap<Link, ()>,
+    links: &mut SharedMap<OwnerLink, ()>,
     key: Key,
     object: &SharedObject,
 ) -> Result<(), AllocError>
@@ -69,7 +69,7 @@ pub fn put_made(
 pub fn put_under(
     alloc: Global,
     objects: &mut SharedMap<Key, SharedObject>,
-    links: &mut SharedMap<Link, ()>,
+    links: &mut SharedMap<OwnerLink, ()>,
     key: Key,
     object: &SharedObject,
 ) -> Result<(), AllocError>
@@ -95,7 +95,7 @@ pub fn put_under(
 pub fn remove_under(
     alloc: Global,
     objects: &mut SharedMap<Key, SharedObject>,
-    links: &mut SharedMap<Link, ()>,
+    links: &mut SharedMap<OwnerLink, ()>,
     key: &Key,
 ) -> Result<(), AllocError>
     requires indexed { IsIndexOf (keys_of links.old) (members_seen objects.old) }

@@ -1,10 +1,10 @@
 //! An indexed copy is looked at.
 
 use crate::indexed::Indexed;
-use keys::Key;
 use meta::Object;
+use object_keys::Key;
+use reconcile_types::{Entry, Seen};
 use std::alloc::{AllocError, Global};
-use turns::{Entry, Seen};
 
 impl Seen for Indexed {
     ghost snapshot = { λ i. i };

@@ -1,15 +1,15 @@
 //! What a delta changes, object by object.
 ghost use Rattle.std.specs.Prelude.{◌≡◌, IfOk, [], ◌∷◌, Some, map, option_map};
-ghost use Rattle.definitions.specs.History.{found};
-ghost use Rattle.controllers.specs.Reflectors.{name_in};
-ghost use Rattle.keys.specs.Keys.{key_of};
-ghost use Rattle.controllers.specs.Shifts.{differ, shift_at, shifts_between, shift_to, removal, shifts_of};
+ghost use Rattle.spec_api.specs.History.{found};
+ghost use Rattle.spec_client_go.specs.Reflectors.{name_in};
+ghost use Rattle.object_keys.specs.Keys.{key_of};
+ghost use Rattle.spec_client_go.specs.Shifts.{differ, shift_at, shifts_between, shift_to, removal, shifts_of};
 ghost use Rattle.reflector.specs.Deltas.{delta_of};
 ghost use Rattle.indexer.specs.Shifted.{shift_of};
 
 use crate::objects::ObjectMap;
-use keys::Key;
 use meta::Object;
+use object_keys::Key;
 use reflector::identities::key_of;
 use reflector::{Delta, SharedObject};
 use std::alloc::{AllocError, Global};

@@ -8,16 +8,16 @@ use lib.ListN.{get_elem?}
 use Rattle.std.specs.declared.sync.Arc.{Arc}
 use Rattle.crossbeam_utils.specs.Register.{Admits, TurnsAt, Turns, Forks, Merges}
 use Rattle.atomic_table.proofs.Lists.{at_set, at_snoc}
-use Rattle.server_state.specs.Snapshots.{Snapshot}
-use Rattle.controllers.specs.Informers.{nothing, applied, all_applied}
-use Rattle.controllers.specs.Reflectors as words
+use Rattle.spec_server.specs.Snapshots.{Snapshot}
+use Rattle.spec_client_go.specs.Informers.{nothing, applied, all_applied}
+use Rattle.spec_client_go.specs.Reflectors as words
 use Rattle.reflector.specs.Deltas.{delta_of, deltas_of}
 use Rattle.reflector.specs.declared.deltas.Delta.{Delta}
-use Rattle.listers.specs.declared.published.Published.{Published}
-use Rattle.listers.specs.declared.views.View.{View}
-use Rattle.listers.specs.Published.{with_shared, all_of, with_batch, IsAfter}
-use Rattle.listers.specs.SharedDeltas.{all_in}
-use Rattle.listers.specs.Knowing.{StartsWith, StartsWithAll, knowing_nothing, knowing, knowing_both, first_of, latest, IsKept, HasSeen}
+use Rattle.informer.specs.declared.published.Published.{Published}
+use Rattle.informer.specs.declared.views.MapView.{MapView}
+use Rattle.informer.specs.Published.{with_shared, all_of, with_batch, IsAfter}
+use Rattle.informer.specs.SharedDeltas.{all_in}
+use Rattle.informer.specs.Knowing.{StartsWith, StartsWithAll, knowing_nothing, knowing, knowing_both, first_of, latest, IsKept, HasSeen}
 
 -- ---- batches
 
@@ -96,7 +96,7 @@ one_known : (ds : Batches) → StartsWithAll ds (knowing ds)
 one_known ds zero d h = ([], sym (append-nil ds))
 one_known ds (suc k) d h = absurd (omega arith)
 
-still_known : (ds more : Batches) (v : View) → StartsWithAll ds v → StartsWithAll (ds ++ more) v
+still_known : (ds more : Batches) (v : MapView) → StartsWithAll ds v → StartsWithAll (ds ++ more) v
 still_known ds more v all k d h =
     let s = all k d h in (s.0 ++ more, ap (λ z. z ++ more) s.1 ∙ append_assoc (slice_index_or v.known k d) s.0 more)
 
@@ -113,13 +113,13 @@ whole ds front (b ∷ rest) full is same = absurd
 
 -- ---- the rule
 
-abbrev Each : Batches → List View → Type 0
-Each ds views = (seat : ℕ) (v : View) → get_elem? views seat ≡ some v → StartsWithAll ds v
+abbrev Each : Batches → List MapView → Type 0
+Each ds views = (seat : ℕ) (v : MapView) → get_elem? views seat ≡ some v → StartsWithAll ds v
 
-each_set : (ds : Batches) (views : List View) (seat : ℕ) (w : View) → Each ds views → StartsWithAll ds w → Each ds (set views seat w)
+each_set : (ds : Batches) (views : List MapView) (seat : ℕ) (w : MapView) → Each ds views → StartsWithAll ds w → Each ds (set views seat w)
 each_set ds views seat w each at_w j u e = ⊎_elim (λ (t : (j ≡ seat) × (w ≡ u)). subst (StartsWithAll ds) t.1 at_w) (λ (t : (j ≢ seat) × (get_elem? views j ≡ some u)). each j u t.1) (at_set views seat j w u e)
 
-each_more : (ds : Batches) (views : List View) (w : View) → Each ds views → StartsWithAll ds w → Each ds (views ++ w ∷ [])
+each_more : (ds : Batches) (views : List MapView) (w : MapView) → Each ds views → StartsWithAll ds w → Each ds (views ++ w ∷ [])
 each_more ds views w each at_w j u e = ⊎_elim (each j u) (λ (is : w ≡ u). subst (StartsWithAll ds) is at_w) (at_snoc views w u j e)
 
 pub opens : (p : Published) → IsAfter [] p → IsKept p (knowing_nothing ∷ [])
@@ -128,10 +128,10 @@ opens p after = ([], after, each_more [] [] knowing_nothing (λ seat v at. absur
 pub admits : Admits IsKept knowing_nothing
 admits p views k = (k.0, k.1, each_more k.0 views knowing_nothing k.2 (none_known k.0))
 
-pub sees : (seat : ℕ) (v : View) → Turns IsKept seat v (λ p. p) (λ v x y w. HasSeen v y w)
+pub sees : (seat : ℕ) (v : MapView) → Turns IsKept seat v (λ p. p) (λ v x y w. HasSeen v y w)
 sees seat v p views k at = (knowing k.0, (k.0, k.1, each_set k.0 views seat (knowing k.0) k.2 (one_known k.0)), (k.0, refl, k.1, k.2 seat v at))
 
-pub publishes : {A : Type 0} (seat : ℕ) (v : View) (p next : Published) (ps : List (Arc Delta A)) (ms : List Delta) → Says ps ms → 0 < length ms → IsAfter (latest v) p → next ≡ fold with_shared p ps → TurnsAt IsKept seat v p next (λ v x y w. w ≡ knowing (latest v ++ ms ∷ []))
+pub publishes : {A : Type 0} (seat : ℕ) (v : MapView) (p next : Published) (ps : List (Arc Delta A)) (ms : List Delta) → Says ps ms → 0 < length ms → IsAfter (latest v) p → next ≡ fold with_shared p ps → TurnsAt IsKept seat v p next (λ v x y w. w ≡ knowing (latest v ++ ms ∷ []))
 publishes seat v p next ps ms says filled mine is views k at =
     let front = first_known k.0 v.known (k.2 seat v at) in
     let same : k.0 ≡ latest v = whole k.0 (latest v) front.0 k.1.2 front.1 (sym k.1.1 ∙ mine.1) in
@@ -146,10 +146,10 @@ publishes seat v p next ps ms says filled mine is views k at =
       refl,
     )
 
-pub forks : (seat : ℕ) (v : View) → Forks IsKept seat v v v
+pub forks : (seat : ℕ) (v : MapView) → Forks IsKept seat v v v
 forks seat v p views k at = (k.0, k.1, each_more k.0 (set views seat v) v (each_set k.0 views seat v k.2 (k.2 seat v at)) (k.2 seat v at))
 
-pub merges : (seat : ℕ) (v : View) (other : ℕ) (w : View) → Merges IsKept seat v other w (knowing_both w v) knowing_nothing
+pub merges : (seat : ℕ) (v : MapView) (other : ℕ) (w : MapView) → Merges IsKept seat v other w (knowing_both w v) knowing_nothing
 merges seat v other w p views k at apart there =
     let ds = k.0 in
     let told : StartsWithAll ds w = ⊎_elim (λ (t : (other ≡ seat) × (knowing_both w v ≡ w)). absurd (apart t.0)) (λ (t : (other ≢ seat) × (get_elem? views other ≡ some w)). k.2 other w t.1) (at_set views seat other (knowing_both w v) w there) in

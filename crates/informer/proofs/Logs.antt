@@ -7,8 +7,8 @@ use Rattle.std.specs.Arc.{arc_value}
 use Rattle.std.specs.declared.sync.Arc.{Arc}
 use Rattle.reflector.specs.Deltas.{delta_of, deltas_of}
 use Rattle.reflector.specs.declared.deltas.Delta.{Delta}
-use Rattle.listers.specs.SharedDeltas.{all_in}
-use Rattle.listers.proofs.Keeps.{Says, deltas_both}
+use Rattle.informer.specs.SharedDeltas.{all_in}
+use Rattle.informer.proofs.Keeps.{Says, deltas_both}
 
 module _ {A : Type 0} where
   next_of : (ws : List (Arc Delta A)) (n : ℕ) (a b : Arc Delta A) → n < length (all_in ws) → b ≡ get_or ws n b → arc_value a ≡ arc_value b → take n (all_in ws) ++ arc_value a ∷ [] ≡ take (n + 1) (all_in ws)

@@ -1,14 +1,14 @@
 -- The two copies of a map.
 use Rattle.std.specs.Prelude.{◌≡◌, List, []}
-use Rattle.server_state.specs.Snapshots.{Snapshot}
+use Rattle.spec_server.specs.Snapshots.{Snapshot}
 use Rattle.left_right.specs.Sides.{view}
-use Rattle.controllers.specs.Informers.{all_applied}
+use Rattle.spec_client_go.specs.Informers.{all_applied}
 use Rattle.reflector.specs.Deltas.{deltas_of}
 use Rattle.reflector.specs.declared.deltas.Delta.{Delta}
-use Rattle.listers.specs.Knowing.{latest}
-use Rattle.listers.specs.Published.{with_batch}
-use Rattle.listers.specs.SharedDeltas.{all_in}
-use Rattle.listers.specs.declared.copies.Copies.{Copies}
+use Rattle.informer.specs.Knowing.{latest}
+use Rattle.informer.specs.Published.{with_batch}
+use Rattle.informer.specs.SharedDeltas.{all_in}
+use Rattle.informer.specs.declared.copies.Copies.{Copies}
 
 -- the map that readers see
 abbrev pub shown : Copies → Snapshot

@@ -1,11 +1,11 @@
 -- An informer, and the deltas that made what it has published.
 use Rattle.std.specs.Prelude.{◌≡◌, List}
-use Rattle.controllers.specs.Informers as informers
+use Rattle.spec_client_go.specs.Informers as informers
 use Rattle.reflector.specs.Deltas.{deltas_of}
 use Rattle.reflector.specs.declared.deltas.Delta.{Delta}
-use Rattle.listers.specs.Copies.{shown, batches_shown, deltas_waiting}
-use Rattle.listers.specs.Published.{all_of}
-use Rattle.listers.specs.declared.informers.Informer.{Informer}
+use Rattle.informer.specs.Copies.{shown, batches_shown, deltas_waiting}
+use Rattle.informer.specs.Published.{all_of}
+use Rattle.informer.specs.declared.informers.Informer.{Informer}
 
 -- what it has published, and the deltas that wait to be
 abbrev pub informer_of : Informer → informers.Informer

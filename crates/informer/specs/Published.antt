@@ -1,11 +1,11 @@
 -- What is published, and after which deltas.
 use Rattle.std.specs.Prelude.{◌≡◌, ◌+◌, ◌<◌, List, [], ◌∷◌, ◌++◌, length, All}
-use Rattle.controllers.specs.Informers.{nothing, applied, all_applied}
+use Rattle.spec_client_go.specs.Informers.{nothing, applied, all_applied}
 use Rattle.std.specs.Arc.{arc_value}
 use Rattle.std.specs.declared.sync.Arc.{Arc}
 use Rattle.reflector.specs.Deltas.{delta_of, deltas_of}
 use Rattle.reflector.specs.declared.deltas.Delta.{Delta}
-use Rattle.listers.specs.declared.published.Published.{Published}
+use Rattle.informer.specs.declared.published.Published.{Published}
 
 -- the map after one more delta, which is counted
 abbrev pub with_delta : Published → Delta → Published

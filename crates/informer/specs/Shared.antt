@@ -1,6 +1,6 @@
 -- An informer with a runtime.
-use Rattle.listers.specs.declared.informers.Informer.{Informer}
-use Rattle.listers.specs.declared.shared.SharedInformer.{SharedInformer}
+use Rattle.informer.specs.declared.informers.Informer.{Informer}
+use Rattle.informer.specs.declared.shared.SharedInformer.{SharedInformer}
 
 -- the informer that is in it
 abbrev pub inner : {R : Type 0} → SharedInformer R → Informer

@@ -1,11 +1,11 @@
 //! What deltas change, before they are published.
 ghost use Rattle.std.specs.Prelude.{◌≡◌, ◌++◌, IfOk, OnOk, map};
 ghost use Rattle.std.specs.Arc.{arc_value};
-ghost use Rattle.controllers.specs.Informers.{applied};
-ghost use Rattle.controllers.specs.Shifts.{all_shifts, shifts_of};
+ghost use Rattle.spec_client_go.specs.Informers.{applied};
+ghost use Rattle.spec_client_go.specs.Shifts.{all_shifts, shifts_of};
 ghost use Rattle.indexer.specs.Shifted.{shift_of};
 ghost use Rattle.reflector.specs.Deltas.{delta_of, deltas_of};
-ghost use Rattle.listers.specs.SharedDeltas.{all_in};
+ghost use Rattle.informer.specs.SharedDeltas.{all_in};
 
 use crate::shared_deltas::SharedDelta;
 use indexer::{Indexed, Shift};

@@ -3,19 +3,19 @@ ghost use Rattle.std.specs.Prelude.{◌≡◌, ◌≤◌, length, drop, take};
 ghost use Rattle.std.proofs.Props.{props};
 ghost use Rattle.std.specs.Coded.{coded_list};
 ghost use Rattle.left_right.specs.Sides.{view};
-ghost use Rattle.controllers.specs.InformerCodes.{coded_delta};
-ghost use Rattle.server_state.specs.Codes.{coded_snapshot};
+ghost use Rattle.spec_client_go.specs.InformerCodes.{coded_delta};
+ghost use Rattle.spec_server.specs.Codes.{coded_snapshot};
 ghost use Rattle.reflector.specs.Deltas.{deltas_of};
-ghost use Rattle.listers.specs.Knowing.{latest};
-ghost use Rattle.listers.specs.Published.{IsAfter};
-ghost use Rattle.listers.specs.SharedDeltas.{all_in};
+ghost use Rattle.informer.specs.Knowing.{latest};
+ghost use Rattle.informer.specs.Published.{IsAfter};
+ghost use Rattle.informer.specs.SharedDeltas.{all_in};
 
 use crate::changes::changes_of;
 use crate::published::Published;
-use crate::rules::{Batch, Learns, Publishes, Rule, Tells};
+use crate::rules::{Batch, BatchRule, Learns, Publishes, Tells};
 use crate::shared_deltas;
 use crate::shared_deltas::SharedDelta;
-use crate::views::View;
+use crate::views::MapView;
 use indexer::{Indexed, Shift};
 use left_right::reader::Reader;
 use left_right::writer::Writer;
@@ -25,11 +25,11 @@ use std::marker::Brand;
 use std::sync::{Arc, Wait};
 
 /// A reader of the map.
-pub type MapReader = Reader<Published, View, Rule>;
+pub type MapReader = Reader<Published, MapView, BatchRule>;
 
 /// Two copies of a map, and the deltas that wait to be published. Readers take one copy, while deltas are applied to the other.
 pub struct Copies {
-    pub(crate) writer: Writer<Published, SharedDelta, View, Rule>,
+    pub(crate) writer: Writer<Published, SharedDelta, MapView, BatchRule>,
     pub(crate) waiting: Vec<SharedDelta>,
     /// So many of those that wait are in the writer's log: none, but after a publish that ran out of memory.
     logged: usize,
@@ -41,10 +41,10 @@ pub struct Copies {
 
 impl Copies {
     ghost use Rattle.std.specs.Prelude.{◌^◌, ◌+◌, ◌<◌, [], ◌∷◌, ◌++◌, IfOk, IfErr, OnOk, OnErr, map};
-    ghost use Rattle.controllers.specs.Informers.{nothing};
-    ghost use Rattle.controllers.specs.Shifts.{all_shifts};
+    ghost use Rattle.spec_client_go.specs.Informers.{nothing};
+    ghost use Rattle.spec_client_go.specs.Shifts.{all_shifts};
     ghost use Rattle.indexer.specs.Shifted.{shift_of};
-    ghost use Rattle.listers.specs.Copies.{shown, batches_shown, deltas_waiting, IsSame, IsPublished};
+    ghost use Rattle.informer.specs.Copies.{shown, batches_shown, deltas_waiting, IsSame, IsPublished};
 
     /// Returns two copies of an empty map, with room for so many readers. The error is running out of memory.
     pub fn open(alloc: Global, readers: usize) -> Result<Copies, AllocError>

@@ -14,14 +14,14 @@ pub struct Informer {
 
 impl Informer {
     ghost use Rattle.std.specs.Prelude.{◌≡◌, ◌^◌, ◌<◌, [], ◌∷◌, ◌++◌, IfOk, IfErr, OnOk, OnErr, length, map};
-    ghost use Rattle.controllers.specs.Informers.{begun, appended, after_publish};
-    ghost use Rattle.controllers.specs.Shifts.{all_shifts};
+    ghost use Rattle.spec_client_go.specs.Informers.{begun, appended, after_publish};
+    ghost use Rattle.spec_client_go.specs.Shifts.{all_shifts};
     ghost use Rattle.indexer.specs.Shifted.{shift_of};
-    ghost use Rattle.informer.specs.Appended.{all_appended};
+    ghost use Rattle.plain_informer.specs.Appended.{all_appended};
     ghost use Rattle.reflector.specs.Deltas.{delta_of, deltas_of};
-    ghost use Rattle.listers.specs.Informers.{informer_of, published_batches, published_deltas, pending_deltas, IsSame};
-    ghost use Rattle.listers.specs.Listers.{known_last};
-    ghost use Rattle.listers.specs.Published.{with_batch};
+    ghost use Rattle.informer.specs.Informers.{informer_of, published_batches, published_deltas, pending_deltas, IsSame};
+    ghost use Rattle.informer.specs.Listers.{known_last};
+    ghost use Rattle.informer.specs.Published.{with_batch};
 
     /// Returns an informer that has published nothing yet, an empty map at revision 0, with room for so many listers. The
     /// error is running out of memory.

@@ -15,4 +15,6 @@ pub(crate) mod views;
 pub use indexer::{Indexed, Shift};
 pub use informers::Informer;
 pub use listers::{Lister, Look};
+pub use plain_informer::{PlainInformer, Publishing, keys_of};
+pub use reconcile_types::{Command, Entry, Hand, Looks, Plan, Seen};
 pub use shared::SharedInformer;

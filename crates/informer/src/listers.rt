@@ -1,8 +1,8 @@
 //! Listers, and what they look at.
 use crate::copies::MapReader;
 use crate::published::Published;
-use crate::rules::{Rule, Sees};
-use crate::views::View;
+use crate::rules::{BatchRule, Sees};
+use crate::views::MapView;
 use indexer::Indexed;
 use left_right::reader::Reading;
 
@@ -14,11 +14,11 @@ pub struct Lister {
 
 impl Lister {
     ghost use Rattle.std.specs.Prelude.{◌≡◌, IfOk, IfErr};
-    ghost use Rattle.controllers.specs.Informers.{nothing, all_applied};
+    ghost use Rattle.spec_client_go.specs.Informers.{nothing, all_applied};
     ghost use Rattle.reflector.specs.Deltas.{deltas_of};
-    ghost use Rattle.listers.specs.Knowing.{StartsWithAll};
-    ghost use Rattle.listers.specs.Listers.{known, seen, shown};
-    ghost use Rattle.listers.specs.Published.{all_of};
+    ghost use Rattle.informer.specs.Knowing.{StartsWithAll};
+    ghost use Rattle.informer.specs.Listers.{known, seen, shown};
+    ghost use Rattle.informer.specs.Published.{all_of};
 
     /// Returns a look at the map that is published. It waits for nobody and takes no memory. The error is that the informer is
     /// closed, and gives the lister back.
@@ -36,12 +36,12 @@ impl Lister {
 
 /// A look at a map that was published. While it lasts, the map stays as it is. The next publish but one waits for its end.
 pub struct Look {
-    pub(crate) reading: Reading<Published, View, Rule>,
+    pub(crate) reading: Reading<Published, MapView, BatchRule>,
 }
 
 impl Look {
     ghost use Rattle.std.specs.Prelude.{◌≡◌, ◌∷◌, []};
-    ghost use Rattle.listers.specs.Listers.{known, known_then, shown};
+    ghost use Rattle.informer.specs.Listers.{known, known_then, shown};
 
     /// Returns the map. It takes no memory.
     pub fn indexed(&self) -> &Indexed

@@ -13,7 +13,7 @@ pub struct Published {
 
 impl Published {
     ghost use Rattle.std.specs.Prelude.{◌≡◌, []};
-    ghost use Rattle.listers.specs.Published.{IsAfter};
+    ghost use Rattle.informer.specs.Published.{IsAfter};
 
     /// Returns the map before the first delta.
     pub fn new(alloc: Global) -> Published
@@ -27,7 +27,7 @@ impl Published {
 }
 
 impl Absorb<SharedDelta> for Published {
-    ghost use Rattle.listers.specs.Published.{with_shared};
+    ghost use Rattle.informer.specs.Published.{with_shared};
 
     type State = Published;
 

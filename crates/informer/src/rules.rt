@@ -2,16 +2,16 @@
 ghost use Rattle.std.specs.Prelude.{◌≡◌, ◌++◌, ◌∷◌, List, []};
 
 use crate::published::Published;
-use crate::views::View;
+use crate::views::MapView;
 use atomic_table::{Join, Split};
 use crossbeam_utils::rule::{Outcome, Protocol};
 use std::marker::{Brand, PhantomData};
 
 /// Whatever is known is a beginning of the batches of deltas that made the map.
-pub struct Rule;
+pub struct BatchRule;
 
-impl Protocol<Published, View> for Rule {
-    ghost use Rattle.listers.specs.Knowing.{IsKept, knowing_nothing};
+impl Protocol<Published, MapView> for BatchRule {
+    ghost use Rattle.informer.specs.Knowing.{IsKept, knowing_nothing};
 
     ghost holds = { IsKept };
 
@@ -32,8 +32,8 @@ impl Batch for Brand {
 /// A reader sees a map.
 pub struct Sees;
 
-impl Outcome<Published, View> for Sees {
-    ghost use Rattle.listers.specs.Knowing.{HasSeen};
+impl Outcome<Published, MapView> for Sees {
+    ghost use Rattle.informer.specs.Knowing.{HasSeen};
 
     ghost then = { λ v x y w. HasSeen v y w };
 }
@@ -43,8 +43,8 @@ pub struct Publishes<M> {
     batch: PhantomData<M>,
 }
 
-impl<M: Batch> Outcome<Published, View> for Publishes<M> {
-    ghost use Rattle.listers.specs.Knowing.{knowing, latest};
+impl<M: Batch> Outcome<Published, MapView> for Publishes<M> {
+    ghost use Rattle.informer.specs.Knowing.{knowing, latest};
 
     ghost then = { λ v x y w. w ≡ knowing (latest v ++ M.deltas ∷ []) };
 }
@@ -52,7 +52,7 @@ impl<M: Batch> Outcome<Published, View> for Publishes<M> {
 /// The writer tells what it knows.
 pub struct Tells;
 
-impl Split<View> for Tells {
+impl Split<MapView> for Tells {
     ghost left = { λ v. v };
 
     ghost right = { λ v. v };
@@ -61,8 +61,8 @@ impl Split<View> for Tells {
 /// A reader learns what it is told.
 pub struct Learns;
 
-impl Join<View> for Learns {
-    ghost use Rattle.listers.specs.Knowing.{knowing_both, knowing_nothing};
+impl Join<MapView> for Learns {
+    ghost use Rattle.informer.specs.Knowing.{knowing_both, knowing_nothing};
 
     ghost both = { λ v w. knowing_both w v };
 

@@ -1,13 +1,13 @@
 //! A look is looked at.
 
 use crate::listers::Look;
-use keys::Key;
 use meta::Object;
+use object_keys::Key;
+use reconcile_types::{Entry, Seen};
 use std::alloc::{AllocError, Global};
-use turns::{Entry, Seen};
 
 impl Seen for Look {
-    ghost use Rattle.listers.specs.Listers.{shown};
+    ghost use Rattle.informer.specs.Listers.{shown};
 
     ghost snapshot = { shown };
 

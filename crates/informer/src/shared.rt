@@ -2,7 +2,7 @@
 use crate::informers::Informer;
 use crate::listers::Lister;
 use indexer::{Indexed, Shift};
-use informer::Publishing;
+use plain_informer::Publishing;
 use reflector::Delta;
 use std::alloc::AllocError;
 use std::sync::Wait;
@@ -16,9 +16,9 @@ pub struct SharedInformer<'a, R: Wait> {
 
 impl<'a, R: Wait> SharedInformer<'a, R> {
     ghost use Rattle.std.specs.Prelude.{◌≡◌, IfOk};
-    ghost use Rattle.listers.specs.Informers.{published_batches, IsSame};
-    ghost use Rattle.listers.specs.Listers.{known_last};
-    ghost use Rattle.listers.specs.Shared.{inner};
+    ghost use Rattle.informer.specs.Informers.{published_batches, IsSame};
+    ghost use Rattle.informer.specs.Listers.{known_last};
+    ghost use Rattle.informer.specs.Shared.{inner};
 
     /// Returns an informer, with the runtime by which its publishes wait.
     pub fn new(runtime: &'a R, informer: Informer) -> SharedInformer<'a, R>
@@ -56,8 +56,8 @@ impl<'a, R: Wait> SharedInformer<'a, R> {
 }
 
 impl<'a, R: Wait> Publishing for SharedInformer<'a, R> {
-    ghost use Rattle.listers.specs.Informers as informers;
-    ghost use Rattle.listers.specs.Shared.{inner};
+    ghost use Rattle.informer.specs.Informers as informers;
+    ghost use Rattle.informer.specs.Shared.{inner};
 
     ghost informer_of = { λ s. informers.informer_of (inner s) };
 

@@ -1,7 +1,7 @@
 //! Deltas that both copies of the map share with those who wait for them.
 ghost use Rattle.std.specs.Prelude.{◌≡◌, ◌+◌, ◌≤◌, ◌++◌, ◌∷◌, [], IfOk, IfErr, OnOk, OnErr, vec_len, vec_capacity};
 ghost use Rattle.std.specs.Arc.{arc_value};
-ghost use Rattle.listers.specs.SharedDeltas.{all_in};
+ghost use Rattle.informer.specs.SharedDeltas.{all_in};
 
 use reflector::Delta;
 use std::alloc::{AllocError, AllocFailed, Global};

@@ -3,6 +3,6 @@ use reflector::Delta;
 use std::collections::LinkedList;
 
 /// What a reader, or the writer, has seen or was told of: lists of batches, the deltas of each of which were published at once.
-pub struct View {
+pub struct MapView {
     pub known: LinkedList<LinkedList<LinkedList<Delta>>>,
 }

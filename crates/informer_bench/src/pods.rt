@@ -1,8 +1,8 @@
 //! The Pods that are taken in.
-use definitions::kinds::Kind;
 use meta::Object;
 use reflector::SharedObject;
 use serde_json::Value;
+use spec_api::kinds::Kind;
 use std::alloc::{AllocError, Global};
 
 /// How many Pods there are.

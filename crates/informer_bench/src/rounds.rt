@@ -1,10 +1,10 @@
 //! What is measured, so many times.
 use crate::What;
 use crate::pods::{PODS, SETS, pod, set, uid};
-use definitions::kinds::Kind;
 use indexer::Indexed;
-use informer::{Looks, PlainInformer, keys_of};
+use plain_informer::{Looks, PlainInformer, keys_of};
 use reflector::{Delta, SharedObject};
+use spec_api::kinds::Kind;
 use std::alloc::{AllocError, Global};
 
 /// Returns the Pods.

@@ -6,18 +6,18 @@ use Rattle.std.specs.List.{Contains, list_any}
 use Rattle.std.specs.Ordering.{match_ordering}
 use Rattle.std.specs.BTreeSet.{insert_key}
 use Rattle.serde_json.specs.Data.{Data}
-use Rattle.definitions.specs.declared.kinds.Kind.{Kind}
-use Rattle.definitions.specs.declared.kinds.Kind.TheVariants.{Pod, ReplicaSet}
-use Rattle.definitions.specs.History.{Entries}
-use Rattle.definitions.specs.Keys.{Key}
-use Rattle.definitions.specs.Metadata.{uid}
-use Rattle.controllers.specs.declared.controller.Controller.{Controller}
-use Rattle.controllers.specs.declared.controller.Controller.TheVariants as controller
-use Rattle.controllers.specs.Informers.{Looks, of_namespace, of_owner}
-use Rattle.controllers.specs.OwedKeys.{Change, one_of, of_both, with_keys, for_controller, sets_to_look, sets_to_look_by, deployments_to_look, items_to_look, itself, dependents, dependents_in, dependents_left, adopters, selects, latest}
-use Rattle.controllers.specs.OwnerReferences.{namespace_of, controller_keys, owner_keys}
-use Rattle.controllers.specs.WorkQueues.{WorkKey, work_key_cmp}
-use Rattle.controllers.proofs.WorkKeyOrder.{work_key_total}
+use Rattle.spec_api.specs.declared.kinds.Kind.{Kind}
+use Rattle.spec_api.specs.declared.kinds.Kind.TheVariants.{Pod, ReplicaSet}
+use Rattle.spec_api.specs.History.{Entries}
+use Rattle.spec_api.specs.Keys.{Key}
+use Rattle.spec_api.specs.Metadata.{uid}
+use Rattle.spec_client_go.specs.declared.controller.Controller.{Controller}
+use Rattle.spec_client_go.specs.declared.controller.Controller.TheVariants as controller
+use Rattle.spec_client_go.specs.Informers.{Looks, of_namespace, of_owner}
+use Rattle.spec_client_go.specs.OwedKeys.{Change, one_of, of_both, with_keys, for_controller, sets_to_look, sets_to_look_by, deployments_to_look, items_to_look, itself, dependents, dependents_in, dependents_left, adopters, selects, latest}
+use Rattle.spec_client_go.specs.OwnerReferences.{namespace_of, controller_keys, owner_keys}
+use Rattle.spec_client_go.specs.WorkQueues.{WorkKey, work_key_cmp}
+use Rattle.spec_client_go.proofs.WorkKeyOrder.{work_key_total}
 use Rattle.informer_laws.specs.OwedLaws.{Owes, IsOf, IsLookedAt, SelectingSetsAreOwed, ControllersAreOwed, OwnersAreOwed, DependentsAreOwed}
 
 -- ---- elements

@@ -1,19 +1,19 @@
 -- Deltas that a reflector gave, applied one after another, name the revision that it names.
 use Rattle.std.proofs.Common.{◌≡◌, ◌++◌, ℕ, List, [], ◌∷◌, Bool, true, false, cond, nat_lt, Option, Some, None, option_map, option_and_then, unwrap_or, Result, Ok, Err, refl, ap, subst, ◌∙◌}
 use Rattle.serde_json.specs.Data.{Data}
-use Rattle.definitions.specs.declared.kinds.Kind.{Kind}
-use Rattle.definitions.specs.declared.refusals.Part.{Part}
-use Rattle.definitions.specs.declared.frames.FrameKind.{FrameKind}
-use Rattle.definitions.specs.declared.frames.FrameKind.TheVariants.{Added, Modified, Deleted, Bookmark, Error}
-use Rattle.definitions.specs.Frames.{Frame}
-use Rattle.definitions.specs.Reading.{reading}
-use Rattle.server_state.specs.Snapshots.{Snapshot}
-use Rattle.controllers.specs.declared.reflectors.End.{End}
-use Rattle.controllers.specs.declared.reflectors.Phase.{Phase}
-use Rattle.controllers.specs.declared.reflectors.Phase.TheVariants.{Listing, Streaming, Watching}
-use Rattle.controllers.specs.Informers.{revision_after, applied, all_applied}
-use Rattle.controllers.specs.ReadFrames as frames
-use Rattle.controllers.specs.Reflectors.{Reflector, Delta, replace, objects_of, Shown, Step, revision, has_identity, shown, shown_read, shown_above, if_above, or_unreadable, put_step, remove_step, mark_step, marked, step, step_by, run, going_on, Initial, Opening, under_way, closed, opening_step, opens_on, open_run, Fed, fed, fed_in, joined, all_fed, apply_deltas, list_delta, with_list}
+use Rattle.spec_api.specs.declared.kinds.Kind.{Kind}
+use Rattle.spec_api.specs.declared.refusals.Part.{Part}
+use Rattle.spec_api.specs.declared.frames.FrameKind.{FrameKind}
+use Rattle.spec_api.specs.declared.frames.FrameKind.TheVariants.{Added, Modified, Deleted, Bookmark, Error}
+use Rattle.spec_api.specs.Frames.{Frame}
+use Rattle.spec_api.specs.Reading.{reading}
+use Rattle.spec_server.specs.Snapshots.{Snapshot}
+use Rattle.spec_client_go.specs.declared.reflectors.End.{End}
+use Rattle.spec_client_go.specs.declared.reflectors.Phase.{Phase}
+use Rattle.spec_client_go.specs.declared.reflectors.Phase.TheVariants.{Listing, Streaming, Watching}
+use Rattle.spec_client_go.specs.Informers.{revision_after, applied, all_applied}
+use Rattle.spec_client_go.specs.ReadFrames as frames
+use Rattle.spec_client_go.specs.Reflectors.{Reflector, Delta, replace, objects_of, Shown, Step, revision, has_identity, shown, shown_read, shown_above, if_above, or_unreadable, put_step, remove_step, mark_step, marked, step, step_by, run, going_on, Initial, Opening, under_way, closed, opening_step, opens_on, open_run, Fed, fed, fed_in, joined, all_fed, apply_deltas, list_delta, with_list}
 use Rattle.reflector.proofs.Served.{list_served}
 use Rattle.informer_laws.specs.PublishLaws.{InformersShowLists}
 

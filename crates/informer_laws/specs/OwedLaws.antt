@@ -3,16 +3,16 @@ use Rattle.std.specs.Prelude.{◌≡◌, ◌⊎◌, ℕ, List, true, false, Some
 use Rattle.std.specs.List.{Contains, list_any}
 use Rattle.std.specs.Ordering.{is_eq}
 use Rattle.serde_json.specs.Data.{Data}
-use Rattle.definitions.specs.declared.kinds.Kind.TheVariants.{Pod, ReplicaSet}
-use Rattle.definitions.specs.History.{Entries}
-use Rattle.definitions.specs.Keys.{Key}
-use Rattle.definitions.specs.Metadata.{uid}
-use Rattle.controllers.specs.declared.controller.Controller.{Controller}
-use Rattle.controllers.specs.declared.controller.Controller.TheVariants as controller
-use Rattle.controllers.specs.Informers.{Looks, of_namespace, of_owner}
-use Rattle.controllers.specs.OwedKeys.{Change, keys_of, selects, is_going, latest}
-use Rattle.controllers.specs.OwnerReferences.{has_controller, namespace_of, controller_keys, owner_keys}
-use Rattle.controllers.specs.WorkQueues.{work_key_cmp}
+use Rattle.spec_api.specs.declared.kinds.Kind.TheVariants.{Pod, ReplicaSet}
+use Rattle.spec_api.specs.History.{Entries}
+use Rattle.spec_api.specs.Keys.{Key}
+use Rattle.spec_api.specs.Metadata.{uid}
+use Rattle.spec_client_go.specs.declared.controller.Controller.{Controller}
+use Rattle.spec_client_go.specs.declared.controller.Controller.TheVariants as controller
+use Rattle.spec_client_go.specs.Informers.{Looks, of_namespace, of_owner}
+use Rattle.spec_client_go.specs.OwedKeys.{Change, keys_of, selects, is_going, latest}
+use Rattle.spec_client_go.specs.OwnerReferences.{has_controller, namespace_of, controller_keys, owner_keys}
+use Rattle.spec_client_go.specs.WorkQueues.{work_key_cmp}
 
 -- a change owes that a controller looks at a key
 abbrev pub Owes : Change → Looks → Controller → Key → Type 0

@@ -1,11 +1,11 @@
 -- Laws of what is published.
 use Rattle.std.specs.Prelude.{◌≡◌, ◌++◌, ℕ, List, ◌∷◌, flat_map, Some}
-use Rattle.definitions.specs.History.{History, list}
-use Rattle.definitions.specs.Streams.{Line, text_of_lines}
-use Rattle.server_state.specs.Snapshots.{Snapshot}
-use Rattle.controllers.specs.Informers.{after_publish}
-use Rattle.controllers.specs.Reflectors.{Reflector, Listed, list_of, list_delta, with_list, all_fed}
-use Rattle.laws.specs.SentLaws.{whole, IsListText}
+use Rattle.spec_api.specs.History.{History, list}
+use Rattle.spec_api.specs.Streams.{Line, text_of_lines}
+use Rattle.spec_server.specs.Snapshots.{Snapshot}
+use Rattle.spec_client_go.specs.Informers.{after_publish}
+use Rattle.spec_client_go.specs.Reflectors.{Reflector, Listed, list_of, list_delta, with_list, all_fed}
+use Rattle.spec_laws.specs.SentLaws.{whole, IsListText}
 use Rattle.reflector.specs.Laws.{IsServed}
 
 -- whoever asked a server: the deltas of its list at a, and of whatever part of a watch from a has come, in whatever pieces, are

@@ -10,8 +10,8 @@ use denote.Struct.Field.{row_field}
 use denote.Struct.Tuple.{TupleAt, type_at}
 use Rattle.std.proofs.Crossing as heap
 use Rattle.std.specs.contracts.sync.atomic.AtomicU64 as AtomicU64
-use Rattle.listers.proofs.Sent.{lister}
-use Rattle.listers.specs.contracts.listers.Lister as Lister
+use Rattle.informer.proofs.Sent.{lister}
+use Rattle.informer.specs.contracts.listers.Lister as Lister
 
 counter : IsSync AtomicU64.the_row
 counter = search (heap.crosses, sendable) depth 20

@@ -1,11 +1,11 @@
 //! Objects for the tests: the ReplicaSet `web`, and Pods that it controls.
-use definitions::kinds::Kind;
-use keys::Key;
 use meta::Object;
+use object_keys::Key;
+use reconcile_types::Entry;
 use reflector::{Delta, SharedObject};
 use serde_json::Value;
+use spec_api::kinds::Kind;
 use std::alloc::{AllocError, Global};
-use turns::Entry;
 
 /// The ReplicaSet `web` of the Deployment `site`.
 pub(crate) const WEB: &str =

@@ -1,8 +1,8 @@
 //! Two Pods that are listed, and what becomes of them.
 use crate::fixtures::{ELSEWHERE, POD, RELEASED, pod, put, remove, shared, tell};
-use definitions::kinds::Kind;
 use indexer::Indexed;
 use reflector::{Delta, SharedObject};
+use spec_api::kinds::Kind;
 use std::alloc::{AllocError, Global};
 
 /// The Pods that texts say.

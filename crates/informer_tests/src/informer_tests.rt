@@ -1,6 +1,6 @@
 //! A Pod that is put and removed before it is published, and one that is published.
 use crate::fixtures::{ELSEWHERE, POD, pod, put, remove};
-use informer::PlainInformer;
+use plain_informer::PlainInformer;
 use std::alloc::{AllocError, Global};
 
 /// Puts the Pod `p`, removes it and puts `q`.

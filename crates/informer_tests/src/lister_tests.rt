@@ -1,7 +1,7 @@
 //! Each call once, with ample memory.
 use crate::fixtures::{pod, put_at, remove};
-use informer::Publishing;
-use listers::{Informer, Lister, SharedInformer};
+use informer::{Informer, Lister, SharedInformer};
+use plain_informer::Publishing;
 use std::alloc::{AllocError, Global};
 use std::sync::Wait;
 

@@ -1,6 +1,6 @@
 //! A thread that looks while another publishes.
 use crate::fixtures::put_at;
-use listers::{Informer, Lister};
+use informer::{Informer, Lister};
 use reflector::Delta;
 use std::alloc::{AllocError, Global};
 use std::sync::Wait;

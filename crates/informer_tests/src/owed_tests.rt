@@ -1,10 +1,10 @@
 //! A Pod that is released, where the ReplicaSet `web` of the Deployment `site` is looked at.
 use crate::fixtures::{POD, RELEASED, WEB, shared};
-use controllers::controller::Controller;
-use definitions::kinds::Kind;
 use indexer::Indexed;
-use informer::{Looks, keys_of};
+use plain_informer::{Looks, keys_of};
 use reflector::{Delta, SharedObject};
+use spec_api::kinds::Kind;
+use spec_client_go::controller::Controller;
 use std::alloc::{AllocError, Global};
 use work_keys::WorkKey;
 

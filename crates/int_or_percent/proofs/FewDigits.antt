@@ -4,8 +4,8 @@ use Rattle.std.proofs.Math.Nat.{pow-le-pow_right}
 use Rattle.std.proofs.lemmas.Int.Digits.{digits_value-lt}
 use Rattle.std.specs.List.{list_all}
 use Rattle.std.specs.Str.Parse.{IsNumeral, digits_value, without_leading_plus}
-use Rattle.definitions.specs.Moments.{is_digit}
-use Rattle.stamps.proofs.Digits.{all-digits, no-plus}
+use Rattle.spec_api.specs.Moments.{is_digit}
+use Rattle.metadata_values.proofs.Digits.{all-digits, no-plus}
 
 pub is_read : (t : List ℕ) → list_all is_digit t ≡ true → 0 < length t → length t ≤ 18 → IsNumeral 10 (without_leading_plus t) × (digits_value 10 (without_leading_plus t) < 2 ^ 64)
 is_read t h l few =

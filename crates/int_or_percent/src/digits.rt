@@ -2,7 +2,7 @@
 ghost use Rattle.std.specs.Prelude.{◌≡◌, ◌<◌, ◌≤◌, ◌^◌, length, true};
 ghost use Rattle.std.specs.List.{list_all};
 ghost use Rattle.std.specs.Str.Parse.{digits_value};
-ghost use Rattle.definitions.specs.Moments.{is_digit};
+ghost use Rattle.spec_api.specs.Moments.{is_digit};
 
 /// Returns whether each byte of a text is a decimal digit. It takes no memory.
 pub fn has_digits(text: &str) -> bool

@@ -2,11 +2,11 @@
 ghost use Rattle.std.specs.Prelude.{◌≡◌, option_and_then};
 ghost use Rattle.serde_json.specs.Find.{as_str};
 ghost use Rattle.serde_json.specs.View.{view};
-ghost use Rattle.definitions.specs.Checks.{amount, percentage, pods};
+ghost use Rattle.spec_api.specs.Checks.{amount, percentage, pods};
 
 use crate::digits::{has_digits, number_of};
-use definitions::amounts::Amount;
 use serde_json::Value;
+use spec_api::amounts::Amount;
 
 /// The most digits of a percentage.
 const MOST_DIGITS: usize = 9;

@@ -8,10 +8,10 @@ use Rattle.serde_json.specs.Written.{has_float, members_have_float}
 use Rattle.serde_json.specs.View.{view, members_view}
 use Rattle.serde_json.specs.declared.value.Value.{Value}
 use Rattle.serde_json.proofs.Views.{Entry}
-use Rattle.definitions.proofs.Truths.{left_false, right_false}
-use Rattle.definitions.proofs.NoFloatsRead.{both_false, members_have_float-put}
-use Rattle.definitions.specs.Metadata.{metadata_of, metadata}
-use Rattle.definitions.specs.Values.{members_of, inner_of, without}
+use Rattle.spec_api.proofs.Truths.{left_false, right_false}
+use Rattle.spec_api.proofs.NoFloatsRead.{both_false, members_have_float-put}
+use Rattle.spec_api.specs.Metadata.{metadata_of, metadata}
+use Rattle.spec_api.specs.Values.{members_of, inner_of, without}
 
 -- the members, without one
 without_at : (b : Bool) (a c : Members) → members_have_float a ≡ false → members_have_float c ≡ false → members_have_float (cond b a c) ≡ false

@@ -10,7 +10,7 @@ use Rattle.serde_json.specs.Find.{get, get_member, as_object}
 use Rattle.serde_json.specs.View.{view, members_view}
 use Rattle.serde_json.specs.declared.value.Value.{Null, the_lemmas}
 use Rattle.serde_json.proofs.Views.{Entry}
-use Rattle.definitions.specs.Values.{members_of, inner_of, without, found_or_null}
+use Rattle.spec_api.specs.Values.{members_of, inner_of, without, found_or_null}
 
 members_view-cond : (b : Bool) (xs ys : List Entry) → members_view (cond b xs ys) ≡ cond b (members_view xs) (members_view ys)
 members_view-cond true xs ys = refl

@@ -2,7 +2,7 @@
 ghost use Rattle.std.specs.Prelude.{◌≡◌, IfOk, OnOk};
 ghost use Rattle.serde_json.specs.Data.{null, put};
 ghost use Rattle.serde_json.specs.View.{view, members_view};
-ghost use Rattle.definitions.specs.Values.{members_of, without, found_or_null};
+ghost use Rattle.spec_api.specs.Values.{members_of, without, found_or_null};
 
 use serde_json::{Map, Value};
 use std::alloc::{AllocError, Global};

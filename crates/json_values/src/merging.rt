@@ -2,7 +2,7 @@
 ghost use Rattle.std.specs.Prelude.{◌≡◌, IfOk, OnOk, string_bytes};
 ghost use Rattle.serde_json.specs.Data.{put};
 ghost use Rattle.serde_json.specs.View.{view, members_view};
-ghost use Rattle.definitions.specs.Values.{merged, merged_members, found_or_null};
+ghost use Rattle.spec_api.specs.Values.{merged, merged_members, found_or_null};
 
 use crate::members::{into_members, remove, take};
 use serde_json::{Map, Value};

@@ -3,8 +3,8 @@ ghost use Rattle.std.specs.Prelude.{◌≡◌, ◌≤◌, ◌↔◌, IfOk, IsTru
 ghost use Rattle.serde_json.specs.Data.{string, object, no_members, depth, items_depth, members_depth};
 ghost use Rattle.serde_json.specs.View.{view, items_view, members_view};
 ghost use Rattle.serde_json.specs.Written.{has_float, items_have_float, members_have_float};
-ghost use Rattle.definitions.specs.Defaults.{unsigned_value};
-ghost use Rattle.definitions.specs.Values.{with_member, with_default};
+ghost use Rattle.spec_api.specs.Defaults.{unsigned_value};
+ghost use Rattle.spec_api.specs.Values.{with_member, with_default};
 
 use serde_json::{Map, Value, json};
 use std::alloc::{AllocError, Global};

@@ -6,14 +6,14 @@
 ghost use Rattle.std.specs.Prelude.{◌≡◌, OnOk, IfErr, IfSome, true};
 ghost use Rattle.chunked.specs.Devices.{device_of, has_failed};
 ghost use Rattle.kcp.specs.Faults.{fault_text, serve_fault_text};
-ghost use Rattle.simulations.specs.Laws as simulated;
+ghost use Rattle.sim_service.specs.Laws as simulated;
 
 use chunked::Watched;
-use commands::{AllFault, all, control, serve};
+use http_listener::ListenFault;
+use kcp_commands::{AllFault, all, control, serve};
+use kcp_options::{Subcommand, Usage};
+use kcp_replay::replay;
 use line_service::RunFault;
-use options::{Command, Usage};
-use replays::replay;
-use serving::ServeFault;
 use std::alloc::{AllocError, Global};
 use std::io::{BufRead, BufReader, BufWriter, Write};
 use std::process::ExitCode;
@@ -37,16 +37,16 @@ pub fn simulate<R: BufRead + Drop, W: Write + Drop>(
     ensures reader { IfErr result (λ fault. fault ≡ RunFault.Read → has_failed reader.new ≡ true) }
     ensures writer { IfErr result (λ fault. fault ≡ RunFault.Write → has_failed writer.new ≡ true) }
 {
-    simulations::simulate(alloc, reader, writer)
+    sim_service::simulate(alloc, reader, writer)
 }
 
 /// Returns what the words after the program's name ask: a command, or else to be told how it is used, if they ask for that.
-fn asked(rt: &HostRuntime) -> io::Result<Result<Command, Option<Usage>>> {
+fn asked(rt: &HostRuntime) -> io::Result<Result<Subcommand, Option<Usage>>> {
     let mut words = Vec::new(rt.alloc());
     for word in env::args(rt)?.skip(1) {
         words.push(word)?;
     }
-    Ok(match Command::parse(&words) {
+    Ok(match Subcommand::parse(&words) {
         Some(command) => Ok(command),
         None => Err(Usage::asked(&words)),
     })
@@ -103,13 +103,13 @@ fn fault_name(fault: RunFault) -> &'static str
 }
 
 /// Returns what a fault of serving is called on standard error.
-fn serve_fault_name(fault: ServeFault) -> &'static str
+fn serve_fault_name(fault: ListenFault) -> &'static str
     ensures { result.now ≡ serve_fault_text fault }
 {
     match fault {
-        ServeFault::Listen => "listen",
-        ServeFault::Write => "write",
-        ServeFault::NoMemory => "no memory",
+        ListenFault::Listen => "listen",
+        ListenFault::Write => "write",
+        ListenFault::NoMemory => "no memory",
     }
 }
 
@@ -122,7 +122,7 @@ fn ran(outcome: Result<(), RunFault>) -> Result<(), &'static str> {
 }
 
 /// Returns what an outcome of serving is called where it is a fault.
-fn served(outcome: Result<(), ServeFault>) -> Result<(), &'static str> {
+fn served(outcome: Result<(), ListenFault>) -> Result<(), &'static str> {
     match outcome {
         Ok(()) => Ok(()),
         Err(fault) => Err(serve_fault_name(fault)),
@@ -148,14 +148,14 @@ fn ended(outcome: Result<(), AllFault>) -> Result<(), &'static str> {
 
 fn main(rt: HostRuntime) -> io::Result<ExitCode> {
     let outcome = match asked(&rt) {
-        Ok(Ok(Command::Replay)) => ran(replay_standard_input(&rt)),
-        Ok(Ok(Command::Simulate)) => ran(simulate_standard_input(&rt)),
-        Ok(Ok(Command::Serve(options))) => {
+        Ok(Ok(Subcommand::Replay)) => ran(replay_standard_input(&rt)),
+        Ok(Ok(Subcommand::Simulate)) => ran(simulate_standard_input(&rt)),
+        Ok(Ok(Subcommand::Serve(options))) => {
             let mut writer = io::writer(&rt);
             served(serve(&rt, rt.alloc(), options, &mut writer))
         }
-        Ok(Ok(Command::Control(options))) => { controlled(control(&rt, rt.alloc(), options)) }
-        Ok(Ok(Command::All(options))) => {
+        Ok(Ok(Subcommand::Control(options))) => { controlled(control(&rt, rt.alloc(), options)) }
+        Ok(Ok(Subcommand::All(options))) => {
             let mut reader = BufReader::new(rt.alloc(), rt.reader())?;
             let mut writer = BufWriter::new(rt.alloc(), io::writer(&rt))?;
             let mut told = rt.stderr();

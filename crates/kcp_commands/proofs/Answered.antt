@@ -1,18 +1,18 @@
 -- What new loops have answered, by what each of them did.
 use Rattle.std.proofs.Common.{◌≡◌, ◌≤◌, ℕ, suc, List, [], ◌∷◌, ◌++◌, length, take, Option, Some, None, IfSome, OnErr, Result, Ok, Err, All, map, refl, sym, ap, subst, ◌∙◌, arith}
-use Rattle.http_loop.specs.Asked.{HasAsked}
-use Rattle.http_loop.specs.Counted.{taken_over}
-use Rattle.http_loop.specs.declared.event_loop.EventLoop.{EventLoop}
-use Rattle.serving.specs.Rows.{RunsEach, ServesEach}
-use Rattle.shared_desk.specs.Askings.{IsAny}
-use Rattle.shared_desk.specs.Seats.{Begins, Calls, Lists, Watches}
-use Rattle.shared_desk.specs.declared.askings.Anything.{Anything}
-use Rattle.shared_desk.specs.declared.seats.Seat.{Seat}
-use Rattle.loopback.specs.Asking.{Rings}
-use Rattle.loopback.specs.Serving.{IsServed, seat_of}
-use Rattle.loopback.specs.declared.ringing.Ringer.{Ringer}
-use Rattle.loopback.proofs.Threads.{served_each}
-use Rattle.commands.specs.Answered.{AreNew, HaveAnswered, HaveAnsweredSome}
+use Rattle.http_event_loop.specs.Asked.{HasAsked}
+use Rattle.http_event_loop.specs.Counted.{taken_over}
+use Rattle.http_event_loop.specs.declared.event_loop.EventLoop.{EventLoop}
+use Rattle.http_listener.specs.Rows.{RunsEach, ServesEach}
+use Rattle.desk.specs.Askings.{IsAny}
+use Rattle.desk.specs.Seats.{Begins, Calls, Lists, Watches}
+use Rattle.desk.specs.declared.askings.Anything.{Anything}
+use Rattle.desk.specs.declared.seats.Seat.{Seat}
+use Rattle.kcp_loopback.specs.Asking.{Rings}
+use Rattle.kcp_loopback.specs.Serving.{IsServed, seat_of}
+use Rattle.kcp_loopback.specs.declared.ringing.Ringer.{Ringer}
+use Rattle.kcp_loopback.proofs.Threads.{served_each}
+use Rattle.kcp_commands.specs.Answered.{AreNew, HaveAnswered, HaveAnsweredSome}
 
 -- where a result is an error, this holds
 pub on_err : {A E : Type 0} {X : Type 0} (r : Result A E) → X → OnErr r X

@@ -14,21 +14,21 @@ use Rattle.std.specs.contracts.impls.GlobalAllocator.TheImpl.{ghosts}
 use Rattle.std.specs.contracts.net.tcp.TcpStream as TcpStream
 use Rattle.std.specs.contracts.vec.Vec as Vec
 use Rattle.std.specs.declared.sync.ledger.Ledger.{Ghosts}
-use Rattle.shared_desk.specs.contracts.askings.Anything as Anything
-use Rattle.shared_desk.specs.contracts.askings.AnythingAsking.TheImpl as asks
-use Rattle.shared_desk.specs.contracts.seats.Seat as Seat
-use Rattle.http_loop.specs.contracts.event_loop.EventLoop as EventLoop
-use Rattle.http_loop.specs.contracts.loops.Loops as Loops
-use Rattle.http_loop.proofs.Sent.{event_loop, shared}
-use Rattle.loopback.proofs.Sent.{Reading, Seated, connector, own_server, reading, seat, seated_loop}
-use Rattle.loopback.specs.contracts.ringing.Ringer as Ringer
-use Rattle.loopback.specs.contracts.connecting.Connector as Connector
-use Rattle.loopback.specs.contracts.own_server.OwnServer as OwnServer
+use Rattle.desk.specs.contracts.askings.Anything as Anything
+use Rattle.desk.specs.contracts.askings.AnythingAsking.TheImpl as asks
+use Rattle.desk.specs.contracts.seats.Seat as Seat
+use Rattle.http_event_loop.specs.contracts.event_loop.EventLoop as EventLoop
+use Rattle.http_event_loop.specs.contracts.loops.Loops as Loops
+use Rattle.http_event_loop.proofs.Sent.{event_loop, shared}
+use Rattle.kcp_loopback.proofs.Sent.{Reading, Seated, connector, own_server, reading, seat, seated_loop}
+use Rattle.kcp_loopback.specs.contracts.ringing.Ringer as Ringer
+use Rattle.kcp_loopback.specs.contracts.connecting.LoopbackConnector as Connector
+use Rattle.kcp_loopback.specs.contracts.own_server.OwnServer as OwnServer
 use Rattle.manager.proofs.running.Apis.TheSendSync as apis_of
-use Rattle.worker_turns.proofs.signals.Signals.TheSendSync as signals
-use Rattle.worker_turns.specs.contracts.signals.Signals as Signals
-use Rattle.commands.specs.contracts.parts.Answering as Answering
-use Rattle.commands.specs.contracts.parts.Controllers as Controllers
+use Rattle.manager_worker.proofs.signals.Signals.TheSendSync as signals
+use Rattle.manager_worker.specs.contracts.signals.Signals as Signals
+use Rattle.kcp_commands.specs.contracts.parts.Answering as Answering
+use Rattle.kcp_commands.specs.contracts.parts.Controllers as Controllers
 
 alloc : IsSend (as_row Global.the_field)
 alloc = search (heap.send, sendable)

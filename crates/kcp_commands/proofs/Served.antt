@@ -1,12 +1,12 @@
 -- What new loops that began at a desk have served.
 use Rattle.std.proofs.Common.{ℕ, List, Option, Some, None, Result, Ok, Err, IfErr, IfSome, OnErr, OnOk, map, ◌⊎◌, inl}
-use Rattle.http_loop.specs.declared.event_loop.EventLoop.{EventLoop}
-use Rattle.shared_desk.specs.declared.askings.Anything.{Anything}
-use Rattle.shared_desk.specs.declared.seats.Seat.{Seat}
-use Rattle.loopback.specs.Serving.{seat_of}
-use Rattle.loopback.specs.Threads.{Begin, HaveServed, HaveServedSome}
-use Rattle.loopback.specs.declared.ringing.Ringer.{Ringer}
-use Rattle.commands.specs.Answered.{HaveAnswered, HaveAnsweredSome}
+use Rattle.http_event_loop.specs.declared.event_loop.EventLoop.{EventLoop}
+use Rattle.desk.specs.declared.askings.Anything.{Anything}
+use Rattle.desk.specs.declared.seats.Seat.{Seat}
+use Rattle.kcp_loopback.specs.Serving.{seat_of}
+use Rattle.kcp_loopback.specs.Threads.{Begin, HaveServed, HaveServedSome}
+use Rattle.kcp_loopback.specs.declared.ringing.Ringer.{Ringer}
+use Rattle.kcp_commands.specs.Answered.{HaveAnswered, HaveAnsweredSome}
 
 pub said_at : {E : Type 0} (P : ℕ → Type 0) (r : Result (Unit {0}) E) (port : ℕ) → OnOk r (P port) → OnOk r ((taken : ℕ) × P taken)
 said_at P (Ok u) port said = (port, said)

@@ -1,12 +1,12 @@
 -- What new loops have answered.
 use Rattle.std.specs.Prelude.{ℕ, List, All, Option, map}
-use Rattle.http_loop.specs.declared.event_loop.EventLoop.{EventLoop}
-use Rattle.serving.specs.Rows.{ServesEach, ServesEachSome}
-use Rattle.shared_desk.specs.declared.askings.Anything.{Anything}
-use Rattle.shared_desk.specs.declared.desks.Desk.{Desk}
-use Rattle.shared_desk.specs.declared.seats.Seat.{Seat}
-use Rattle.loopback.specs.Serving.{IsNewOf, IsServed, seat_of}
-use Rattle.loopback.specs.declared.ringing.Ringer.{Ringer}
+use Rattle.http_event_loop.specs.declared.event_loop.EventLoop.{EventLoop}
+use Rattle.http_listener.specs.Rows.{ServesEach, ServesEachSome}
+use Rattle.desk.specs.declared.askings.Anything.{Anything}
+use Rattle.desk.specs.declared.desks.Desk.{Desk}
+use Rattle.desk.specs.declared.seats.Seat.{Seat}
+use Rattle.kcp_loopback.specs.Serving.{IsNewOf, IsServed, seat_of}
+use Rattle.kcp_loopback.specs.declared.ringing.Ringer.{Ringer}
 
 module _ {R L : Type 0} where
   -- the loops are new ones of a desk

@@ -1,19 +1,19 @@
 //! `kcp all`: a server with its controllers, asked over HTTP and by the lines of standard input.
 ghost use Rattle.std.specs.Prelude.{◌≡◌, ◌≤◌, ◌+◌, All, vec_len};
-ghost use Rattle.shared_desk.specs.Desks.{IsNewAt};
+ghost use Rattle.desk.specs.Desks.{IsNewAt};
 
 use crate::controlling::MOST_WORKERS;
 use crate::own_desk::OwnDesk;
 use crate::parts::{Answering, Controllers, Own, run_controllers};
 use chunked::Watched;
-use http_loop::{Loops, Place, Turns};
+use desk::{Anything, Desk, StorePass};
+use http_event_loop::{LoopPlace, Loops, Turns};
+use http_listener::{ListenFault, listen, not_listening};
+use kcp_loopback::Reach;
+use kcp_options::AllOptions;
 use line_relay::relay;
 use line_service::RunFault;
-use loopback::Reach;
 use manager::Signals;
-use options::AllOptions;
-use serving::{ServeFault, listen, not_listening};
-use shared_desk::{Anything, Desk, StorePass};
 use std::alloc::{AllocError, Global};
 use std::io::{BufRead, Write};
 use std::marker::Brand;
@@ -34,7 +34,7 @@ const FOLLOWERS: usize = 4;
 #[derive(Debug, Clone, Copy, PartialEq, Eq)]
 pub enum AllFault {
     /// It could not serve, or out of memory.
-    Serve(ServeFault),
+    Serve(ListenFault),
     /// A line was not answered.
     Run(RunFault),
 }
@@ -46,7 +46,7 @@ fn not_served(error: io::Error) -> AllFault {
 
 /// Returns the fault of running out of memory.
 fn no_memory(_: AllocError) -> AllFault {
-    AllFault::Serve(ServeFault::NoMemory)
+    AllFault::Serve(ListenFault::NoMemory)
 }
 
 /// Answers the lines over connections, and tells all threads to stop once they end.
@@ -73,7 +73,7 @@ where
 
 /// Returns why all threads have ended, where it is a fault.
 fn outcome_of(
-    served: Result<(), ServeFault>,
+    served: Result<(), ListenFault>,
     worked: Result<(), AllocError>,
     ran: Result<(), RunFault>,
 ) -> Result<(), AllFault> {
@@ -115,7 +115,7 @@ fn run_over<'a, R, L, I, W>(
     own: &OwnDesk<'a, R>,
     turns: &'a Mutex<Turns<L>>,
     passes: Vec<StorePass>,
-    places: Vec<Place>,
+    places: Vec<LoopPlace>,
     listener: TcpListener,
     reader: &mut I,
     writer: &mut W,
@@ -163,7 +163,7 @@ where
     let turns = Mutex::new(Turns::<L>::new(u64::MAX, blank));
     let count = threads + (workers + FOLLOWERS);
     let Ok((desk, passes)) = Desk::<Anything>::open(alloc, options.window, count) else {
-        return Err(AllFault::Serve(ServeFault::NoMemory));
+        return Err(AllFault::Serve(ListenFault::NoMemory));
     };
     let (loops, places) = Loops::open(rt, alloc, threads).map_err(not_served)?;
     let (listener, port) = listen(rt, options.port, told).map_err(AllFault::Serve)?;

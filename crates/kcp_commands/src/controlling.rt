@@ -1,22 +1,22 @@
 //! `kcp control`: the controllers, which work at a server.
 ghost use Rattle.std.specs.Prelude.{◌<◌, ◌^◌};
 
-use loopback::{Connector, OtherServer, Reach};
+use api_client::Remote;
+use kcp_loopback::{LoopbackConnector, OtherServer, Reach};
+use kcp_options::ControlOptions;
 use manager::{Apis, Open, Signals};
-use options::ControlOptions;
-use remote::Remote;
+use reconcile_types::Looks;
 use std::alloc::{AllocError, Global};
 use std::net::{Net, TcpListener, TcpStream};
 use std::sync::Wait;
 use std::thread::Threads;
 use std::time::Clock;
-use turns::Looks;
 
 /// How many workers there are at most.
 pub const MOST_WORKERS: usize = 64;
 
 /// How a server of another process is asked.
-type Asked<'a, R> = OtherServer<'a, R, Remote<Connector<'a, R>>>;
+type Asked<'a, R> = OtherServer<'a, R, Remote<LoopbackConnector<'a, R>>>;
 
 /// The server that the controllers work at.
 #[derive(Drop)]
@@ -32,8 +32,8 @@ impl<'a, R: Net<Listener = TcpListener, Stream = TcpStream> + Eprint> Server<'a,
     ghost use Rattle.std.specs.Prelude.{◌≡◌, IfOk, vec_len};
 
     /// Returns what connects to it.
-    fn connector(&self) -> Connector<'a, R> {
-        Connector::new(
+    fn connector(&self) -> LoopbackConnector<'a, R> {
+        LoopbackConnector::new(
             self.rt,
             self.alloc,
             self.port,

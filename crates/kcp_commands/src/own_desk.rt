@@ -1,19 +1,19 @@
 //! How the controllers of `kcp all` ask the server of their own process.
 ghost use Rattle.std.specs.Prelude.{All};
-ghost use Rattle.shared_desk.specs.Desks.{IsNewAt};
+ghost use Rattle.desk.specs.Desks.{IsNewAt};
 
 use crate::parts::{Answering, Controllers, Own};
-use http_loop::{Listening, Loops, Place, Turns};
-use loopback::{Connector, OwnServer, Reach, Shared};
+use desk::{Anything, Desk, StorePass};
+use http_event_loop::{Listening, LoopPlace, Loops, Turns};
+use kcp_loopback::{LoopbackConnector, OwnServer, Reach, Shared};
 use manager::{Apis, Signals};
-use shared_desk::{Anything, Desk, StorePass};
+use reconcile_types::Looks;
 use std::alloc::{AllocError, Global};
 use std::io;
 use std::net::{Net, TcpListener, TcpStream};
 use std::sync::ledger::Ledger;
 use std::sync::{Mutex, Wait};
 use std::time::Clock;
-use turns::Looks;
 
 /// The desk that the threads of this process share, and the port at which it listens.
 #[derive(Drop)]
@@ -32,11 +32,11 @@ impl<'a, R: Net<Listener = TcpListener, Stream = TcpStream> + Eprint + Wait + Cl
     R,
 > {
     ghost use Rattle.std.specs.Prelude.{◌≡◌, ◌<◌, ◌≤◌, ◌+◌, All, IfOk, OnOk, vec_len};
-    ghost use Rattle.shared_desk.specs.Desks.{IsNewAt};
+    ghost use Rattle.desk.specs.Desks.{IsNewAt};
 
     /// Returns what connects to the port.
-    pub fn connector(&self) -> Connector<'a, R> {
-        Connector::new(
+    pub fn connector(&self) -> LoopbackConnector<'a, R> {
+        LoopbackConnector::new(
             self.rt,
             self.alloc,
             self.port,
@@ -130,7 +130,7 @@ impl<'a, R: Net<Listener = TcpListener, Stream = TcpStream> + Eprint + Wait + Cl
         &self,
         turns: &'a Mutex<Turns<L>>,
         passes: Vec<StorePass>,
-        places: Vec<Place>,
+        places: Vec<LoopPlace>,
         listener: TcpListener,
     ) -> io::Result<Answering<'a, R, L>>
         requires new { All (IsNewAt self.now.desk.now) passes.items }

@@ -1,8 +1,8 @@
 //! What `kcp all` runs in threads beside its lines.
 use crate::controlling::MOST_WORKERS;
-use loopback::{Connector, OwnServer, SeatedLoop};
+use http_listener::{ListenFault, run_row};
+use kcp_loopback::{LoopbackConnector, OwnServer, SeatedLoop};
 use manager::{Apis, Open, Signals};
-use serving::{ServeFault, run_row};
 use std::alloc::{AllocError, Global};
 use std::net::{Net, TcpListener, TcpStream};
 use std::sync::Wait;
@@ -11,7 +11,7 @@ use std::thread::Threads;
 use std::time::Clock;
 
 /// How the server of this process is asked: at its desk, and over connections for lists and watches.
-pub type Own<'a, R> = OwnServer<'a, R, Connector<'a, R>>;
+pub type Own<'a, R> = OwnServer<'a, R, LoopbackConnector<'a, R>>;
 
 /// The controllers, and how they ask.
 #[derive(Drop)]
@@ -52,7 +52,7 @@ where
     L: Ledger + Send + Sync,
 {
     /// Answers connections until all is to stop.
-    pub fn run(self) -> Result<(), ServeFault> {
+    pub fn run(self) -> Result<(), ListenFault> {
         let Answering { rt, event_loops } = self;
         let mut event_loops = event_loops;
         run_row(rt, event_loops.as_mut_slice())

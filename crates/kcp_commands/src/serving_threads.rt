@@ -1,16 +1,16 @@
 //! `kcp serve`: a server whose connections some loops answer, each on a thread of its own.
 ghost use Rattle.std.specs.Prelude.{◌≡◌, ◌<◌, ◌^◌, ◌⊎◌, ℕ, IfErr, IfSome, OnErr, OnOk, max, true};
-ghost use Rattle.commands.specs.Answered.{AreNew, HaveAnswered, HaveAnsweredSome};
+ghost use Rattle.kcp_commands.specs.Answered.{AreNew, HaveAnswered, HaveAnsweredSome};
 ghost use Rattle.std.specs.Io.KnownBytes.{Appends};
 ghost use Rattle.std.specs.Option.{is_some};
-ghost use Rattle.loopback.specs.Threads.{HaveServed, HaveServedSome};
-ghost use Rattle.serving.specs.Serving.{listening};
+ghost use Rattle.kcp_loopback.specs.Threads.{HaveServed, HaveServedSome};
+ghost use Rattle.http_listener.specs.Serving.{listening};
 
-use http_loop::{Listening, Loops, Turns, count_taken};
-use loopback::{SeatedLoop, Shared};
-use options::ServeOptions;
-use serving::{ServeFault, announce, bind, not_listening, run_row};
-use shared_desk::{Anything, Desk};
+use desk::{Anything, Desk};
+use http_event_loop::{Listening, Loops, Turns, count_taken};
+use http_listener::{ListenFault, announce, bind, not_listening, run_row};
+use kcp_loopback::{SeatedLoop, Shared};
+use kcp_options::ServeOptions;
 use std::alloc::Global;
 use std::io::Write;
 use std::marker::Brand;
@@ -21,12 +21,12 @@ use std::thread::Threads;
 use std::time::Clock;
 
 /// Returns why nothing is served: out of memory, or the port cannot be listened on.
-fn not_served(fault: ServeFault) -> ServeFault
-    ensures { (result ≡ ServeFault.NoMemory) ⊎ (result ≡ ServeFault.Listen) }
+fn not_served(fault: ListenFault) -> ListenFault
+    ensures { (result ≡ ListenFault.NoMemory) ⊎ (result ≡ ListenFault.Listen) }
 {
     match fault {
-        ServeFault::NoMemory => ServeFault::NoMemory,
-        ServeFault::Listen | ServeFault::Write => ServeFault::Listen,
+        ListenFault::NoMemory => ListenFault::NoMemory,
+        ListenFault::Listen | ListenFault::Write => ListenFault::Listen,
     }
 }
 
@@ -37,7 +37,7 @@ fn run_loops<R, W, L>(
     port: u16,
     row: Vec<SeatedLoop<'_, R, L>>,
     writer: &mut W,
-) -> Result<(), ServeFault>
+) -> Result<(), ListenFault>
 where
     R: Threads + Wait + Clock + Sync,
     W: Write,
@@ -58,7 +58,7 @@ where
     if limit == Some(served) {
         Ok(())
     } else {
-        Err(ServeFault::Listen)
+        Err(ListenFault::Listen)
     }
 }
 
@@ -70,7 +70,7 @@ fn serve_most<R, W, L>(
     most: u64,
     blank: Blank,
     writer: &mut W,
-) -> Result<(), ServeFault>
+) -> Result<(), ListenFault>
 where
     R: Net<Listener = TcpListener, Stream = TcpStream> + Threads + Wait + Clock + Sync,
     W: Write,
@@ -83,11 +83,11 @@ where
     ensures ended { OnOk result (is_some options.requests ≡ true) }
     ensures ok { OnOk result (IfSome options.requests (HaveServed R options.window (max options.threads 1))) }
     ensures err { IfErr result (λ fault. HaveServedSome R options.window (max options.threads 1) options.requests
-        ⊎ (((fault ≡ ServeFault.NoMemory) ⊎ (fault ≡ ServeFault.Listen)) × (writer.new ≡ writer.old))) }
+        ⊎ (((fault ≡ ListenFault.NoMemory) ⊎ (fault ≡ ListenFault.Listen)) × (writer.new ≡ writer.old))) }
 {
     let threads = options.threads.max(1);
     let Ok((desk, passes)) = Desk::<Anything>::open(alloc, options.window, threads) else {
-        return Err(ServeFault::NoMemory);
+        return Err(ListenFault::NoMemory);
     };
     let (loops, places) = match Loops::open(rt, alloc, threads) {
         Ok(opened) => opened,
@@ -129,7 +129,7 @@ pub fn serve<R, W>(
     alloc: Global,
     options: ServeOptions,
     writer: &mut W,
-) -> Result<(), ServeFault>
+) -> Result<(), ListenFault>
 where
     R: Net<Listener = TcpListener, Stream = TcpStream> + Threads + Wait + Clock + Sync,
     W: Write,
@@ -137,7 +137,7 @@ where
     ensures ended { OnOk result (is_some options.requests ≡ true) }
     ensures ok { OnOk result (IfSome options.requests (HaveServed R options.window (max options.threads 1))) }
     ensures err { IfErr result (λ fault. HaveServedSome R options.window (max options.threads 1) options.requests
-        ⊎ (((fault ≡ ServeFault.NoMemory) ⊎ (fault ≡ ServeFault.Listen)) × (writer.new ≡ writer.old))) }
+        ⊎ (((fault ≡ ListenFault.NoMemory) ⊎ (fault ≡ ListenFault.Listen)) × (writer.new ≡ writer.old))) }
 {
     let most = options.requests.unwrap_or(u64::MAX);
     serve_most::<R, W, Brand>(rt, alloc, options, most, Blank::new(most), writer)

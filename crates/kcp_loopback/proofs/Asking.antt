@@ -1,24 +1,24 @@
 -- A request that is asked as its text is read.
 use Rattle.std.proofs.Common.{◌≡◌, inl, inr, ℕ, List, Bool, true, false, Ok, Err, refl, sym, subst, ◌∙◌}
 use Rattle.std.specs.Prelude.{if◌then◌else◌, string_bytes}
-use Rattle.asked.specs.Asked as read
-use Rattle.client.specs.declared.answer.Answer.{Answer}
-use Rattle.client.specs.declared.answer.Answer.TheVariants.{Replied, NotSent, Lost}
-use Rattle.definitions.specs.ObjectRequests.{Request}
-use Rattle.definitions.specs.Refusals.{Refusal, too_large}
-use Rattle.definitions.specs.Targets as targets
-use Rattle.definitions.specs.Targets.{is_too_long, read_request}
-use Rattle.definitions.specs.Verbs.{refused}
-use Rattle.keys.specs.Faults.{refusal_of}
-use Rattle.keys.specs.declared.fault.Fault.{Fault}
-use Rattle.request_texts.specs.Texts.{can_be_told, taken}
-use Rattle.request_texts.specs.Told as texts
-use Rattle.request_texts.specs.declared.text.RequestText.{RequestText}
-use Rattle.shared_desk.specs.declared.askings.Anything.{Anything}
-use Rattle.shared_desk.specs.declared.seats.Seat.{Seat}
-use Rattle.loopback.specs.Asking.{Asks, IsAsked, IsAskedOrNotSent, IsNotAsked}
-use Rattle.loopback.specs.Told.{Says, TellsResult}
-use Rattle.loopback.specs.declared.ringing.Ringer.{Ringer}
+use Rattle.request_decoding.specs.Asked as read
+use Rattle.http_client.specs.declared.answer.Answer.{Answer}
+use Rattle.http_client.specs.declared.answer.Answer.TheVariants.{Replied, NotSent, Lost}
+use Rattle.spec_api.specs.ObjectRequests.{Request}
+use Rattle.spec_api.specs.Refusals.{Refusal, too_large}
+use Rattle.spec_api.specs.Targets as targets
+use Rattle.spec_api.specs.Targets.{is_too_long, read_request}
+use Rattle.spec_api.specs.Verbs.{refused}
+use Rattle.object_keys.specs.Faults.{refusal_of}
+use Rattle.object_keys.specs.declared.fault.Fault.{Fault}
+use Rattle.request_encoding.specs.Texts.{can_be_told, taken}
+use Rattle.request_encoding.specs.Told as texts
+use Rattle.request_encoding.specs.declared.text.RequestText.{RequestText}
+use Rattle.desk.specs.declared.askings.Anything.{Anything}
+use Rattle.desk.specs.declared.seats.Seat.{Seat}
+use Rattle.kcp_loopback.specs.Asking.{Asks, IsAsked, IsAskedOrNotSent, IsNotAsked}
+use Rattle.kcp_loopback.specs.Told.{Says, TellsResult}
+use Rattle.kcp_loopback.specs.declared.ringing.Ringer.{Ringer}
 
 -- what is taken for a request of this length is that request
 taken_as : (long : Bool) (q r : Request) → (if long then Err too_large else Ok (targets.request q)) ≡ Ok (targets.request r) → (long ≡ false) × (r ≡ q)

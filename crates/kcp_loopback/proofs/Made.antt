@@ -1,14 +1,14 @@
 -- What is made of passes, the last of them first.
 use Rattle.std.proofs.Common.{◌≡◌, List, [], ◌∷◌, ◌++◌, length, map, reverse, ap, sym, subst, ◌∙◌, append_assoc}
 use Rattle.std.proofs.lemmas.List.{length-map, length-reverse, map-append, reverse-append, reverse-reverse}
-use Rattle.shared_desk.specs.Desks.{IsPassAt}
-use Rattle.shared_desk.specs.Seats.{desk_at, known_at}
-use Rattle.shared_desk.specs.declared.askings.Anything.{Anything}
-use Rattle.shared_desk.specs.declared.desks.Desk.{Desk}
-use Rattle.loopback.specs.Serving.{IsNewOf, seat_of}
-use Rattle.http_loop.specs.declared.event_loop.EventLoop.{EventLoop}
-use Rattle.shared_desk.specs.declared.seats.Seat.{Seat}
-use Rattle.loopback.specs.declared.ringing.Ringer.{Ringer}
+use Rattle.desk.specs.Desks.{IsPassAt}
+use Rattle.desk.specs.Seats.{desk_at, known_at}
+use Rattle.desk.specs.declared.askings.Anything.{Anything}
+use Rattle.desk.specs.declared.desks.Desk.{Desk}
+use Rattle.kcp_loopback.specs.Serving.{IsNewOf, seat_of}
+use Rattle.http_event_loop.specs.declared.event_loop.EventLoop.{EventLoop}
+use Rattle.desk.specs.declared.seats.Seat.{Seat}
+use Rattle.kcp_loopback.specs.declared.ringing.Ringer.{Ringer}
 
 module _ {P C K : Type 0} (known : P → K) (knows : C → K) where
   -- one more is made of the last pass that was left

@@ -3,44 +3,44 @@ use denote.Hole.{as_row}
 use denote.Param.Send.{IsSend, IsSync, sendable}
 use denote.Param.SendFields.{declared_send}
 use Rattle.std.proofs.Crossing as heap
-use Rattle.shared_desk.specs.contracts.desks.Desk as Desk
-use Rattle.shared_desk.specs.contracts.askings.Anything as Anything
-use Rattle.shared_desk.specs.contracts.askings.AnythingAsking.TheImpl as asks
+use Rattle.desk.specs.contracts.desks.Desk as Desk
+use Rattle.desk.specs.contracts.askings.Anything as Anything
+use Rattle.desk.specs.contracts.askings.AnythingAsking.TheImpl as asks
 use denote.RattleType.{RattleType}
 use denote.Ref.{NamedLft, ShrRef}
 use denote.Struct.Field as Field
-use Rattle.shared_desk.specs.contracts.seats.Seat as Seat
+use Rattle.desk.specs.contracts.seats.Seat as Seat
 use Rattle.std.proofs.MapsCrossing as maps
 use Rattle.std.specs.contracts.alloc.Global as Global
-use Rattle.bells.proofs.stop.Stop.TheSendSync as stop
-use Rattle.bells.specs.contracts.stop.Stop as Stop
-use Rattle.routes.below.matchit.proofs.route.Route.TheSendSync as route
-use Rattle.routes.below.matchit.proofs.tree.Node.TheLaws.TheKnot as knot
-use Rattle.routes.below.slab.proofs.Entry.TheSendSync as place
-use Rattle.routes.below.slab.proofs.Slab.TheSendSync as slab
-use Rattle.routes.proofs.entries.Entry.TheSendSync as entry
-use Rattle.routes.specs.contracts.table.Routes as Routes
-use Rattle.loopback.specs.contracts.ringing.Ringer as Ringer
-use Rattle.loopback.specs.contracts.connecting.Connector as Connector
-use Rattle.loopback.specs.contracts.heard.Heard as Heard
-use Rattle.loopback.specs.contracts.telling.Teller as Teller
-use Rattle.loopback.specs.contracts.other_server.OtherServer as OtherServer
-use Rattle.loopback.specs.contracts.own_server.OwnServer as OwnServer
-use Rattle.loopback.specs.contracts.reach.Reach as Reach
-use Rattle.patience.proofs.patient.Patient.TheSendSync as patient
-use Rattle.patience.specs.contracts.patient.Patient as Patient
-use Rattle.remote.proofs.asking.Remote.TheSendSync as remote_of
-use Rattle.remote.specs.contracts.asking.Remote as Remote
+use Rattle.wakeups.proofs.stop.Stop.TheSendSync as stop
+use Rattle.wakeups.specs.contracts.stop.Stop as Stop
+use Rattle.request_routing.below.matchit.proofs.route.Route.TheSendSync as route
+use Rattle.request_routing.below.matchit.proofs.tree.Node.TheLaws.TheKnot as knot
+use Rattle.request_routing.below.slab.proofs.Entry.TheSendSync as place
+use Rattle.request_routing.below.slab.proofs.Slab.TheSendSync as slab
+use Rattle.request_routing.proofs.entries.RouteEntry.TheSendSync as entry
+use Rattle.request_routing.specs.contracts.table.Routes as Routes
+use Rattle.kcp_loopback.specs.contracts.ringing.Ringer as Ringer
+use Rattle.kcp_loopback.specs.contracts.connecting.LoopbackConnector as Connector
+use Rattle.kcp_loopback.specs.contracts.heard.Heard as Heard
+use Rattle.kcp_loopback.specs.contracts.telling.Teller as Teller
+use Rattle.kcp_loopback.specs.contracts.other_server.OtherServer as OtherServer
+use Rattle.kcp_loopback.specs.contracts.own_server.OwnServer as OwnServer
+use Rattle.kcp_loopback.specs.contracts.reach.Reach as Reach
+use Rattle.cancellable_reader.proofs.patient.Patient.TheSendSync as patient
+use Rattle.cancellable_reader.specs.contracts.patient.Patient as Patient
+use Rattle.api_client.proofs.asking.Remote.TheSendSync as remote_of
+use Rattle.api_client.specs.contracts.asking.Remote as Remote
 use Rattle.std.proofs.io.buffered.BufReader.TheSendSync as buffered
 use Rattle.std.proofs.net.tcp.TcpStream.TheSendSync as stream
 use Rattle.std.specs.contracts.io.buffered.BufReader as BufReader
 use Rattle.std.specs.contracts.net.tcp.TcpStream as TcpStream
 use Rattle.std.specs.contracts.impls.GlobalAllocator.TheImpl.{ghosts}
 use Rattle.std.specs.declared.sync.ledger.Ledger.{Ghosts}
-use Rattle.http_loop.proofs.Sent.{event_loop, shared}
-use Rattle.http_loop.specs.contracts.event_loop.EventLoop as EventLoop
-use Rattle.http_loop.specs.contracts.loops.Loops as Loops
-use Rattle.shared_desk.proofs.Sent.{desk, pass_field}
+use Rattle.http_event_loop.proofs.Sent.{event_loop, shared}
+use Rattle.http_event_loop.specs.contracts.event_loop.EventLoop as EventLoop
+use Rattle.http_event_loop.specs.contracts.loops.Loops as Loops
+use Rattle.desk.proofs.Sent.{desk, pass_field}
 
 -- a seat, where its listener may be sent, and its runtime lent
 module _ (a : NamedLft) (L R : RattleType) (l : IsSend L) (r : IsSync R) where

@@ -3,20 +3,20 @@ use Rattle.std.proofs.Common.{inl, inr, ℕ, zero, suc, List, Bool, Some, Result
 use Rattle.api.specs.Responding.{Responds}
 use Rattle.api.specs.declared.response.Response.{Response}
 use Rattle.api.specs.declared.response.Response.TheVariants as response
-use Rattle.definitions.specs.History.{View}
-use Rattle.definitions.specs.Refusals.{Refusal}
-use Rattle.definitions.specs.Targets as targets
-use Rattle.definitions.specs.declared.versions.Start.{Start}
-use Rattle.definitions.specs.declared.versions.Start.TheVariants.{After, Listed, Streamed, Present}
-use Rattle.http_loop.specs.Asked.{AreAsked, AreLooks, IsRequest}
-use Rattle.shared_desk.specs.Askings.{IsAny}
-use Rattle.shared_desk.specs.Seats.{Begins, Calls, Lists, Stays, Watches}
-use Rattle.shared_desk.specs.declared.askings.Anything.{Anything}
-use Rattle.shared_desk.specs.declared.seats.Seat.{Seat}
-use Rattle.watch_service.specs.Watches.{Opening, Opens}
-use Rattle.loopback.specs.Asking.{Rings}
-use Rattle.loopback.specs.Serving.{Asks}
-use Rattle.loopback.specs.declared.ringing.Ringer.{Ringer}
+use Rattle.spec_api.specs.History.{View}
+use Rattle.spec_api.specs.Refusals.{Refusal}
+use Rattle.spec_api.specs.Targets as targets
+use Rattle.spec_api.specs.declared.versions.Start.{Start}
+use Rattle.spec_api.specs.declared.versions.Start.TheVariants.{After, Listed, Streamed, Present}
+use Rattle.http_event_loop.specs.Asked.{AreAsked, AreLooks, IsRequest}
+use Rattle.desk.specs.Askings.{IsAny}
+use Rattle.desk.specs.Seats.{Begins, Calls, Lists, Stays, Watches}
+use Rattle.desk.specs.declared.askings.Anything.{Anything}
+use Rattle.desk.specs.declared.seats.Seat.{Seat}
+use Rattle.http_watch.specs.Watches.{Opening, Opens}
+use Rattle.kcp_loopback.specs.Asking.{Rings}
+use Rattle.kcp_loopback.specs.Serving.{Asks}
+use Rattle.kcp_loopback.specs.declared.ringing.Ringer.{Ringer}
 
 module _ {R : Type 0} where
   opened : (v : View) (bookmarks : Bool) (start : Start) (s t : Seat Anything Ringer R) (r : Result Opening Refusal) → Opens (Begins IsAny) (Watches IsAny) v bookmarks s start r t → Stays s t

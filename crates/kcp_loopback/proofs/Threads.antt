@@ -4,21 +4,21 @@ use Rattle.std.specs.List.{range_with_len}
 use Rattle.std.proofs.lemmas.List.{length-map, map-append, reverse-append}
 use Rattle.std.proofs.lemmas.List.Elements.{All-head, All-map, All-tail, All-weaker}
 use Rattle.std.proofs.lemmas.Simd.{map-map}
-use Rattle.http_loop.specs.Asked.{HasAsked}
-use Rattle.http_loop.specs.Counted.{taken_over}
-use Rattle.http_loop.specs.declared.event_loop.EventLoop.{EventLoop}
-use Rattle.serving.specs.Rows.{RunsEach, ServesEach}
-use Rattle.shared_desk.specs.Askings.{IsAny}
-use Rattle.shared_desk.specs.Desks.{window_size}
-use Rattle.shared_desk.specs.Seats.{Begins, Calls, Lists, Stays, Watches}
-use Rattle.shared_desk.specs.declared.askings.Anything.{Anything}
-use Rattle.shared_desk.specs.declared.desks.Desk.{Desk}
-use Rattle.shared_desk.specs.declared.seats.Seat.{Seat}
-use Rattle.loopback.specs.Asking.{Rings}
-use Rattle.loopback.specs.Serving.{IsNewOf, IsNewSeat, IsServed, name_of, seat_of}
-use Rattle.loopback.specs.Threads.{Begin}
-use Rattle.loopback.specs.declared.ringing.Ringer.{Ringer}
-use Rattle.loopback.proofs.Serving.{stays}
+use Rattle.http_event_loop.specs.Asked.{HasAsked}
+use Rattle.http_event_loop.specs.Counted.{taken_over}
+use Rattle.http_event_loop.specs.declared.event_loop.EventLoop.{EventLoop}
+use Rattle.http_listener.specs.Rows.{RunsEach, ServesEach}
+use Rattle.desk.specs.Askings.{IsAny}
+use Rattle.desk.specs.Desks.{window_size}
+use Rattle.desk.specs.Seats.{Begins, Calls, Lists, Stays, Watches}
+use Rattle.desk.specs.declared.askings.Anything.{Anything}
+use Rattle.desk.specs.declared.desks.Desk.{Desk}
+use Rattle.desk.specs.declared.seats.Seat.{Seat}
+use Rattle.kcp_loopback.specs.Asking.{Rings}
+use Rattle.kcp_loopback.specs.Serving.{IsNewOf, IsNewSeat, IsServed, name_of, seat_of}
+use Rattle.kcp_loopback.specs.Threads.{Begin}
+use Rattle.kcp_loopback.specs.declared.ringing.Ringer.{Ringer}
+use Rattle.kcp_loopback.proofs.Serving.{stays}
 
 module _ {A B : Type 0} (f : A → B) where
   map_reversed : (xs : List A) → map f (reverse xs) ≡ reverse (map f xs)

@@ -1,24 +1,24 @@
 -- What is asked at the seat of a server of the same process, as a relation between the seat before and after.
 use Rattle.std.specs.Prelude.{◌≡◌, ◌⊎◌, ℕ, List, Bool, true, false, string_bytes}
-use Rattle.client.specs.declared.answer.Answer.{Answer}
-use Rattle.client.specs.declared.answer.Answer.TheVariants.{Replied, NotSent, Lost}
+use Rattle.http_client.specs.declared.answer.Answer.{Answer}
+use Rattle.http_client.specs.declared.answer.Answer.TheVariants.{Replied, NotSent, Lost}
 use Rattle.clocks.specs.Seconds.{IsTextSince1970}
-use Rattle.definitions.specs.declared.kinds.Kind.{Kind}
-use Rattle.definitions.specs.ObjectRequests.{Request}
-use Rattle.definitions.specs.Refusals.{too_large}
-use Rattle.definitions.specs.Targets.{is_too_long}
-use Rattle.definitions.specs.Verbs.{Outcome, refused}
-use Rattle.remote.specs.declared.asking.Remote.{Remote}
-use Rattle.request_texts.specs.Texts.{can_be_told}
-use Rattle.request_texts.specs.Told as texts
-use Rattle.request_texts.specs.declared.text.RequestText.{RequestText}
-use Rattle.shared_desk.specs.Askings.{IsAny}
-use Rattle.shared_desk.specs.Seats.{Calls}
-use Rattle.shared_desk.specs.declared.askings.Anything.{Anything}
-use Rattle.shared_desk.specs.declared.seats.Seat.{Seat}
-use Rattle.loopback.specs.Told.{Says, Tells}
-use Rattle.loopback.specs.declared.ringing.Ringer.{Ringer}
-use Rattle.loopback.specs.declared.own_server.OwnServer.{OwnServer}
+use Rattle.spec_api.specs.declared.kinds.Kind.{Kind}
+use Rattle.spec_api.specs.ObjectRequests.{Request}
+use Rattle.spec_api.specs.Refusals.{too_large}
+use Rattle.spec_api.specs.Targets.{is_too_long}
+use Rattle.spec_api.specs.Verbs.{Outcome, refused}
+use Rattle.api_client.specs.declared.asking.Remote.{Remote}
+use Rattle.request_encoding.specs.Texts.{can_be_told}
+use Rattle.request_encoding.specs.Told as texts
+use Rattle.request_encoding.specs.declared.text.RequestText.{RequestText}
+use Rattle.desk.specs.Askings.{IsAny}
+use Rattle.desk.specs.Seats.{Calls}
+use Rattle.desk.specs.declared.askings.Anything.{Anything}
+use Rattle.desk.specs.declared.seats.Seat.{Seat}
+use Rattle.kcp_loopback.specs.Told.{Says, Tells}
+use Rattle.kcp_loopback.specs.declared.ringing.Ringer.{Ringer}
+use Rattle.kcp_loopback.specs.declared.own_server.OwnServer.{OwnServer}
 
 -- the seat of a server, and what connects to it
 module _ {R C I O : Type 0} where

@@ -1,6 +1,6 @@
 -- What came of a connection, and whether it can be a reply.
 use Rattle.std.specs.Prelude.{ℕ, List, Bool, length, take, min, bytes_eq}
-use Rattle.loopback.specs.declared.heard.Heard.{Heard}
+use Rattle.kcp_loopback.specs.declared.heard.Heard.{Heard}
 
 -- the stream that is read
 abbrev pub stream_of : {R S : Type 0} → Heard R S → S

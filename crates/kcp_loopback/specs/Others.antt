@@ -1,5 +1,5 @@
 -- A server of another process.
-use Rattle.loopback.specs.declared.other_server.OtherServer.{OtherServer}
+use Rattle.kcp_loopback.specs.declared.other_server.OtherServer.{OtherServer}
 
 -- what asks it
 abbrev pub api_of : {R A : Type 0} → OtherServer R A → A

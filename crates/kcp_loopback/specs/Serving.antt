@@ -1,15 +1,15 @@
 -- What connections make of the seat of the loop that answers them.
 use Rattle.std.specs.Prelude.{◌≡◌, ◌≤◌, ℕ}
-use Rattle.http_loop.specs.Asked.{AreAsked}
-use Rattle.http_loop.specs.declared.event_loop.EventLoop.{EventLoop}
-use Rattle.shared_desk.specs.Askings.{IsAny}
-use Rattle.shared_desk.specs.Desks.{IsNewAt}
-use Rattle.shared_desk.specs.Seats.{desk_at, known_at, Stays, Calls, Lists, Watches, Begins}
-use Rattle.shared_desk.specs.declared.askings.Anything.{Anything}
-use Rattle.shared_desk.specs.declared.desks.Desk.{Desk}
-use Rattle.shared_desk.specs.declared.seats.Seat.{Seat}
-use Rattle.loopback.specs.Asking.{Rings}
-use Rattle.loopback.specs.declared.ringing.Ringer.{Ringer}
+use Rattle.http_event_loop.specs.Asked.{AreAsked}
+use Rattle.http_event_loop.specs.declared.event_loop.EventLoop.{EventLoop}
+use Rattle.desk.specs.Askings.{IsAny}
+use Rattle.desk.specs.Desks.{IsNewAt}
+use Rattle.desk.specs.Seats.{desk_at, known_at, Stays, Calls, Lists, Watches, Begins}
+use Rattle.desk.specs.declared.askings.Anything.{Anything}
+use Rattle.desk.specs.declared.desks.Desk.{Desk}
+use Rattle.desk.specs.declared.seats.Seat.{Seat}
+use Rattle.kcp_loopback.specs.Asking.{Rings}
+use Rattle.kcp_loopback.specs.declared.ringing.Ringer.{Ringer}
 
 module _ {R : Type 0} where
   -- so many things are asked at a seat, each of them a request, a list or the beginning of a watch, with looks of watches between them

@@ -1,13 +1,13 @@
 -- What the loops of a server have done.
 use Rattle.std.specs.Prelude.{◌≡◌, ℕ, List, All, Option, length, map, reverse}
 use Rattle.std.specs.List.{range_with_len}
-use Rattle.serving.specs.Rows.{ServesEach, ServesEachSome}
-use Rattle.shared_desk.specs.Desks.{window_size}
-use Rattle.shared_desk.specs.declared.askings.Anything.{Anything}
-use Rattle.shared_desk.specs.declared.desks.Desk.{Desk}
-use Rattle.shared_desk.specs.declared.seats.Seat.{Seat}
-use Rattle.loopback.specs.Serving.{IsNewSeat, IsServed, name_of}
-use Rattle.loopback.specs.declared.ringing.Ringer.{Ringer}
+use Rattle.http_listener.specs.Rows.{ServesEach, ServesEachSome}
+use Rattle.desk.specs.Desks.{window_size}
+use Rattle.desk.specs.declared.askings.Anything.{Anything}
+use Rattle.desk.specs.declared.desks.Desk.{Desk}
+use Rattle.desk.specs.declared.seats.Seat.{Seat}
+use Rattle.kcp_loopback.specs.Serving.{IsNewSeat, IsServed, name_of}
+use Rattle.kcp_loopback.specs.declared.ringing.Ringer.{Ringer}
 
 module _ (R : Type 0) where
   -- a desk opened with windows of this size, and this many loops begin at seats of it: no one has seen or made anything yet, and each has a name

@@ -1,17 +1,17 @@
 -- What a client is told of an outcome.
 use Rattle.std.specs.Prelude.{◌≡◌, None, Result, Ok, Err, string_bytes}
 use Rattle.serde_json.specs.Written.{compact_text}
-use Rattle.client.specs.declared.answer.Answer.{Answer}
-use Rattle.client.specs.declared.answer.Answer.TheVariants.{Replied, NotSent, Lost}
-use Rattle.client.specs.declared.reply.Reply as client
-use Rattle.definitions.specs.Verbs.{Outcome, refused, outcome_code, outcome_body, write_of}
-use Rattle.keys.specs.Faults.{refusal_of}
-use Rattle.keys.specs.declared.fault.Fault.{Fault}
-use Rattle.keys.specs.declared.fault.Fault.TheVariants as fault
+use Rattle.http_client.specs.declared.answer.Answer.{Answer}
+use Rattle.http_client.specs.declared.answer.Answer.TheVariants.{Replied, NotSent, Lost}
+use Rattle.http_client.specs.declared.reply.HttpReply as client
+use Rattle.spec_api.specs.Verbs.{Outcome, refused, outcome_code, outcome_body, write_of}
+use Rattle.object_keys.specs.Faults.{refusal_of}
+use Rattle.object_keys.specs.declared.fault.Fault.{Fault}
+use Rattle.object_keys.specs.declared.fault.Fault.TheVariants as fault
 use Rattle.reply.specs.declared.reply.Reply.{Reply}
 
 -- the reply has the code of the outcome, and its body as compact text
-abbrev pub Says : Outcome → client.Reply → Type 0
+abbrev pub Says : Outcome → client.HttpReply → Type 0
 Says o p = (p.code ≡ outcome_code o) × (p.body.items ≡ compact_text (outcome_body o))
 
 -- a client is told of an outcome by a reply that says it; or, where there is no memory for a reply, that nothing was sent, and then nothing was written

@@ -1,12 +1,12 @@
 //! What answers the connections of a server.
 ghost use Rattle.std.specs.Prelude.{◌≡◌, All, IfOk, length, map, reverse};
-ghost use Rattle.loopback.specs.Serving.{IsNewOf, seat_of};
-ghost use Rattle.shared_desk.specs.Desks.{IsNewAt, IsPassAt, known};
-ghost use Rattle.shared_desk.specs.Seats.{desk_at, known_at};
+ghost use Rattle.kcp_loopback.specs.Serving.{IsNewOf, seat_of};
+ghost use Rattle.desk.specs.Desks.{IsNewAt, IsPassAt, known};
+ghost use Rattle.desk.specs.Seats.{desk_at, known_at};
 
 use crate::ringing::Ringer;
-use http_loop::{EventLoop, Listening, Loops, Place, Turns};
-use shared_desk::{Anything, Desk, Seat, StorePass};
+use desk::{Anything, Desk, Seat, StorePass};
+use http_event_loop::{EventLoop, Listening, LoopPlace, Loops, Turns};
 use std::alloc::Global;
 use std::io;
 use std::sync::ledger::Ledger;
@@ -30,7 +30,7 @@ impl<'a, R: Wait, L: Ledger> Shared<'a, R, L> {
     fn event_loop(
         &self,
         pass: StorePass,
-        place: Place,
+        place: LoopPlace,
         listening: Option<Listening>,
     ) -> io::Result<SeatedLoop<'a, R, L>>
         requires { IsPassAt self.now.desk.now pass }
@@ -54,7 +54,7 @@ impl<'a, R: Wait, L: Ledger> Shared<'a, R, L> {
     pub fn event_loops(
         &self,
         passes: Vec<StorePass>,
-        places: Vec<Place>,
+        places: Vec<LoopPlace>,
         listening: Listening,
     ) -> io::Result<Vec<SeatedLoop<'a, R, L>>>
         requires new { All (IsNewAt self.now.desk.now) passes.items }

@@ -3,15 +3,15 @@ use crate::heard::Heard;
 use crate::reach::Reach;
 use crate::telling::Teller;
 use crate::trouble::Trouble;
-use bells::Stop;
-use patience::Patient;
-use patience::patient::PIECE_MILLISECONDS;
-use remote::Connect;
+use api_client::Connect;
+use cancellable_reader::Patient;
+use cancellable_reader::patient::PIECE_MILLISECONDS;
 use std::alloc::Global;
 use std::io;
 use std::io::{BufReader, ErrorKind};
 use std::net::{Ipv4Addr, Net, TcpStream};
 use std::time::Duration;
+use wakeups::Stop;
 
 /// After how many seconds without a byte a connection is given up.
 const PATIENCE_SECONDS: u32 = 60;
@@ -21,7 +21,7 @@ type Reading<'a, R> = BufReader<Heard<'a, R, Patient<'a, TcpStream>>>;
 
 /// Connects to a server of the loopback address, again for each request, until a stop.
 #[derive(Drop)]
-pub struct Connector<'a, R> {
+pub struct LoopbackConnector<'a, R> {
     rt: &'a R,
     alloc: Global,
     port: u16,
@@ -29,7 +29,7 @@ pub struct Connector<'a, R> {
     reach: &'a Reach,
 }
 
-impl<'a, R> Connector<'a, R> {
+impl<'a, R> LoopbackConnector<'a, R> {
     /// Returns what connects to a port.
     pub fn new(
         rt: &'a R,
@@ -37,8 +37,8 @@ impl<'a, R> Connector<'a, R> {
         port: u16,
         stop: &'a Stop,
         reach: &'a Reach,
-    ) -> Connector<'a, R> {
-        Connector {
+    ) -> LoopbackConnector<'a, R> {
+        LoopbackConnector {
             rt,
             alloc,
             port,
@@ -48,7 +48,7 @@ impl<'a, R> Connector<'a, R> {
     }
 }
 
-impl<'a, R: Net<Stream = TcpStream> + Eprint> Connector<'a, R> {
+impl<'a, R: Net<Stream = TcpStream> + Eprint> LoopbackConnector<'a, R> {
     /// Returns a stream to the port, and notes whether there is one.
     fn reach(&self) -> io::Result<TcpStream> {
         let reached = TcpStream::connect(self.rt, (Ipv4Addr::LOCALHOST, self.port));
@@ -90,7 +90,7 @@ impl<'a, R: Net<Stream = TcpStream> + Eprint> Connector<'a, R> {
     }
 }
 
-impl<'a, R: Net<Stream = TcpStream> + Eprint> Connect for Connector<'a, R> {
+impl<'a, R: Net<Stream = TcpStream> + Eprint> Connect for LoopbackConnector<'a, R> {
     type Reader = Reading<'a, R>;
 
     type Writer = TcpStream;

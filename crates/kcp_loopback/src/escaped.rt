@@ -1,6 +1,6 @@
 //! Bytes as a terminal may be shown them.
 ghost use Rattle.std.specs.Prelude.{◌≡◌, ◌++◌, ◌<◌, IfOk, OnOk, flat_map, string_bytes};
-ghost use Rattle.loopback.specs.Escaped.{escaped, is_printable, hex_digit, shown};
+ghost use Rattle.kcp_loopback.specs.Escaped.{escaped, is_printable, hex_digit, shown};
 
 use std::alloc::{AllocError, Global};
 

@@ -2,7 +2,7 @@
 ghost use Rattle.std.specs.Prelude.{◌≡◌};
 ghost use Rattle.std.specs.Io.{ReadsAtMost};
 ghost use Rattle.std.specs.Io.KnownBytes.{ReadConsumes};
-ghost use Rattle.loopback.specs.Heard.{may_begin, stream_of};
+ghost use Rattle.kcp_loopback.specs.Heard.{may_begin, stream_of};
 
 use crate::telling::Teller;
 use crate::trouble::Trouble;

@@ -13,7 +13,7 @@ pub mod telling;
 pub mod trouble;
 
 pub use answering::{SeatedLoop, Shared};
-pub use connecting::Connector;
+pub use connecting::LoopbackConnector;
 pub use other_server::OtherServer;
 pub use own_server::{OwnServer, answer_of};
 pub use reach::Reach;

@@ -1,13 +1,13 @@
 //! A server of another process, whose end is seen.
 ghost use Rattle.std.specs.Prelude.{◌≡◌};
-ghost use Rattle.loopback.specs.Others.{api_of};
+ghost use Rattle.kcp_loopback.specs.Others.{api_of};
 
-use crate::connecting::Connector;
+use crate::connecting::LoopbackConnector;
 use crate::trouble::Trouble;
-use client::{Answer, More};
-use definitions::kinds::Kind;
-use remote::{Api, Opened};
-use requests::Request;
+use api_client::{Api, Opened};
+use http_client::{Answer, More};
+use request_parts::Request;
+use spec_api::kinds::Kind;
 use std::alloc::Global;
 use std::net::{Net, TcpStream};
 
@@ -18,13 +18,13 @@ const OK: u16 = 200;
 /// started in its place has an empty store, and is not to be taken for one that goes on, though its first revisions are the same.
 #[derive(Drop)]
 pub struct OtherServer<'a, R, A: Api + Drop> {
-    connector: Connector<'a, R>,
+    connector: LoopbackConnector<'a, R>,
     api: A,
 }
 
 impl<'a, R, A: Api + Drop> OtherServer<'a, R, A> {
     /// Returns the server that an API asks and to which this connects.
-    pub fn new(connector: Connector<'a, R>, api: A) -> OtherServer<'a, R, A> {
+    pub fn new(connector: LoopbackConnector<'a, R>, api: A) -> OtherServer<'a, R, A> {
         OtherServer { connector, api }
     }
 }

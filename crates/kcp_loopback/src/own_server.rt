@@ -1,24 +1,24 @@
 //! The server of the same process, asked without connections.
 ghost use Rattle.std.specs.Prelude.{◌≡◌, IfOk};
-ghost use Rattle.loopback.specs.Asking.{Asks, IsAskedOrNotSent, remote_at, seat_at};
-ghost use Rattle.loopback.specs.Told.{TellsResult};
-ghost use Rattle.requests.specs.Requests.{request_of};
-ghost use Rattle.shared_desk.specs.Desks.{IsPassAt, known};
-ghost use Rattle.shared_desk.specs.Seats.{desk_at, known_at};
+ghost use Rattle.kcp_loopback.specs.Asking.{Asks, IsAskedOrNotSent, remote_at, seat_at};
+ghost use Rattle.kcp_loopback.specs.Told.{TellsResult};
+ghost use Rattle.request_parts.specs.Requests.{request_of};
+ghost use Rattle.desk.specs.Desks.{IsPassAt, known};
+ghost use Rattle.desk.specs.Seats.{desk_at, known_at};
 
 use crate::ringing::Ringer;
-use asked::{Asked, read_request};
-use client::{Answer, More};
+use api_client::{Api, Connect, Opened, Remote};
 use clocks::moment;
-use definitions::kinds::Kind;
-use http_loop::Loops;
-use keys::Fault;
-use remote::{Api, Connect, Opened, Remote};
-use request_texts::{can_be_told, request_text};
-use requests::Request;
-use routes::table::Routes;
-use shared_desk::{Anything, Desk, Seat, StorePass};
-use sites::Site;
+use desk::{Anything, Desk, Seat, StorePass};
+use http_backend::Site;
+use http_client::{Answer, More};
+use http_event_loop::Loops;
+use object_keys::Fault;
+use request_decoding::{Asked, read_request};
+use request_encoding::{can_be_told, request_text};
+use request_parts::Request;
+use request_routing::table::Routes;
+use spec_api::kinds::Kind;
 use std::alloc::{AllocError, Global};
 use std::sync::Wait;
 use std::time::Clock;
@@ -45,7 +45,7 @@ pub fn answer_of(alloc: Global, outcome: Result<reply::Reply, Fault>) -> Answer
             Err(_) => return Answer::NotSent,
         },
     };
-    Answer::Replied(client::Reply {
+    Answer::Replied(http_client::HttpReply {
         code: reply.code,
         body: reply.text.into_bytes(),
     })

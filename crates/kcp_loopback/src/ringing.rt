@@ -1,7 +1,7 @@
 //! Who is told of the writes of a seat.
-use definitions::kinds::Kind;
-use http_loop::Loops;
-use shared_desk::Listener;
+use desk::Listener;
+use http_event_loop::Loops;
+use spec_api::kinds::Kind;
 use std::sync::Wait;
 
 /// Tells all loops of each write, so that the watches of its kind are looked at. A loop that writes itself looks before it waits.
@@ -13,7 +13,7 @@ pub struct Ringer<'a> {
 }
 
 impl Listener for Ringer<'_> {
-    ghost use Rattle.loopback.specs.Asking.{Rings};
+    ghost use Rattle.kcp_loopback.specs.Asking.{Rings};
 
     ghost Hears = { Rings };
 

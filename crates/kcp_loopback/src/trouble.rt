@@ -1,7 +1,7 @@
 //! What keeps a server from answering.
 ghost use Rattle.std.specs.Prelude.{◌≡◌, ◌≢◌, true};
 ghost use Rattle.std.specs.IoError.{error_kind, raw_os_error};
-ghost use Rattle.loopback.specs.Troubles.{LacksDescriptor};
+ghost use Rattle.kcp_loopback.specs.Troubles.{LacksDescriptor};
 
 use std::io;
 use std::io::ErrorKind;

@@ -6,7 +6,7 @@ use Rattle.std.specs.List.{list_all}
 use Rattle.std.specs.Char.{is_ascii_digit}
 use Rattle.std.specs.Str.{all_ascii_digits}
 use Rattle.std.specs.Str.Parse.{digits_value, IsNumeral, without_leading_plus}
-use Rattle.options.specs.Options.{is_number}
+use Rattle.kcp_options.specs.Options.{is_number}
 
 both : (u v : Bool) → (u && v) ≡ true → (u ≡ true) × (v ≡ true)
 both true v h = (refl, h)

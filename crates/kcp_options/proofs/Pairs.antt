@@ -1,8 +1,8 @@
 -- Fewer than two words.
 use Rattle.std.proofs.Common.{◌≡◌, ℕ, ◌<◌, ◌≤◌, ◌==◌, ◌&&◌, ◌-◌, Bool, take, get_or, drop, List, [], ◌∷◌, length, map, string_bytes, String, Global, None, refl, arith}
 use Rattle.std.proofs.Math.Seq.{take-length}
-use Rattle.options.specs.declared.setting.Setting.{Setting}
-use Rattle.options.specs.Options.{value_after, is_option, are_options}
+use Rattle.kcp_options.specs.declared.setting.Setting.{Setting}
+use Rattle.kcp_options.specs.Options.{value_after, is_option, are_options}
 
 -- no word comes after a name
 pub no_value : (name : List ℕ) (words : List (String Global)) → length words < 2 → value_after name (map string_bytes words) ≡ None

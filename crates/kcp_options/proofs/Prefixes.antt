@@ -5,7 +5,7 @@ use Rattle.std.proofs.lemmas.List.{take-append-drop}
 use Rattle.std.proofs.lemmas.Slice.Eq.{bytes_eq-Decides}
 use Rattle.std.specs.Option.{MatchOption}
 use Rattle.std.specs.Str.Pattern.{LacksTextAt, FindsTextPrefix, StripsPrefix}
-use Rattle.options.specs.Options.{after_prefix}
+use Rattle.kcp_options.specs.Options.{after_prefix}
 
 -- a text that lacks the beginning does not begin so
 lacks : (n s : List ℕ) (b : Bool) → bytes_eq n (take (length n) s) ≡ b → LacksTextAt n s 0 → b ≡ false

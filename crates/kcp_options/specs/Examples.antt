@@ -1,14 +1,14 @@
 -- Words, and the commands that they ask, computed from the definitions.
 use Rattle.std.specs.Prelude.{◌≡◌, ℕ, List, [], ◌∷◌, codes, Option, Some, None}
-use Rattle.options.specs.declared.command.Command.{Command}
-use Rattle.options.specs.declared.command.Command.TheVariants.{Replay, Simulate, Serve, Control, All}
-use Rattle.options.specs.Options.{command}
-use Rattle.options.specs.Usages.{usage_asked}
-use Rattle.options.specs.declared.usage.Usage.{Usage}
-use Rattle.options.specs.declared.usage.Usage.TheVariants as usage
+use Rattle.kcp_options.specs.declared.command.Subcommand.{Subcommand}
+use Rattle.kcp_options.specs.declared.command.Subcommand.TheVariants.{Replay, Simulate, Serve, Control, All}
+use Rattle.kcp_options.specs.Options.{command}
+use Rattle.kcp_options.specs.Usages.{usage_asked}
+use Rattle.kcp_options.specs.declared.usage.Usage.{Usage}
+use Rattle.kcp_options.specs.declared.usage.Usage.TheVariants as usage
 
 -- what `serve` is asked by an option and its value
-abbrev pub with_one : List ℕ → List ℕ → Option Command
+abbrev pub with_one : List ℕ → List ℕ → Option Subcommand
 with_one name value = command (codes "serve" ∷ name ∷ value ∷ [])
 
 -- no word, another word, and a word after `replay` or `simulate` ask nothing; alone each asks a command

@@ -5,13 +5,13 @@ use Rattle.std.specs.Option.{unwrap_or, is_some, option_and_then}
 use Rattle.std.specs.Char.{is_ascii_digit}
 use Rattle.std.specs.Str.{bytes_eq}
 use Rattle.std.specs.Str.Parse.{digits_value}
-use Rattle.options.specs.declared.setting.Setting.{Setting}
-use Rattle.options.specs.declared.setting.Setting.TheVariants.{Port, Window, Threads, Requests, Server, Workers, Turns}
-use Rattle.options.specs.declared.command.ServeOptions.{ServeOptions}
-use Rattle.options.specs.declared.control_options.ControlOptions.{ControlOptions}
-use Rattle.options.specs.declared.all_options.AllOptions.{AllOptions}
-use Rattle.options.specs.declared.command.Command.{Command}
-use Rattle.options.specs.declared.command.Command.TheVariants.{Replay, Simulate, Serve, Control, All}
+use Rattle.kcp_options.specs.declared.setting.Setting.{Setting}
+use Rattle.kcp_options.specs.declared.setting.Setting.TheVariants.{Port, Window, Threads, Requests, Server, Workers, Turns}
+use Rattle.kcp_options.specs.declared.command.ServeOptions.{ServeOptions}
+use Rattle.kcp_options.specs.declared.control_options.ControlOptions.{ControlOptions}
+use Rattle.kcp_options.specs.declared.all_options.AllOptions.{AllOptions}
+use Rattle.kcp_options.specs.declared.command.Subcommand.{Subcommand}
+use Rattle.kcp_options.specs.declared.command.Subcommand.TheVariants.{Replay, Simulate, Serve, Control, All}
 
 -- what an option is called, what stands before its number, and the least and the greatest number that it takes
 pub record Row : Type 0 where
@@ -118,7 +118,7 @@ all_options words = record {
 }
 
 -- the command that words ask: `replay` or `simulate` alone, or another with its options; anything else is bad arguments
-abbrev pub command : List (List ℕ) → Option Command
+abbrev pub command : List (List ℕ) → Option Subcommand
 command [] = None
 command (word ∷ rest) =
     if bytes_eq word (codes "replay") && (length rest == 0) then Some Replay

@@ -1,8 +1,8 @@
 -- What the words after the program's name ask to be told of, where they are no command.
 use Rattle.std.specs.Prelude.{ℕ, List, [], ◌∷◌, codes, Option, Some, None, ◌||◌, if◌then◌else◌}
 use Rattle.std.specs.Str.{bytes_eq}
-use Rattle.options.specs.declared.usage.Usage.{Usage}
-use Rattle.options.specs.declared.usage.Usage.TheVariants as usage
+use Rattle.kcp_options.specs.declared.usage.Usage.{Usage}
+use Rattle.kcp_options.specs.declared.usage.Usage.TheVariants as usage
 
 -- a command of this name
 abbrev pub usage_of_command : List ℕ → Option Usage

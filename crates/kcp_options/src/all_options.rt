@@ -20,7 +20,7 @@ pub struct AllOptions {
 
 impl Default for AllOptions {
     ghost use Rattle.std.specs.Prelude.{◌≡◌};
-    ghost use Rattle.options.specs.Options.{all_defaults};
+    ghost use Rattle.kcp_options.specs.Options.{all_defaults};
 
     /// Returns the options of `kcp all` where none is given.
     fn default() -> AllOptions
@@ -37,7 +37,7 @@ impl Default for AllOptions {
 
 impl AllOptions {
     ghost use Rattle.std.specs.Prelude.{◌≡◌, map, string_bytes};
-    ghost use Rattle.options.specs.Options.{all_options};
+    ghost use Rattle.kcp_options.specs.Options.{all_options};
 
     /// Returns the options that the words give.
     pub(crate) fn of_words(words: &[String]) -> AllOptions

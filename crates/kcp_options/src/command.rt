@@ -21,7 +21,7 @@ pub struct ServeOptions {
 
 /// What the program is asked.
 #[derive(Clone, Copy, Debug, PartialEq, Eq)]
-pub enum Command {
+pub enum Subcommand {
     /// Request lines are answered.
     Replay,
     /// The steps of a simulated cluster are taken.
@@ -55,7 +55,7 @@ const ALL_SETTINGS: [Setting; 4] = [
 
 impl Default for ServeOptions {
     ghost use Rattle.std.specs.Prelude.{◌≡◌};
-    ghost use Rattle.options.specs.Options.{serve_defaults};
+    ghost use Rattle.kcp_options.specs.Options.{serve_defaults};
 
     /// Returns the options of `kcp serve` where none is given.
     fn default() -> ServeOptions
@@ -72,7 +72,7 @@ impl Default for ServeOptions {
 
 impl ServeOptions {
     ghost use Rattle.std.specs.Prelude.{◌≡◌, map, string_bytes};
-    ghost use Rattle.options.specs.Options.{serve_options};
+    ghost use Rattle.kcp_options.specs.Options.{serve_options};
 
     /// Returns the options that the words give.
     fn of_words(words: &[String]) -> ServeOptions
@@ -93,29 +93,29 @@ impl ServeOptions {
     }
 }
 
-impl Command {
+impl Subcommand {
     ghost use Rattle.std.specs.Prelude.{◌≡◌, map, string_bytes};
-    ghost use Rattle.options.specs.Options.{command};
+    ghost use Rattle.kcp_options.specs.Options.{command};
 
     /// Returns the command that the words after the program's name ask; none where they are bad arguments.
-    pub fn parse(words: &[String]) -> Option<Command>
+    pub fn parse(words: &[String]) -> Option<Subcommand>
         ensures { result ≡ command (map string_bytes words.now) }
     {
         let (word, rest) = words.split_first()?;
         if word.as_str() == "replay" && rest.is_empty() {
-            return Some(Command::Replay);
+            return Some(Subcommand::Replay);
         }
         if word.as_str() == "simulate" && rest.is_empty() {
-            return Some(Command::Simulate);
+            return Some(Subcommand::Simulate);
         }
         if word.as_str() == "serve" && are_options(&SERVE_SETTINGS, rest) {
-            return Some(Command::Serve(ServeOptions::of_words(rest)));
+            return Some(Subcommand::Serve(ServeOptions::of_words(rest)));
         }
         if word.as_str() == "control" && are_options(&CONTROL_SETTINGS, rest) {
-            return Some(Command::Control(ControlOptions::of_words(rest)?));
+            return Some(Subcommand::Control(ControlOptions::of_words(rest)?));
         }
         if word.as_str() == "all" && are_options(&ALL_SETTINGS, rest) {
-            return Some(Command::All(AllOptions::of_words(rest)));
+            return Some(Subcommand::All(AllOptions::of_words(rest)));
         }
         None
     }

@@ -20,7 +20,7 @@ pub struct ControlOptions {
 
 impl ControlOptions {
     ghost use Rattle.std.specs.Prelude.{◌≡◌, map, string_bytes};
-    ghost use Rattle.options.specs.Options.{control_options};
+    ghost use Rattle.kcp_options.specs.Options.{control_options};
 
     /// Returns the options that the words give; none where they name no server.
     pub(crate) fn of_words(words: &[String]) -> Option<ControlOptions>

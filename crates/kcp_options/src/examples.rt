@@ -1,5 +1,5 @@
 //! Words, and the commands that they ask, computed by the checker.
-ghost use Rattle.options.specs.Examples.{CommandsAreNamed, OptionsAreSaid, OptionsStandOnce, NumbersHaveBounds, NumbersAreDigits, ServersAreNamed, WorkersAreCounted, UsagesAreAsked};
+ghost use Rattle.kcp_options.specs.Examples.{CommandsAreNamed, OptionsAreSaid, OptionsStandOnce, NumbersHaveBounds, NumbersAreDigits, ServersAreNamed, WorkersAreCounted, UsagesAreAsked};
 
 /// What the words after the program's name ask.
 pub fn words_ask()

@@ -10,7 +10,7 @@ pub mod usage;
 pub mod words;
 
 pub use all_options::AllOptions;
-pub use command::{Command, ServeOptions};
+pub use command::{ServeOptions, Subcommand};
 pub use control_options::ControlOptions;
 pub use setting::Setting;
 pub use usage::Usage;

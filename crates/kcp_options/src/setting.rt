@@ -3,7 +3,7 @@ ghost use Rattle.std.specs.Prelude.{◌≡◌, option_map, if◌then◌else◌};
 ghost use Rattle.std.specs.List.{list_all};
 ghost use Rattle.std.specs.Char.{is_ascii_digit};
 ghost use Rattle.std.specs.Str.Parse.{digits_value};
-ghost use Rattle.options.specs.Options.{after_prefix, is_number};
+ghost use Rattle.kcp_options.specs.Options.{after_prefix, is_number};
 
 /// The most digits of a number.
 const MOST_DIGITS: usize = 9;
@@ -75,7 +75,7 @@ fn after_prefix<'a>(beginning: &str, text: &'a str) -> Option<&'a str>
 
 impl Setting {
     ghost use Rattle.std.specs.Prelude.{◌≡◌, ◌≤◌, IfSome};
-    ghost use Rattle.options.specs.Options.{row, taken};
+    ghost use Rattle.kcp_options.specs.Options.{row, taken};
 
     /// Returns the row of the table that is the option's.
     fn row(self) -> Row

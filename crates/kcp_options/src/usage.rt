@@ -1,6 +1,6 @@
 //! How the program is used, as it says itself.
 ghost use Rattle.std.specs.Prelude.{◌≡◌, map, string_bytes};
-ghost use Rattle.options.specs.Usages.{usage_asked, usage_of_command};
+ghost use Rattle.kcp_options.specs.Usages.{usage_asked, usage_of_command};
 
 /// What a usage text is about.
 #[derive(Clone, Copy, Debug, PartialEq, Eq)]

@@ -1,6 +1,6 @@
 //! Words of which each is a name or the value after it.
 ghost use Rattle.std.specs.Prelude.{◌≡◌, ◌≤◌, map, option_map, string_bytes, IfSome};
-ghost use Rattle.options.specs.Options.{row, value_after, is_one_of, is_option, are_options, said};
+ghost use Rattle.kcp_options.specs.Options.{row, value_after, is_one_of, is_option, are_options, said};
 
 use crate::setting::Setting;
 

@@ -2,8 +2,8 @@
 use Rattle.std.proofs.Common.{◌≡◌, ℕ, List, [], ◌∷◌, ◌++◌, Option, Some, None, IfSome, Result, OnOk, IfErr, refl, ap, sym, ◌∙◌}
 use Rattle.std.proofs.lemmas.List.{append-nil}
 use Rattle.std.specs.Io.KnownBytes.{Appends}
-use Rattle.definitions.specs.Replies as answers
-use Rattle.line_protocol.specs.Lines as lines
+use Rattle.spec_api.specs.Replies as answers
+use Rattle.spec_line_protocol.specs.Lines as lines
 use Rattle.line_service.proofs.Alongside.{all-run, some-run}
 use Rattle.line_service.proofs.Progress.{want-other, all_left}
 use Rattle.line_service.proofs.Splitting.{replies-split}
@@ -11,10 +11,10 @@ use Rattle.line_service.specs.Replies as service
 use Rattle.line_service.specs.Replies.{none_refused, reply_or_refusal, next_or_same}
 use Rattle.line_service.specs.declared.fault.RunFault.{RunFault}
 use Rattle.line_service.specs.declared.fault.RunFault.TheVariants as fault
-use Rattle.replays.specs.Replays.{refusal, AnswersAll, AnswersSome, RepliesAreReplays}
-use Rattle.session.proofs.Followed.{sessions_follow}
-use Rattle.session.specs.Laws.{Follows}
-use Rattle.session.specs.SessionStates.{SessionState, begun, reply_by_state, next_state}
+use Rattle.kcp_replay.specs.Replays.{refusal, AnswersAll, AnswersSome, RepliesAreReplays}
+use Rattle.line_session.proofs.Followed.{sessions_follow}
+use Rattle.line_session.specs.Laws.{Follows}
+use Rattle.line_session.specs.SessionStates.{SessionState, begun, reply_by_state, next_state}
 
 -- ---- the definitions' session is a service
 

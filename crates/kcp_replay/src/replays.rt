@@ -1,12 +1,12 @@
 //! Replays.
 ghost use Rattle.std.specs.Prelude.{◌≡◌, OnOk, IfErr, IfSome, true};
 ghost use Rattle.chunked.specs.Devices.{device_of, has_failed};
-ghost use Rattle.definitions.specs.Replies.{default_window};
-ghost use Rattle.replays.specs.Replays.{AnswersAll, AnswersSome};
+ghost use Rattle.spec_api.specs.Replies.{default_window};
+ghost use Rattle.kcp_replay.specs.Replays.{AnswersAll, AnswersSome};
 
 use chunked::Watched;
 use line_service::RunFault;
-use session::Session;
+use line_session::Session;
 use std::alloc::Global;
 use std::io::{BufRead, Write};
 

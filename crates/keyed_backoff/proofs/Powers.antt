@@ -1,7 +1,7 @@
 -- The powers of two among delays.
 use Rattle.std.proofs.Common.{◌≡◌, ℕ, ◌*◌, ◌^◌, ◌≤◌, ◌<◌, arith}
 use Rattle.std.proofs.Math.Pow.{pow_mono}
-use Rattle.controllers.specs.Delays.{delay_after}
+use Rattle.spec_client_go.specs.Delays.{delay_after}
 
 below_ceiling : (f : ℕ) → f < 18 → 5 * 2 ^ f ≤ 1000000
 below_ceiling f h =

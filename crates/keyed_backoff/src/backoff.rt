@@ -24,7 +24,7 @@ impl<K: Named> Model for KeyedBackoff<K> {
 impl<K: Named> KeyedBackoff<K> {
     ghost use Rattle.std.specs.Prelude.{◌≡◌, true, IfOk, OnOk, OnErr};
     ghost use Rattle.std.specs.FinMap as map;
-    ghost use Rattle.controllers.specs.Delays.{delay_after};
+    ghost use Rattle.spec_client_go.specs.Delays.{delay_after};
     ghost use Rattle.named_keys.specs.Numbers.{said};
     ghost use Rattle.keyed_backoff.specs.Failures.{failures, failed, restored};
 
@@ -81,7 +81,7 @@ impl<K: Named> KeyedBackoff<K> {
 }
 
 ghost use Rattle.std.specs.Prelude.{◌≡◌, ◌+◌, min};
-ghost use Rattle.controllers.specs.Delays.{delay_after};
+ghost use Rattle.spec_client_go.specs.Delays.{delay_after};
 
 /// Returns one more failure, of which 32 are counted.
 fn one_more(failures: u32) -> u32

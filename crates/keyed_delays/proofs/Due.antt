@@ -11,8 +11,8 @@ use Rattle.std.specs.FinMap as map_of
 use Rattle.std.specs.FinMap.{IsAntisymmetric, get-remove, get-retain_keys, get_tied, same_map}
 use Rattle.std.specs.FinSet as set
 use Rattle.std.specs.FinSet.{contains-from_list, contains-insert, contains-remove, same_set}
-use Rattle.controllers.specs.Delays.{has_come}
-use Rattle.controllers.proofs.Alarms.{is_moment, same_at_itself}
+use Rattle.spec_client_go.specs.Delays.{has_come}
+use Rattle.spec_client_go.proofs.Alarms.{is_moment, same_at_itself}
 use Rattle.keyed_delays.specs.Delays.{KeyDelays, KeyAlarm, AreAlarms, alarm_cmp, alarm_of, due, still_delayed}
 use Rattle.keyed_delays.proofs.Alarms as of
 

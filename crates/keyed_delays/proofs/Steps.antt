@@ -13,7 +13,7 @@ use Rattle.std.specs.Set as key_set
 use Rattle.std.specs.FinMap as map_of
 use Rattle.std.specs.FinMap.{IsAntisymmetric, get-insert, get-remove, same_map}
 use Rattle.std.specs.FinSet as set
-use Rattle.controllers.specs.Delays.{earlier}
+use Rattle.spec_client_go.specs.Delays.{earlier}
 use Rattle.work_keys.proofs.SeenSets as sets
 use Rattle.named_keys.proofs.Numbers as numbers
 use Rattle.keyed_delays.specs.declared.alarm.Alarm.{Alarm}

@@ -6,7 +6,7 @@ use Rattle.std.specs.Ordering.{nat_cmp, then_cmp, on}
 use Rattle.std.specs.FinMap as map
 use Rattle.std.specs.FinSet as set
 use Rattle.std.specs.declared.cmp.Ordering.{Ordering}
-use Rattle.controllers.specs.Delays.{earlier, has_come}
+use Rattle.spec_client_go.specs.Delays.{earlier, has_come}
 
 -- for each key with a delay, the moment when it is added
 abbrev pub KeyDelays : {N : Type 0} → (N → N → Ordering) → Type 0

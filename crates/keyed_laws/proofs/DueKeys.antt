@@ -13,8 +13,8 @@ use Rattle.std.specs.FinSet.{contains-from_list, same_set}
 use Rattle.std.specs.List.{filter, list_any, AllByRecursion}
 use Rattle.std.specs.List.Sorted.{IsStrictlySortedBy}
 use Rattle.std.specs.Ordering.{eq_by_cmp, is_eq, is_lt, ordering_reverse}
-use Rattle.controllers.specs.Delays.{has_come}
-use Rattle.controllers.proofs.Alarms.{mark, is_moment, same_at_itself}
+use Rattle.spec_client_go.specs.Delays.{has_come}
+use Rattle.spec_client_go.proofs.Alarms.{mark, is_moment, same_at_itself}
 use Rattle.keyed_delays.specs.Delays.{KeyDelays, KeyAlarm, AreAlarms, alarm_cmp, alarm_of, alarms, due}
 use Rattle.keyed_delays.proofs.Alarms as of
 use Rattle.keyed_delays.proofs.Due as due_keys

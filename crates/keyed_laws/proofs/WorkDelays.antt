@@ -6,11 +6,11 @@ use Rattle.std.specs.FinSet.{contains-from_list, same_set}
 use Rattle.std.specs.List.{filter, list_any, AllByRecursion}
 use Rattle.std.specs.List.Sorted.{IsStrictlySortedBy}
 use Rattle.std.specs.Ordering.{eq_by_cmp}
-use Rattle.controllers.specs.WorkQueues.{WorkKey, work_key_cmp}
-use Rattle.controllers.specs.Delays as works
-use Rattle.controllers.specs.Delays.{Delays, Alarm}
-use Rattle.controllers.proofs.Alarms as works_alarms
-use Rattle.controllers.proofs.WorkKeyOrder.{work_key_total, work_key_tells}
+use Rattle.spec_client_go.specs.WorkQueues.{WorkKey, work_key_cmp}
+use Rattle.spec_client_go.specs.Delays as works
+use Rattle.spec_client_go.specs.Delays.{Delays, Alarm}
+use Rattle.spec_client_go.proofs.Alarms as works_alarms
+use Rattle.spec_client_go.proofs.WorkKeyOrder.{work_key_total, work_key_tells}
 use Rattle.keyed_delays.specs.Delays.{KeyAlarm, alarm_cmp, alarms}
 use Rattle.keyed_delays.proofs.Alarms.{alarm_total, contains-alarms}
 use Rattle.keyed_laws.specs.WorkLaws.{KeysAreDue}

@@ -1,8 +1,8 @@
 -- Each call does to a queue of work keys what it does to the work queue.
 use Rattle.std.proofs.Common.{◌≡◌, refl, ap, ◌∙◌, List, [], ◌∷◌, ◌++◌, ◌||◌, Bool, true, false, if◌then◌else◌, map}
 use Rattle.std.specs.FinSet as set
-use Rattle.controllers.specs.WorkQueues as works
-use Rattle.controllers.specs.WorkQueues.{WorkKey, work_key_cmp, Call, add, get, finish, shut_down}
+use Rattle.spec_client_go.specs.WorkQueues as works
+use Rattle.spec_client_go.specs.WorkQueues.{WorkKey, work_key_cmp, Call, add, get, finish, shut_down}
 use Rattle.keyed_queue.specs.Queues.{KeyQueue, idle, added, added_all, front, got, got_from, done}
 use Rattle.keyed_laws.specs.WorkLaws.{work_queue, after, after_all, QueuesAreWorkQueues, KeysAreHandedOut}
 

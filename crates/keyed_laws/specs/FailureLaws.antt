@@ -2,7 +2,7 @@
 use Rattle.std.specs.Prelude.{◌≡◌, ◌+◌, ◌*◌, ℕ, true, min}
 use Rattle.std.specs.FinMap as map
 use Rattle.std.specs.declared.cmp.Ordering.{Ordering}
-use Rattle.controllers.specs.Delays.{delay_after}
+use Rattle.spec_client_go.specs.Delays.{delay_after}
 use Rattle.keyed_backoff.specs.Failures.{KeyFailures, failed, restored}
 
 -- a key that failed has failures

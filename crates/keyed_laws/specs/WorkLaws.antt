@@ -1,8 +1,8 @@
 -- Queues, delays and failures of work keys.
 use Rattle.std.specs.Prelude.{◌≡◌, ℕ, List, [], ◌∷◌}
-use Rattle.controllers.specs.WorkQueues as works
-use Rattle.controllers.specs.WorkQueues.{WorkKey, work_key_cmp, WorkQueue, Call, add, get, finish, shut_down}
-use Rattle.controllers.specs.Delays as works_delays
+use Rattle.spec_client_go.specs.WorkQueues as works
+use Rattle.spec_client_go.specs.WorkQueues.{WorkKey, work_key_cmp, WorkQueue, Call, add, get, finish, shut_down}
+use Rattle.spec_client_go.specs.Delays as works_delays
 use Rattle.keyed_queue.specs.Queues.{KeyQueue, idle, added, got, done, shut, handed}
 use Rattle.keyed_delays.specs.Delays as keyed_delays
 use Rattle.keyed_delays.specs.Delays.{KeyDelays}

@@ -5,11 +5,11 @@ use Rattle.serde_json.specs.Data.{Data, Items, no_items, item}
 use Rattle.serde_json.specs.View.{view, items_view}
 use Rattle.serde_json.specs.Written.{has_float, items_have_float}
 use Rattle.serde_json.specs.declared.value.Value.{Value}
-use Rattle.definitions.proofs.Truths.{left_false, right_false}
-use Rattle.definitions.specs.declared.policies.Policy.{Policy}
-use Rattle.definitions.specs.declared.policies.Policy.TheVariants.{Orphan, Foreground, Background}
-use Rattle.definitions.specs.Deletion.{is_of_policy, of_policy, others_then}
-use Rattle.definitions.proofs.NoFloatsRead.{both_false}
+use Rattle.spec_api.proofs.Truths.{left_false, right_false}
+use Rattle.spec_api.specs.declared.policies.Policy.{Policy}
+use Rattle.spec_api.specs.declared.policies.Policy.TheVariants.{Orphan, Foreground, Background}
+use Rattle.spec_api.specs.Deletion.{is_of_policy, of_policy, others_then}
+use Rattle.spec_api.proofs.NoFloatsRead.{both_false}
 use Rattle.lifecycle.specs.Finalizers.{followed}
 
 pub followed-none : (ds : Items) → followed ds no_items ≡ ds

@@ -1,11 +1,11 @@
 -- The metadata of an object that is being deleted, from what its steps are told.
 use Rattle.std.proofs.Common.{◌≡◌, ℕ, List, Bool, true, false, cond, codes, refl, ap, ◌∙◌}
 use Rattle.serde_json.specs.Data.{Data, string, Members, put}
-use Rattle.definitions.specs.declared.kinds.Kind.{Kind}
-use Rattle.definitions.specs.Deletion.{with_deletion}
-use Rattle.definitions.specs.Kinds.{has_generation}
-use Rattle.definitions.specs.Metadata.{metadata_of, is_being_deleted}
-use Rattle.definitions.specs.Replacements.{with_next_generation}
+use Rattle.spec_api.specs.declared.kinds.Kind.{Kind}
+use Rattle.spec_api.specs.Deletion.{with_deletion}
+use Rattle.spec_api.specs.Kinds.{has_generation}
+use Rattle.spec_api.specs.Metadata.{metadata_of, is_being_deleted}
+use Rattle.spec_api.specs.Replacements.{with_next_generation}
 
 otherwise : (b : Bool) (x y : Members) → b ≡ false → y ≡ cond b x y
 otherwise true x y h = cc

@@ -1,12 +1,12 @@
 -- What a delete does, from what its preconditions are told.
 use Rattle.std.proofs.Common.{◌≡◌, ℕ, List, Bool, true, false, Option, Some, None, Result, Ok, Err, refl, sym, ap, ◌∙◌, if◌then◌else◌}
 use Rattle.serde_json.specs.Data.{Data}
-use Rattle.definitions.specs.declared.kinds.Kind.{Kind}
-use Rattle.definitions.specs.declared.refusals.Mismatch.{Mismatch}
-use Rattle.definitions.specs.declared.refusals.Mismatch.TheVariants as why
-use Rattle.definitions.specs.Deletion.{Fate, fate, decided}
-use Rattle.definitions.specs.DeleteOptions.{Options}
-use Rattle.definitions.specs.Metadata.{uid, version, differs}
+use Rattle.spec_api.specs.declared.kinds.Kind.{Kind}
+use Rattle.spec_api.specs.declared.refusals.Mismatch.{Mismatch}
+use Rattle.spec_api.specs.declared.refusals.Mismatch.TheVariants as why
+use Rattle.spec_api.specs.Deletion.{Fate, fate, decided}
+use Rattle.spec_api.specs.DeleteOptions.{Options}
+use Rattle.spec_api.specs.Metadata.{uid, version, differs}
 use Rattle.lifecycle.specs.Fates.{mismatch}
 
 abbrev or_mismatch : Option Mismatch → Fate → Result Fate Mismatch

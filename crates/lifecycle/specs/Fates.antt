@@ -1,11 +1,11 @@
 -- What a delete does, as the definitions say it.
 use Rattle.std.specs.Prelude.{◌≡◌, Option, Some, None, Result, Ok, Err, if◌then◌else◌}
 use Rattle.serde_json.specs.Data.{Data}
-use Rattle.definitions.specs.Deletion as deletion
-use Rattle.definitions.specs.DeleteOptions.{Options}
-use Rattle.definitions.specs.Metadata.{uid, version, differs}
-use Rattle.definitions.specs.declared.refusals.Mismatch.{Mismatch}
-use Rattle.definitions.specs.declared.refusals.Mismatch.TheVariants as why
+use Rattle.spec_api.specs.Deletion as deletion
+use Rattle.spec_api.specs.DeleteOptions.{Options}
+use Rattle.spec_api.specs.Metadata.{uid, version, differs}
+use Rattle.spec_api.specs.declared.refusals.Mismatch.{Mismatch}
+use Rattle.spec_api.specs.declared.refusals.Mismatch.TheVariants as why
 use Rattle.lifecycle.specs.declared.fates.Fate.{Fate}
 use Rattle.lifecycle.specs.declared.fates.Fate.TheVariants.{Remove, Mark, Keep}
 use Rattle.lifecycle.specs.declared.fates.DeleteFault.{DeleteFault}

@@ -1,9 +1,9 @@
 -- Options that were read, as the definitions say them.
 use Rattle.std.specs.Prelude.{◌≡◌, ◌⊎◌, option_map, Result, Ok, Err, string_bytes}
-use Rattle.definitions.specs.DeleteOptions.{Options}
-use Rattle.definitions.specs.declared.refusals.Part.{Part}
-use Rattle.keys.specs.declared.fault.Fault.{Fault}
-use Rattle.keys.specs.declared.fault.Fault.TheVariants as fault
+use Rattle.spec_api.specs.DeleteOptions.{Options}
+use Rattle.spec_api.specs.declared.refusals.Part.{Part}
+use Rattle.object_keys.specs.declared.fault.Fault.{Fault}
+use Rattle.object_keys.specs.declared.fault.Fault.TheVariants as fault
 use Rattle.lifecycle.specs.declared.options.DeleteOptions.{DeleteOptions}
 
 abbrev pub options_seen : DeleteOptions → Options

@@ -4,24 +4,24 @@ ghost use Rattle.serde_json.specs.Data.{string, array, put};
 ghost use Rattle.serde_json.specs.Events.{items_len};
 ghost use Rattle.serde_json.specs.View.{items_view};
 ghost use Rattle.serde_json.specs.Written.{items_have_float};
-ghost use Rattle.definitions.specs.Checks.{finalizers};
-ghost use Rattle.definitions.specs.Deletion.{left_by, leaves, with_deletion, being_deleted, fate, decided};
-ghost use Rattle.definitions.specs.Kinds.{has_generation};
-ghost use Rattle.definitions.specs.Metadata.{metadata_of, uid, version, differs, is_being_deleted};
-ghost use Rattle.definitions.specs.Replacements.{with_next_generation};
+ghost use Rattle.spec_api.specs.Checks.{finalizers};
+ghost use Rattle.spec_api.specs.Deletion.{left_by, leaves, with_deletion, being_deleted, fate, decided};
+ghost use Rattle.spec_api.specs.Kinds.{has_generation};
+ghost use Rattle.spec_api.specs.Metadata.{metadata_of, uid, version, differs, is_being_deleted};
+ghost use Rattle.spec_api.specs.Replacements.{with_next_generation};
 ghost use Rattle.lifecycle.specs.Fates.{Decides, fate_seen, mismatch};
 ghost use Rattle.lifecycle.specs.Options.{options_seen};
 ghost use Rattle.lifecycle.specs.declared.fates.DeleteFault.TheVariants.{NoMemory};
 
 use crate::finalizers::{leaves, left_by};
 use crate::options::DeleteOptions;
-use definitions::kinds::Kind;
-use definitions::policies::Policy;
-use definitions::refusals::Mismatch;
-use drafts::Draft;
 use meta::Object;
+use metadata_editor::Draft;
+use metadata_values::moments::Moment;
 use serde_json::Value;
-use stamps::moments::Moment;
+use spec_api::kinds::Kind;
+use spec_api::policies::Policy;
+use spec_api::refusals::Mismatch;
 use std::alloc::{AllocError, Global};
 
 /// What becomes of an object that is deleted.

@@ -3,12 +3,12 @@ ghost use Rattle.std.specs.Prelude.{◌≡◌, IfOk, OnOk, false};
 ghost use Rattle.serde_json.specs.Data.{no_items};
 ghost use Rattle.serde_json.specs.View.{view, items_view};
 ghost use Rattle.serde_json.specs.Written.{items_have_float};
-ghost use Rattle.definitions.specs.Deletion.{is_of_policy, of_policy, others_then, are_of, leaves, left_by};
+ghost use Rattle.spec_api.specs.Deletion.{is_of_policy, of_policy, others_then, are_of, leaves, left_by};
 ghost use Rattle.lifecycle.specs.Finalizers.{followed};
 
-use definitions::policies::Policy;
 use meta::finalizers::{has_text, is_text};
 use serde_json::Value;
+use spec_api::policies::Policy;
 use std::alloc::{AllocError, Global};
 
 const ORPHAN: &str = "orphan";

@@ -2,16 +2,16 @@
 ghost use Rattle.std.specs.Prelude.{◌≡◌, IfOk, codes, option_and_then, option_map, string_bytes};
 ghost use Rattle.serde_json.specs.Find.{get};
 ghost use Rattle.serde_json.specs.View.{view};
-ghost use Rattle.definitions.specs.DeleteOptions.{options_of, options_with, precondition, stated_policy};
-ghost use Rattle.definitions.specs.Metadata.{text_at};
+ghost use Rattle.spec_api.specs.DeleteOptions.{options_of, options_with, precondition, stated_policy};
+ghost use Rattle.spec_api.specs.Metadata.{text_at};
 ghost use Rattle.lifecycle.specs.Options.{ReadsOptions};
 
-use definitions::policies::{Policy, StatedPolicy};
-use definitions::refusals::Part;
-use definitions::schemas::{Schema, Shape};
-use keys::Fault;
 use meta::reading::{fits, is_body};
+use object_keys::Fault;
 use serde_json::Value;
+use spec_api::policies::{Policy, StatedPolicy};
+use spec_api::refusals::Part;
+use spec_api::schemas::{Schema, Shape};
 use std::alloc::{AllocError, Global};
 
 /// What a delete asks for beside its object (Kubernetes API reference, DeleteOptions).
@@ -28,8 +28,8 @@ pub struct DeleteOptions {
 impl DeleteOptions {
     ghost use Rattle.std.specs.Prelude.{◌≡◌, None};
     ghost use Rattle.serde_json.specs.View.{view};
-    ghost use Rattle.definitions.specs.DeleteOptions.{options_of, options_with};
-    ghost use Rattle.definitions.specs.declared.refusals.Part.TheVariants as part;
+    ghost use Rattle.spec_api.specs.DeleteOptions.{options_of, options_with};
+    ghost use Rattle.spec_api.specs.declared.refusals.Part.TheVariants as part;
     ghost use Rattle.lifecycle.specs.Options.{ReadsOptions};
 
     /// Reads the body of a delete. The errors are `Part::Body` for what is no body, `Part::Options` for a member of a wrong

@@ -1,12 +1,12 @@
 //! What an update leaves of an object that is being deleted.
 ghost use Rattle.std.specs.Prelude.{◌≡◌, IfOk};
-ghost use Rattle.definitions.specs.Replacements.{is_finalized};
+ghost use Rattle.spec_api.specs.Replacements.{is_finalized};
 ghost use Rattle.lifecycle.specs.Updates.{after_update};
-ghost use Rattle.keys.specs.Keys.{key_of};
+ghost use Rattle.object_keys.specs.Keys.{key_of};
 ghost use Rattle.meta.specs.Writes.{write_of};
 
-use keys::Key;
 use meta::{Object, StoredObject, Write};
+use object_keys::Key;
 use std::alloc::{AllocError, Global};
 
 /// Returns whether an update removes the stored object's last finalizer: it is being deleted, and the new object has no

@@ -1,12 +1,12 @@
-//! Reply lines.
+//! HttpReply lines.
 ghost use Rattle.std.specs.Prelude.{◌≡◌, ◌==◌, IfOk, count_by};
-ghost use Rattle.keys.specs.Faults.{refusal_of};
-ghost use Rattle.definitions.specs.Refusals.{code, status_body};
+ghost use Rattle.object_keys.specs.Faults.{refusal_of};
+ghost use Rattle.spec_api.specs.Refusals.{code, status_body};
 ghost use Rattle.serde_json.specs.Written.{compact_text};
 ghost use Rattle.line_relay.specs.Replies.{line_text, is_of_lines, watch_text, reply_text};
 
-use client::Reply;
-use keys::Fault;
+use http_client::HttpReply;
+use object_keys::Fault;
 use std::alloc::{AllocError, Global};
 
 /// The status code of what is there, and of a watch (RFC 9110, 200 OK).
@@ -62,7 +62,7 @@ fn watch_lines(alloc: Global, body: &[u8]) -> Result<Vec<u8>, AllocError>
 
 /// Returns the lines of a reply: its code and its body; of a watch first how many frames it gave, and then these. The error is running out
 /// of memory.
-pub fn reply_lines(alloc: Global, reply: &Reply) -> Result<Vec<u8>, AllocError>
+pub fn reply_lines(alloc: Global, reply: &HttpReply) -> Result<Vec<u8>, AllocError>
     ensures { IfOk result (λ l. l.items ≡ reply_text reply.now.code reply.now.body.items) }
 {
     let body = reply.body.as_slice();

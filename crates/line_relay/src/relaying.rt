@@ -1,15 +1,15 @@
 //! The loop that relays lines.
 use crate::lines::{refusal_line, reply_lines};
+use api_client::outgoing::{media_type, method_text};
+use api_client::{Connect, Limits};
 use chunked::Watched;
-use client::{Answer, Outgoing, call};
-use definitions::methods::Method;
-use definitions::refusals::Part;
-use keys::Fault;
+use http_client::{Answer, Outgoing, call};
 use line_service::RunFault;
 use line_service::run_loop::{make_ready, send, unread, without_newline};
-use remote::outgoing::{media_type, method_text};
-use remote::{Connect, Limits};
-use requests::line::{Line, read_line};
+use object_keys::Fault;
+use request_parts::line::{Line, read_line};
+use spec_api::methods::Method;
+use spec_api::refusals::Part;
 use std::alloc::{AllocError, Global};
 use std::io::{BufRead, Write};
 

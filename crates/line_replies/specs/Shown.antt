@@ -1,15 +1,15 @@
 -- The lines of a watch as the definitions say them, and the line where there was no memory.
 use Rattle.std.specs.Prelude.{ℕ, List}
-use Rattle.definitions.specs.Refusals.{no_memory}
-use Rattle.definitions.specs.Replies.{outcome}
-use Rattle.definitions.specs.Streams as streams
-use Rattle.definitions.specs.Streams.{event as change, bookmark, initial, initial_end}
-use Rattle.definitions.specs.Verbs.{refused}
-use Rattle.line_protocol.specs.Lines.{reply_text}
+use Rattle.spec_api.specs.Refusals.{no_memory}
+use Rattle.spec_api.specs.Replies.{outcome}
+use Rattle.spec_api.specs.Streams as streams
+use Rattle.spec_api.specs.Streams.{event as change, bookmark, initial, initial_end}
+use Rattle.spec_api.specs.Verbs.{refused}
+use Rattle.spec_line_protocol.specs.Lines.{reply_text}
 use Rattle.meta.specs.Members.{member_of}
 use Rattle.revisions.specs.Events.{event_seen}
-use Rattle.reply_lines.specs.declared.lines.Shown.{Shown}
-use Rattle.reply_lines.specs.declared.lines.Shown.TheVariants.{Change, Bookmark, Initial, InitialEnd}
+use Rattle.line_replies.specs.declared.lines.Shown.{Shown}
+use Rattle.line_replies.specs.declared.lines.Shown.TheVariants.{Change, Bookmark, Initial, InitialEnd}
 
 -- the line as the definitions say it
 abbrev pub line_seen : Shown → streams.Line

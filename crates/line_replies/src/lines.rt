@@ -1,24 +1,24 @@
 //! Reply lines.
 ghost use Rattle.std.specs.Prelude.{◌≡◌, ◌≢◌, ◌++◌, ◌∷◌, [], IfOk, OnOk, None, codes, map, decimal, string_bytes};
-ghost use Rattle.definitions.specs.Frames.{frame_text};
-ghost use Rattle.line_protocol.specs.Lines.{line_text, reply_text};
-ghost use Rattle.definitions.specs.Replies.{outcome, shown};
-ghost use Rattle.definitions.specs.Refusals.{success_body};
-ghost use Rattle.definitions.specs.Streams.{event as change, frame_of, text_of_lines, added_lines};
-ghost use Rattle.definitions.specs.Verbs.{refused};
-ghost use Rattle.definitions.specs.WatchReplies.{opening_lines};
-ghost use Rattle.keys.specs.Faults.{refusal_of};
+ghost use Rattle.spec_api.specs.Frames.{frame_text};
+ghost use Rattle.spec_line_protocol.specs.Lines.{line_text, reply_text};
+ghost use Rattle.spec_api.specs.Replies.{outcome, shown};
+ghost use Rattle.spec_api.specs.Refusals.{success_body};
+ghost use Rattle.spec_api.specs.Streams.{event as change, frame_of, text_of_lines, added_lines};
+ghost use Rattle.spec_api.specs.Verbs.{refused};
+ghost use Rattle.spec_api.specs.WatchReplies.{opening_lines};
+ghost use Rattle.object_keys.specs.Faults.{refusal_of};
 ghost use Rattle.meta.specs.Members.{member_of};
-ghost use Rattle.keys.specs.declared.fault.Fault.TheVariants as faults;
+ghost use Rattle.object_keys.specs.declared.fault.Fault.TheVariants as faults;
 ghost use Rattle.revisions.specs.Events.{event_seen};
 ghost use Rattle.revisions.specs.Watches.{last_bookmark};
-ghost use Rattle.reply_lines.specs.Shown.{line_seen};
+ghost use Rattle.line_replies.specs.Shown.{line_seen};
 
-use definitions::kinds::Kind;
-use keys::Fault;
 use meta::Member;
+use object_keys::Fault;
 use reply::Reply;
 use revisions::Event;
+use spec_api::kinds::Kind;
 use std::alloc::{AllocError, Global};
 
 /// A line that a watch is shown.

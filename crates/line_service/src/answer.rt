@@ -9,21 +9,21 @@ use std::alloc::Global;
 
 /// What a line is answered.
 #[derive(Drop)]
-pub enum Answer {
+pub enum LineAnswer {
     /// Its reply.
     Reply(Vec<u8>),
     /// That there was no memory for it.
     Refusal(&'static [u8]),
 }
 
-impl Answer {
+impl LineAnswer {
     /// Returns the text. It takes no memory.
     pub(crate) fn text(&self) -> &[u8]
         ensures { result.now ≡ text_of self.now }
     {
         match self {
-            Answer::Reply(text) => text.as_slice(),
-            Answer::Refusal(text) => text,
+            LineAnswer::Reply(text) => text.as_slice(),
+            LineAnswer::Refusal(text) => text,
         }
     }
 }
@@ -34,7 +34,7 @@ pub(crate) fn take<S: LineService>(
     alloc: Global,
     service: &mut S,
     line: &[u8],
-) -> Result<Answer, RunFault>
+) -> Result<LineAnswer, RunFault>
     ensures text { IfOk result (λ a. text_of a ≡ reply_or_refusal S.reply S.refusal service.old (line.now, is_refusal a)) }
     ensures state { IfOk result (λ a. service.new ≡ next_or_same S.next service.old (line.now, is_refusal a)) }
     ensures may { IfOk result (λ a. MayBe S.refusal (line.now, is_refusal a)) }
@@ -43,9 +43,9 @@ pub(crate) fn take<S: LineService>(
     ensures untold { OnErr result (S.refusal line.now ≡ None) }
 {
     match service.serve(alloc, line) {
-        Ok(reply) => Ok(Answer::Reply(reply)),
+        Ok(reply) => Ok(LineAnswer::Reply(reply)),
         Err(_) => match service.refused(line) {
-            Some(text) => Ok(Answer::Refusal(text)),
+            Some(text) => Ok(LineAnswer::Refusal(text)),
             None => Err(RunFault::Want),
         },
     }

@@ -2,21 +2,21 @@
 use Rattle.std.proofs.Common.{◌≡◌, ◌<◌, ◌∙◌, ℕ, List, Bool, true, false, cond, Option, Some, None, IfSome, Result, Ok, Err, refl, ap, subst, arith}
 use Rattle.std.specs.Prelude.{nat_lt}
 use Rattle.std.proofs.lemmas.Bool.{ltb-false}
-use Rattle.definitions.specs.History.{Write, View}
-use Rattle.definitions.specs.ListQueries.{ListOptions, WatchOptions}
-use Rattle.definitions.specs.Lists.{list_answer}
-use Rattle.definitions.specs.ObjectRequests.{Request}
-use Rattle.definitions.specs.Refusals.{Refusal, too_new}
-use Rattle.definitions.specs.Replies.{Reply, outcome, shown, compacted, watch_reply}
-use Rattle.definitions.specs.Streams as streams
-use Rattle.definitions.specs.Targets.{Asked, request, list, watch, read_request}
-use Rattle.definitions.specs.Verbs as verbs
-use Rattle.definitions.specs.Verbs.{refused}
-use Rattle.definitions.specs.Versions.{Listed}
-use Rattle.laws.proofs.Limits.{room}
-use Rattle.line_protocol.specs.Lines.{Line, ask, at, compact, unreadable, reply_text}
-use Rattle.server_state.specs.Servers.{Server, after_writing, after_compaction, list_by, watch_served, compact_by}
-use Rattle.session.specs.SessionStates.{SessionState, accepted, reply_for, server_from, server_or, state_after, compact_text, nothing, of_write, written_by, of_compaction, effect_on, changed_by, HasRoom}
+use Rattle.spec_api.specs.History.{Write, View}
+use Rattle.spec_api.specs.ListQueries.{ListOptions, WatchOptions}
+use Rattle.spec_api.specs.Lists.{list_answer}
+use Rattle.spec_api.specs.ObjectRequests.{Request}
+use Rattle.spec_api.specs.Refusals.{Refusal, too_new}
+use Rattle.spec_api.specs.Replies.{Reply, outcome, shown, compacted, watch_reply}
+use Rattle.spec_api.specs.Streams as streams
+use Rattle.spec_api.specs.Targets.{Asked, request, list, watch, read_request}
+use Rattle.spec_api.specs.Verbs as verbs
+use Rattle.spec_api.specs.Verbs.{refused}
+use Rattle.spec_api.specs.Versions.{Listed}
+use Rattle.spec_laws.proofs.Limits.{room}
+use Rattle.spec_line_protocol.specs.Lines.{Line, ask, at, compact, unreadable, reply_text}
+use Rattle.spec_server.specs.Servers.{Server, after_writing, after_compaction, list_by, watch_served, compact_by}
+use Rattle.line_session.specs.SessionStates.{SessionState, accepted, reply_for, server_from, server_or, state_after, compact_text, nothing, of_write, written_by, of_compaction, effect_on, changed_by, HasRoom}
 
 -- ---- the session afterwards
 

@@ -1,26 +1,26 @@
 -- A session whose server stands for what has happened answers as what has happened does, and goes on so.
 use Rattle.std.proofs.Common.{◌≡◌, ℕ, List, [], Bool, true, false, Result, Ok, Err, length, ◌==◌, if◌then◌else◌, refl, sym, ap, ◌∙◌, subst}
-use Rattle.definitions.specs.ListQueries.{ListOptions}
-use Rattle.definitions.specs.declared.kinds.Kind.{Kind}
-use Rattle.definitions.specs.History.{History, View}
-use Rattle.line_protocol.specs.Lines as lines
-use Rattle.definitions.specs.Replies as answers
-use Rattle.line_protocol.specs.Lines.{Line, ask, at, compact, unreadable, line_of, reply_text}
-use Rattle.definitions.specs.Replies.{outcome, watch_reply, compact_reply, history_from}
-use Rattle.definitions.specs.Lists.{list_answer}
-use Rattle.definitions.specs.Refusals.{Refusal}
-use Rattle.laws.specs.ServerLaws.{HoldOrRefuse}
-use Rattle.server_state.specs.Servers.{Server, IsServerAfter, after_writing, list_by, compact_by, watch_served}
-use Rattle.definitions.specs.Streams as streams
-use Rattle.definitions.specs.Targets.{Asked, request, list, watch, read_request}
-use Rattle.definitions.specs.Verbs.{refused, write_of, accept_at, accept, history_after}
-use Rattle.definitions.specs.ObjectRequests.{Request}
-use Rattle.definitions.specs.Versions.{Listed, list_for, compacts}
-use Rattle.definitions.specs.WatchReplies.{watch_lines}
-use Rattle.laws.proofs.ServerAnswers.{pages_held, lines_held}
-use Rattle.laws.proofs.ServerHistories.{opened_holds, accepted_holds, compaction_holds}
-use Rattle.session.specs.SessionStates.{SessionState, accepted, reply_for, reply_to, server_from, server_or, state_after, compact_text}
-use Rattle.session.specs.Laws.{Follows, SessionsFollow}
+use Rattle.spec_api.specs.ListQueries.{ListOptions}
+use Rattle.spec_api.specs.declared.kinds.Kind.{Kind}
+use Rattle.spec_api.specs.History.{History, View}
+use Rattle.spec_line_protocol.specs.Lines as lines
+use Rattle.spec_api.specs.Replies as answers
+use Rattle.spec_line_protocol.specs.Lines.{Line, ask, at, compact, unreadable, line_of, reply_text}
+use Rattle.spec_api.specs.Replies.{outcome, watch_reply, compact_reply, history_from}
+use Rattle.spec_api.specs.Lists.{list_answer}
+use Rattle.spec_api.specs.Refusals.{Refusal}
+use Rattle.spec_laws.specs.ServerLaws.{HoldOrRefuse}
+use Rattle.spec_server.specs.Servers.{Server, IsServerAfter, after_writing, list_by, compact_by, watch_served}
+use Rattle.spec_api.specs.Streams as streams
+use Rattle.spec_api.specs.Targets.{Asked, request, list, watch, read_request}
+use Rattle.spec_api.specs.Verbs.{refused, write_of, accept_at, accept, history_after}
+use Rattle.spec_api.specs.ObjectRequests.{Request}
+use Rattle.spec_api.specs.Versions.{Listed, list_for, compacts}
+use Rattle.spec_api.specs.WatchReplies.{watch_lines}
+use Rattle.spec_laws.proofs.ServerAnswers.{pages_held, lines_held}
+use Rattle.spec_laws.proofs.ServerHistories.{opened_holds, accepted_holds, compaction_holds}
+use Rattle.line_session.specs.SessionStates.{SessionState, accepted, reply_for, reply_to, server_from, server_or, state_after, compact_text}
+use Rattle.line_session.specs.Laws.{Follows, SessionsFollow}
 
 -- ---- what is asked
 

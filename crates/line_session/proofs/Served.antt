@@ -1,26 +1,26 @@
 -- What a served request says of its outcome, and what initial events say of the lines of a stream.
 use Rattle.std.proofs.Common.{◌≡◌, ◌≢◌, ◌∙◌, ◌⊎◌, inl, inr, ℕ, Bool, List, [], ◌∷◌, ◌++◌, Option, Some, None, Result, Ok, Err, IfOk, decimal, option_map, string_bytes, ap, ap₂, sym}
-use Rattle.answers.specs.Serves.{Serves}
-use Rattle.definitions.specs.declared.versions.Start.TheVariants.{Streamed}
-use Rattle.definitions.specs.History.{View, Entries, viewed}
-use Rattle.definitions.specs.Replies.{outcome, shown, watch_reply}
-use Rattle.definitions.specs.Streams.{Line}
-use Rattle.definitions.specs.Versions.{once_present}
-use Rattle.definitions.specs.WatchReplies.{opening_lines}
-use Rattle.line_protocol.specs.Lines.{reply_text}
-use Rattle.definitions.specs.Verbs as verbs
-use Rattle.definitions.specs.Verbs.{Outcome, answered, refused}
-use Rattle.desk.proofs.Begun.{served_once, refused_once}
-use Rattle.desk.specs.Initials.{initial_of}
-use Rattle.desk.specs.Replies.{Lists}
-use Rattle.desk.specs.declared.initials.InitialEvents.{InitialEvents}
-use Rattle.keys.specs.Faults.{refusal_of}
-use Rattle.keys.specs.declared.fault.Fault.{Fault}
-use Rattle.keys.specs.declared.fault.Fault.TheVariants as fault
+use Rattle.verb_parts.specs.Serves.{Serves}
+use Rattle.spec_api.specs.declared.versions.Start.TheVariants.{Streamed}
+use Rattle.spec_api.specs.History.{View, Entries, viewed}
+use Rattle.spec_api.specs.Replies.{outcome, shown, watch_reply}
+use Rattle.spec_api.specs.Streams.{Line}
+use Rattle.spec_api.specs.Versions.{once_present}
+use Rattle.spec_api.specs.WatchReplies.{opening_lines}
+use Rattle.spec_line_protocol.specs.Lines.{reply_text}
+use Rattle.spec_api.specs.Verbs as verbs
+use Rattle.spec_api.specs.Verbs.{Outcome, answered, refused}
+use Rattle.server.proofs.Begun.{served_once, refused_once}
+use Rattle.server.specs.Initials.{initial_of}
+use Rattle.server.specs.Replies.{Lists}
+use Rattle.server.specs.declared.initials.InitialEvents.{InitialEvents}
+use Rattle.object_keys.specs.Faults.{refusal_of}
+use Rattle.object_keys.specs.declared.fault.Fault.{Fault}
+use Rattle.object_keys.specs.declared.fault.Fault.TheVariants as fault
 use Rattle.meta.specs.Writes.{write_of}
 use Rattle.meta.specs.declared.writes.Write.{Write}
 use Rattle.reply.specs.declared.reply.Reply.{Reply}
-use Rattle.server_state.specs.Servers.{Server, initial_by, watch_served}
+use Rattle.spec_server.specs.Servers.{Server, initial_by, watch_served}
 use Rattle.watch_cache.specs.Served.{Serves as Serving}
 
 pub served-write : (o : Outcome) (r : Reply) (w : Option Write) → Serves o (Ok (r, w)) → option_map write_of w ≡ verbs.write_of o

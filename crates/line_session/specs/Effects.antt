@@ -1,8 +1,8 @@
 -- Effects as code has them.
 use Rattle.meta.specs.Writes.{write_of}
-use Rattle.session.specs.SessionStates as sessions
-use Rattle.session.specs.declared.effects.Effect.{Effect}
-use Rattle.session.specs.declared.effects.Effect.TheVariants as code
+use Rattle.line_session.specs.SessionStates as sessions
+use Rattle.line_session.specs.declared.effects.Effect.{Effect}
+use Rattle.line_session.specs.declared.effects.Effect.TheVariants as code
 
 abbrev pub effect_of : Effect → sessions.Effect
 effect_of code.Nothing = sessions.nothing

@@ -1,9 +1,9 @@
 -- What follows for sessions: one whose server stands for what has happened answers as what has happened does.
 use Rattle.std.specs.Prelude.{◌≡◌, ℕ, List}
-use Rattle.line_protocol.specs.Lines as lines
-use Rattle.definitions.specs.Replies as answers
-use Rattle.server_state.specs.Servers.{IsServerAfter}
-use Rattle.session.specs.SessionStates.{SessionState, begun, reply_by_state, next_state}
+use Rattle.spec_line_protocol.specs.Lines as lines
+use Rattle.spec_api.specs.Replies as answers
+use Rattle.spec_server.specs.Servers.{IsServerAfter}
+use Rattle.line_session.specs.SessionStates.{SessionState, begun, reply_by_state, next_state}
 
 -- the server stands for what has happened, with windows of the session's size, and it is the same moment
 abbrev pub Follows : SessionState → answers.Session → Type 0

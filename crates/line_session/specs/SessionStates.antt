@@ -1,17 +1,17 @@
 -- A session as it is stored, and how it goes on: a server stands in the place of all that has happened.
 use Rattle.std.specs.Prelude.{◌≡◌, ℕ, List, [], ◌==◌, length, false, Option, Some, None, Result, Ok, Err, refl, if◌then◌else◌}
 use Rattle.std.specs.Coded.{Coded, code_by, coded×}
-use Rattle.codes.specs.Codes.{coded_text}
-use Rattle.definitions.specs.declared.refusals.Part.TheVariants as part
-use Rattle.definitions.specs.History.{Write}
-use Rattle.line_protocol.specs.Lines.{Line, ask, at, compact, unreadable, line_of, line_text, reply_text}
-use Rattle.definitions.specs.Replies.{start, Reply, outcome, shown, compacted, watch_reply}
-use Rattle.server_state.specs.Servers.{list_served, Server, opened_server, after_write, after_writing, compact_by, watch_served}
-use Rattle.definitions.specs.Refusals.{Refusal, bad_request, success_body}
-use Rattle.server_state.specs.Codes.{coded_server}
-use Rattle.definitions.specs.Targets.{Asked, request, list, watch, read_request}
-use Rattle.definitions.specs.Verbs.{Outcome, refused, write_of, accept_at, overflows}
-use Rattle.definitions.specs.ObjectRequests.{Request}
+use Rattle.model_encodings.specs.Codes.{coded_text}
+use Rattle.spec_api.specs.declared.refusals.Part.TheVariants as part
+use Rattle.spec_api.specs.History.{Write}
+use Rattle.spec_line_protocol.specs.Lines.{Line, ask, at, compact, unreadable, line_of, line_text, reply_text}
+use Rattle.spec_api.specs.Replies.{start, Reply, outcome, shown, compacted, watch_reply}
+use Rattle.spec_server.specs.Servers.{list_served, Server, opened_server, after_write, after_writing, compact_by, watch_served}
+use Rattle.spec_api.specs.Refusals.{Refusal, bad_request, success_body}
+use Rattle.spec_server.specs.Codes.{coded_server}
+use Rattle.spec_api.specs.Targets.{Asked, request, list, watch, read_request}
+use Rattle.spec_api.specs.Verbs.{Outcome, refused, write_of, accept_at, overflows}
+use Rattle.spec_api.specs.ObjectRequests.{Request}
 
 -- a server, and the moment that it is
 pub record SessionState : Type 0 where

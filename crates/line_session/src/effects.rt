@@ -1,6 +1,6 @@
 //! What lines change.
 use meta::Write;
-use stamps::moments::Moment;
+use metadata_values::moments::Moment;
 
 /// What a line changes of a session.
 #[derive(Drop)]
@@ -25,7 +25,7 @@ pub struct Prepared {
 
 impl Prepared {
     ghost use Rattle.std.specs.Prelude.{◌≡◌};
-    ghost use Rattle.session.specs.declared.effects.Effect.TheVariants as effects;
+    ghost use Rattle.line_session.specs.declared.effects.Effect.TheVariants as effects;
 
     /// Returns a reply after which nothing changes.
     pub(crate) fn unchanged(reply: Vec<u8>) -> Prepared
@@ -42,8 +42,8 @@ impl Prepared {
 impl Effect {
     ghost use Rattle.std.specs.Prelude.{◌≡◌, option_map};
     ghost use Rattle.meta.specs.Writes.{write_of};
-    ghost use Rattle.session.specs.Effects.{effect_of};
-    ghost use Rattle.session.specs.SessionStates.{of_write};
+    ghost use Rattle.line_session.specs.Effects.{effect_of};
+    ghost use Rattle.line_session.specs.SessionStates.{of_write};
 
     /// Returns the effect of what a reply writes, if it writes anything.
     pub(crate) fn of_write(write: Option<Write>) -> Effect

@@ -1,12 +1,12 @@
 //! The lines with which a watch begins.
 ghost use Rattle.std.specs.Prelude.{◌≡◌, IfOk};
-ghost use Rattle.definitions.specs.Replies.{shown};
-ghost use Rattle.definitions.specs.WatchReplies.{opening_lines};
-ghost use Rattle.line_protocol.specs.Lines.{reply_text};
+ghost use Rattle.spec_api.specs.Replies.{shown};
+ghost use Rattle.spec_api.specs.WatchReplies.{opening_lines};
+ghost use Rattle.spec_line_protocol.specs.Lines.{reply_text};
 
-use definitions::kinds::Kind;
-use desk::InitialEvents;
-use reply_lines::lines::opening_lines;
+use line_replies::lines::opening_lines;
+use server::InitialEvents;
+use spec_api::kinds::Kind;
 use std::alloc::{AllocError, Global};
 
 /// Returns the lines of a watch that begins with initial events and, if bookmarks are shown, the one that closes them. The error is

@@ -1,28 +1,28 @@
 //! Sessions.
 use crate::effects::{Effect, Prepared};
 use crate::openings::stream_opening;
-use asked::{Asked, read_request};
-use definitions::methods::Method;
-use definitions::refusals::Part;
-use definitions::versions::Start;
-use desk::{InitialEvents, Server};
-use keys::Fault;
-use line_service::LineService;
-use meta::Write;
-use reply::Reply;
-use reply_lines::lines::{
+use line_replies::lines::{
     change_lines, fault_line, initial_lines, line, refusal_line, success_line,
 };
-use reply_lines::no_memory_line;
-use requests::Request;
-use requests::line::{Line, read_line};
-use requests::list_options::ListOptions;
-use requests::watch_options::WatchOptions;
-use revisions::Watched;
+use line_replies::no_memory_line;
+use line_service::LineService;
+use meta::Write;
+use metadata_values::moments::Moment;
+use object_keys::Fault;
+use reply::Reply;
+use request_decoding::{Asked, read_request};
+use request_parts::Request;
+use request_parts::line::{Line, read_line};
+use request_parts::list_options::ListOptions;
+use request_parts::watch_options::WatchOptions;
+use request_routing::table::Routes;
+use revisions::WatchedEvents;
 use revisions::watched::last_bookmark;
-use routes::table::Routes;
 use selector::View;
-use stamps::moments::Moment;
+use server::{InitialEvents, Server};
+use spec_api::methods::Method;
+use spec_api::refusals::Part;
+use spec_api::versions::Start;
 use std::alloc::{AllocError, Global};
 use std::marker::Model;
 
@@ -35,7 +35,7 @@ pub struct Session {
 }
 
 impl Model for Session {
-    ghost use Rattle.session.specs.SessionStates.{SessionState, coded_state};
+    ghost use Rattle.line_session.specs.SessionStates.{SessionState, coded_state};
 
     ghost Value = { SessionState };
 
@@ -46,25 +46,25 @@ impl Model for Session {
 
 impl Session {
     ghost use Rattle.std.specs.Prelude.{◌≡◌, IfOk, OnOk, OnErr, false};
-    ghost use Rattle.definitions.specs.History.{viewed};
-    ghost use Rattle.desk.specs.Initials.{initial_of};
-    ghost use Rattle.answers.specs.Serves as answers;
-    ghost use Rattle.desk.specs.Replies.{Lists};
+    ghost use Rattle.spec_api.specs.History.{viewed};
+    ghost use Rattle.server.specs.Initials.{initial_of};
+    ghost use Rattle.verb_parts.specs.Serves as answers;
+    ghost use Rattle.server.specs.Replies.{Lists};
     ghost use Rattle.revisions.specs.Watches.{watched_of};
     ghost use Rattle.watch_cache.specs.Served.{Serves};
-    ghost use Rattle.definitions.specs.Replies.{outcome, watch_reply};
-    ghost use Rattle.line_protocol.specs.Lines.{reply_text};
-    ghost use Rattle.server_state.specs.Servers.{list_served, after_write, compact_by, initial_by, watch_by, watch_served};
-    ghost use Rattle.definitions.specs.Targets as targets;
-    ghost use Rattle.definitions.specs.Verbs as outcomes;
-    ghost use Rattle.definitions.specs.Verbs.{overflows};
+    ghost use Rattle.spec_api.specs.Replies.{outcome, watch_reply};
+    ghost use Rattle.spec_line_protocol.specs.Lines.{reply_text};
+    ghost use Rattle.spec_server.specs.Servers.{list_served, after_write, compact_by, initial_by, watch_by, watch_served};
+    ghost use Rattle.spec_api.specs.Targets as targets;
+    ghost use Rattle.spec_api.specs.Verbs as outcomes;
+    ghost use Rattle.spec_api.specs.Verbs.{overflows};
     ghost use Rattle.meta.specs.Writes.{write_of};
-    ghost use Rattle.requests.specs.Collected.{list_seen, watch_seen};
+    ghost use Rattle.request_parts.specs.Collected.{list_seen, watch_seen};
     ghost use Rattle.selector.specs.Views.{view_of};
-    ghost use Rattle.line_protocol.specs.Lines.{line_of};
-    ghost use Rattle.session.specs.Effects.{effect_of};
-    ghost use Rattle.session.specs.SessionStates.{begun, accepted, reply_for, reply_to, state_after, compact_text, of_write, written_by, of_compaction, effect_on, changed_by, HasRoom};
-    ghost use Rattle.requests.specs.Requests.{request_of};
+    ghost use Rattle.spec_line_protocol.specs.Lines.{line_of};
+    ghost use Rattle.line_session.specs.Effects.{effect_of};
+    ghost use Rattle.line_session.specs.SessionStates.{begun, accepted, reply_for, reply_to, state_after, compact_text, of_write, written_by, of_compaction, effect_on, changed_by, HasRoom};
+    ghost use Rattle.request_parts.specs.Requests.{request_of};
 
     /// Returns a session over a server where nothing is there, at the start of 2026, that keeps the last `window` changes of
     /// each kind. The error is running out of memory.
@@ -121,7 +121,7 @@ impl Session {
     }
 
     /// Returns all changes of a view after a revision: there are fewer than the present revision.
-    fn watched(&self, alloc: Global, view: &View, from: u64) -> Result<Watched, Fault>
+    fn watched(&self, alloc: Global, view: &View, from: u64) -> Result<WatchedEvents, Fault>
         ensures { Serves watched_of (watch_by self.now.server (view_of view.now) from self.now.server.snapshot.revision) result }
     {
         let most = self.server.revision() as usize;
@@ -326,8 +326,8 @@ impl Session {
 
 impl LineService for Session {
     ghost use Rattle.std.specs.Prelude.{Some};
-    ghost use Rattle.reply_lines.specs.Shown.{no_memory_line};
-    ghost use Rattle.session.specs.SessionStates.{reply_by_state, next_state};
+    ghost use Rattle.line_replies.specs.Shown.{no_memory_line};
+    ghost use Rattle.line_session.specs.SessionStates.{reply_by_state, next_state};
 
     ghost reply = { reply_by_state };
 

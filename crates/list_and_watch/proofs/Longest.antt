@@ -1,7 +1,7 @@
 -- The longest pause.
 use Rattle.std.proofs.Common.{arith, ◌≡◌, ◌≤◌, ◌*◌, ◌^◌, ℕ}
 use Rattle.std.proofs.Math.Pow.{pow_mono}
-use Rattle.following.specs.Pauses.{pause_after}
+use Rattle.list_and_watch.specs.Pauses.{pause_after}
 
 above : (f : ℕ) → 6 ≤ f → 30000 ≤ 800 * 2 ^ f
 above f h =

@@ -1,11 +1,11 @@
 -- What a list makes of a follower, and what a publish changes.
 use Rattle.std.proofs.Common.{◌≡◌, ℕ, List, [], ◌∷◌, length, Option, Some, None, option_map, IsSome, refl, sym, ap, subst, ◌∙◌}
-use Rattle.definitions.specs.History.{Entries}
-use Rattle.server_state.specs.Snapshots.{Snapshot}
-use Rattle.controllers.specs.Informers.{Informer, appended, after_publish, all_applied}
-use Rattle.controllers.specs.Reflectors.{Reflector, Delta, Listed, list_of, with_list, list_delta}
-use Rattle.controllers.specs.Shifts.{all_shifts}
-use Rattle.following.specs.Followers.{Follower, after_list, published, changes_in}
+use Rattle.spec_api.specs.History.{Entries}
+use Rattle.spec_server.specs.Snapshots.{Snapshot}
+use Rattle.spec_client_go.specs.Informers.{Informer, appended, after_publish, all_applied}
+use Rattle.spec_client_go.specs.Reflectors.{Reflector, Delta, Listed, list_of, with_list, list_delta}
+use Rattle.spec_client_go.specs.Shifts.{all_shifts}
+use Rattle.list_and_watch.specs.Followers.{Follower, after_list, published, changes_in}
 
 -- the delta of the list that was read is appended
 pub listed_is : (o : Option Listed) (f : Follower) (d : Delta) → Some d ≡ option_map list_delta o → record { reflector = with_list o f.reflector; informer = appended f.informer d } ≡ after_list o f

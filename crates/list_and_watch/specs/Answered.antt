@@ -1,25 +1,25 @@
 -- What a follower makes of what a server answers (client-go, tools/cache, Reflector).
 use Rattle.std.specs.Prelude.{◌≡◌, ◌⊎◌, ◌||◌, ℕ, List, length, take, nat_eq, nat_lt, nat_le, if◌then◌else◌, Bool, true, false, not, Option, Some, None, option_and_then}
-use Rattle.definitions.specs.declared.kinds.Kind.{Kind}
-use Rattle.controllers.specs.Reflectors.{Listed, list_of, fed}
-use Rattle.controllers.specs.declared.reflectors.End.{End}
-use Rattle.controllers.specs.declared.reflectors.End.TheVariants as end
+use Rattle.spec_api.specs.declared.kinds.Kind.{Kind}
+use Rattle.spec_client_go.specs.Reflectors.{Listed, list_of, fed}
+use Rattle.spec_client_go.specs.declared.reflectors.End.{End}
+use Rattle.spec_client_go.specs.declared.reflectors.End.TheVariants as end
 use Rattle.reflector.specs.declared.faults.ListFault.{ListFault}
 use Rattle.reflector.specs.declared.faults.ListFault.TheVariants as fault
-use Rattle.client.specs.declared.answer.Answer.{Answer}
-use Rattle.client.specs.declared.answer.Answer.TheVariants as answer
-use Rattle.client.specs.declared.more.More.{More}
-use Rattle.client.specs.declared.more.More.TheVariants as more
-use Rattle.remote.specs.declared.api.Opened.{Opened}
-use Rattle.remote.specs.declared.api.Opened.TheVariants as opened
-use Rattle.following.specs.Followers.{Follower, after_bytes, after_cut, after_expiry, after_refusal}
-use Rattle.following.specs.Recognized.{is_refusal}
-use Rattle.following.specs.declared.tries.Piece.{Piece}
-use Rattle.following.specs.declared.tries.Piece.TheVariants as piece
-use Rattle.following.specs.declared.tries.Tried.{Tried}
-use Rattle.following.specs.declared.tries.Tried.TheVariants as tried
-use Rattle.following.specs.declared.tries.Left.{Left}
-use Rattle.following.specs.declared.tries.Left.TheVariants as left
+use Rattle.http_client.specs.declared.answer.Answer.{Answer}
+use Rattle.http_client.specs.declared.answer.Answer.TheVariants as answer
+use Rattle.http_client.specs.declared.more.More.{More}
+use Rattle.http_client.specs.declared.more.More.TheVariants as more
+use Rattle.api_client.specs.declared.api.Opened.{Opened}
+use Rattle.api_client.specs.declared.api.Opened.TheVariants as opened
+use Rattle.list_and_watch.specs.Followers.{Follower, after_bytes, after_cut, after_expiry, after_refusal}
+use Rattle.list_and_watch.specs.Recognized.{is_refusal}
+use Rattle.list_and_watch.specs.declared.tries.Piece.{Piece}
+use Rattle.list_and_watch.specs.declared.tries.Piece.TheVariants as piece
+use Rattle.list_and_watch.specs.declared.tries.Tried.{Tried}
+use Rattle.list_and_watch.specs.declared.tries.Tried.TheVariants as tried
+use Rattle.list_and_watch.specs.declared.tries.Left.{Left}
+use Rattle.list_and_watch.specs.declared.tries.Left.TheVariants as left
 
 -- the body of a reply with the status 200
 abbrev pub body_in : Answer → Option (List ℕ)

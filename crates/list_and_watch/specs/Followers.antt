@@ -1,12 +1,12 @@
 -- Followers: what keeps a copy of a kind up to date with a server, from lists and from the bytes of watches (client-go, tools/cache, Reflector).
 use Rattle.std.specs.Prelude.{ℕ, List, [], ◌∷◌, Option, Some, None}
-use Rattle.definitions.specs.declared.kinds.Kind.{Kind}
-use Rattle.definitions.specs.History.{Entries}
-use Rattle.controllers.specs.Informers.{Informer, appended, after_publish}
-use Rattle.controllers.specs.Reflectors as reflectors
-use Rattle.controllers.specs.Reflectors.{Reflector, Delta, Listed, Fed, with_list, list_delta, fed}
-use Rattle.controllers.specs.Shifts.{Shift, all_shifts}
-use Rattle.informer.specs.Appended.{all_appended}
+use Rattle.spec_api.specs.declared.kinds.Kind.{Kind}
+use Rattle.spec_api.specs.History.{Entries}
+use Rattle.spec_client_go.specs.Informers.{Informer, appended, after_publish}
+use Rattle.spec_client_go.specs.Reflectors as reflectors
+use Rattle.spec_client_go.specs.Reflectors.{Reflector, Delta, Listed, Fed, with_list, list_delta, fed}
+use Rattle.spec_client_go.specs.Shifts.{Shift, all_shifts}
+use Rattle.plain_informer.specs.Appended.{all_appended}
 
 -- a reflector, and an informer of what it was given
 pub record Follower : Type 0 where

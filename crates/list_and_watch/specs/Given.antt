@@ -1,7 +1,7 @@
 -- What is given to a sink.
 use Rattle.std.specs.Prelude.{◌≡◌, List, Bool, Option, Some, None}
-use Rattle.server_state.specs.Snapshots.{Snapshot}
-use Rattle.controllers.specs.Shifts.{Shift}
+use Rattle.spec_server.specs.Snapshots.{Snapshot}
+use Rattle.spec_client_go.specs.Shifts.{Shift}
 
 -- the changes that are owed are taken, with the copy after them; where none are, the sink is left as it is
 abbrev pub IsGiven : {T : Type 0} → (T → List Shift → Snapshot → Bool → T → Type 0) → Option (List Shift) → Snapshot → Bool → T → T → Type 0

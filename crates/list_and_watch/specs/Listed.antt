@@ -1,8 +1,8 @@
 -- The list that a delta is.
 use Rattle.std.specs.Prelude.{Option, Some, None}
-use Rattle.controllers.specs.Reflectors as reflectors
-use Rattle.controllers.specs.Reflectors.{Delta, replace}
-use Rattle.following.specs.declared.recognizing.Listed.{Listed}
+use Rattle.spec_client_go.specs.Reflectors as reflectors
+use Rattle.spec_client_go.specs.Reflectors.{Delta, replace}
+use Rattle.list_and_watch.specs.declared.recognizing.Listed.{Listed}
 
 abbrev pub listed_of : Listed → reflectors.Listed
 listed_of l = record { revision = l.revision; objects = l.objects.items }

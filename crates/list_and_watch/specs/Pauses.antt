@@ -1,6 +1,6 @@
 -- How long is waited after a try that failed (client-go, tools/cache, NewReflectorWithOptions).
 use Rattle.std.specs.Prelude.{ℕ, ◌+◌, ◌-◌, ◌*◌, ◌^◌, min, nat_lt, if◌then◌else◌}
-use Rattle.following.specs.declared.pauses.Pauses.{Pauses}
+use Rattle.list_and_watch.specs.declared.pauses.Pauses.{Pauses}
 
 -- 0.8 s, then twice as long each time, and at most 30 s, in milliseconds
 abbrev pub pause_after : ℕ → ℕ

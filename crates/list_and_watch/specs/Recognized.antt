@@ -2,19 +2,19 @@
 use Rattle.std.specs.Prelude.{ℕ, ◌&&◌, ◌||◌, List, [], ◌∷◌, length, Bool, true, false, not, nat_eq, nat_le, nat_lt, bytes_eq, codes, Option, Some, None, option_map, option_and_then, unwrap_or, if◌then◌else◌}
 use Rattle.std.specs.List.{list_any}
 use Rattle.serde_json.specs.Data.{Data}
-use Rattle.definitions.specs.declared.kinds.Kind.{Kind}
-use Rattle.definitions.specs.History.{Entries, found}
-use Rattle.definitions.specs.Keys.{Key}
-use Rattle.definitions.specs.Metadata.{uid, version, metadata_text}
-use Rattle.definitions.specs.Objects.{Object}
-use Rattle.definitions.specs.Frames.{Frame}
-use Rattle.controllers.specs.Reflectors.{Listed, list_of, name_in, revision}
-use Rattle.controllers.specs.Shifts.{Shift}
-use Rattle.client.specs.declared.answer.Answer.{Answer}
-use Rattle.client.specs.declared.answer.Answer.TheVariants as answer
-use Rattle.client.specs.declared.reply.Reply.{Reply}
-use Rattle.following.specs.declared.recognizing.Recognized.{Recognized}
-use Rattle.following.specs.declared.recognizing.Recognized.TheVariants.{Same, Other, Unknown, Unanswered}
+use Rattle.spec_api.specs.declared.kinds.Kind.{Kind}
+use Rattle.spec_api.specs.History.{Entries, found}
+use Rattle.spec_api.specs.Keys.{Key}
+use Rattle.spec_api.specs.Metadata.{uid, version, metadata_text}
+use Rattle.spec_api.specs.Objects.{Object}
+use Rattle.spec_api.specs.Frames.{Frame}
+use Rattle.spec_client_go.specs.Reflectors.{Listed, list_of, name_in, revision}
+use Rattle.spec_client_go.specs.Shifts.{Shift}
+use Rattle.http_client.specs.declared.answer.Answer.{Answer}
+use Rattle.http_client.specs.declared.answer.Answer.TheVariants as answer
+use Rattle.http_client.specs.declared.reply.HttpReply.{HttpReply}
+use Rattle.list_and_watch.specs.declared.recognizing.Recognized.{Recognized}
+use Rattle.list_and_watch.specs.declared.recognizing.Recognized.TheVariants.{Same, Other, Unknown, Unanswered}
 
 -- ---- objects
 
@@ -56,7 +56,7 @@ is_refusal c = (nat_le 400 c && nat_lt c 500 && not (nat_eq c 429)) || nat_eq c 
 abbrev pub by_code : ℕ → Recognized
 by_code c = if is_refusal c then Unknown else Unanswered
 
-abbrev pub by_reply : Kind → ℕ → Entries → Reply → Recognized
+abbrev pub by_reply : Kind → ℕ → Entries → HttpReply → Recognized
 by_reply k r ms p = if nat_eq p.code 200 then by_list r ms (list_of k p.body.items) else by_code p.code
 
 -- who stands at a revision with these objects is answered so

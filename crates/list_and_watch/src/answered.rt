@@ -1,15 +1,15 @@
 //! What a follower makes of what a server answers.
 ghost use Rattle.std.specs.Prelude.{◌≡◌, OnOk, OnErr, IfErr, IsSome, option_map};
-ghost use Rattle.following.specs.Followers.{after_list};
-ghost use Rattle.following.specs.Answered.{body_in, is_left_open, listed_in, RefusesAnswer, after_opened, is_refusal_of_streams, after_stream_opened, piece_in, IsPieceTaken};
+ghost use Rattle.list_and_watch.specs.Followers.{after_list};
+ghost use Rattle.list_and_watch.specs.Answered.{body_in, is_left_open, listed_in, RefusesAnswer, after_opened, is_refusal_of_streams, after_stream_opened, piece_in, IsPieceTaken};
 
 use crate::follower::Follower;
 use crate::recognizing::is_refusal;
 use crate::tries::Piece;
-use client::{Answer, More};
-use informer::Publishing;
+use api_client::Opened;
+use http_client::{Answer, More};
+use plain_informer::Publishing;
 use reflector::ListFault;
-use remote::Opened;
 use std::alloc::Global;
 
 /// The status code of a list (RFC 9110, 200 OK).

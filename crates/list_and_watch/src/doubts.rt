@@ -3,10 +3,10 @@ use crate::answered::body_in;
 use crate::follower::Follower;
 use crate::recognizing::{Recognized, recognize};
 use crate::sinks::Sink;
-use client::Answer;
-use definitions::kinds::Kind;
-use informer::Publishing;
-use remote::Api;
+use api_client::Api;
+use http_client::Answer;
+use plain_informer::Publishing;
+use spec_api::kinds::Kind;
 use std::alloc::Global;
 
 /// Says to a server whether its answer was understood, if it answered with something to be read.

@@ -1,15 +1,15 @@
 //! Whether the revisions that a watch names fall.
 ghost use Rattle.std.specs.Prelude.{◌≡◌, IfOk};
 ghost use Rattle.serde_json.specs.View.{view};
-ghost use Rattle.controllers.specs.ReadFrames.{reading};
-ghost use Rattle.controllers.specs.Reflectors.{revision};
+ghost use Rattle.spec_client_go.specs.ReadFrames.{reading};
+ghost use Rattle.spec_client_go.specs.Reflectors.{revision};
 ghost use Rattle.framing.specs.Decoders.{events_of};
-ghost use Rattle.following.specs.Recognized.{falls};
+ghost use Rattle.list_and_watch.specs.Recognized.{falls};
 
 use framing::lines::read_lines;
 use framing::{Frame, Want};
+use metadata_values::revisions::read_revision;
 use serde_json::Value;
-use stamps::revisions::read_revision;
 use std::alloc::Global;
 
 /// Returns the revision that the metadata of an object names.

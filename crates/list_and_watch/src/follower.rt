@@ -1,10 +1,10 @@
 //! A follower.
-use controllers::reflectors::{Ask, End};
-use definitions::kinds::Kind;
 use framing::Want;
 use indexer::{Indexed, Shift};
-use informer::Publishing;
+use plain_informer::Publishing;
 use reflector::{Fed, ListFault, Reflector};
+use spec_api::kinds::Kind;
+use spec_client_go::reflectors::{Ask, End};
 use std::alloc::{AllocError, Global};
 use std::marker::Model;
 
@@ -16,8 +16,8 @@ pub struct Follower<I: Publishing> {
 }
 
 impl<I: Publishing> Model for Follower<I> {
-    ghost use Rattle.following.specs.Followers as followers;
-    ghost use Rattle.following.specs.Codes.{coded_follower};
+    ghost use Rattle.list_and_watch.specs.Followers as followers;
+    ghost use Rattle.list_and_watch.specs.Codes.{coded_follower};
 
     ghost Value = { followers.Follower };
 
@@ -28,10 +28,10 @@ impl<I: Publishing> Model for Follower<I> {
 
 impl<I: Publishing> Follower<I> {
     ghost use Rattle.std.specs.Prelude.{◌≡◌, IfOk, IfErr, IsSome, OnOk, OnErr, map, option_map};
-    ghost use Rattle.controllers.specs.Reflectors.{asks, fed, list_of};
+    ghost use Rattle.spec_client_go.specs.Reflectors.{asks, fed, list_of};
     ghost use Rattle.indexer.specs.Shifted.{shift_of};
     ghost use Rattle.reflector.specs.Deltas.{RefusesList};
-    ghost use Rattle.following.specs.Followers.{begun_over, begun_streaming_over, after_list, after_bytes, after_cut, after_expiry, after_refusal, published, changes_of};
+    ghost use Rattle.list_and_watch.specs.Followers.{begun_over, begun_streaming_over, after_list, after_bytes, after_cut, after_expiry, after_refusal, published, changes_of};
 
     /// Returns a follower of a kind that took nothing in yet, over an informer: it asks for a list.
     pub fn new(alloc: Global, kind: Kind, informer: I) -> Follower<I>

@@ -4,11 +4,11 @@ use crate::follower::Follower;
 use crate::owed::Owed;
 use crate::sinks::{Onward, Sink};
 use crate::tries::Tried;
-use client::Answer;
-use definitions::kinds::Kind;
-use informer::Publishing;
+use api_client::Api;
+use http_client::Answer;
+use plain_informer::Publishing;
 use reflector::ListFault;
-use remote::Api;
+use spec_api::kinds::Kind;
 use std::alloc::{AllocError, Global};
 
 /// Publishes what waits, unless changes are still owed, and gives a sink what is owed.

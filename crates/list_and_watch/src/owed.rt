@@ -1,13 +1,13 @@
 //! What was published and is still to be given to a sink.
 ghost use Rattle.std.specs.Prelude.{◌≡◌, OnOk, OnErr, true, false, None, map, option_map};
 ghost use Rattle.indexer.specs.Shifted.{shift_of};
-ghost use Rattle.following.specs.Followers.{published_unless, owed_after};
-ghost use Rattle.following.specs.Given.{IsGiven};
+ghost use Rattle.list_and_watch.specs.Followers.{published_unless, owed_after};
+ghost use Rattle.list_and_watch.specs.Given.{IsGiven};
 
 use crate::follower::Follower;
 use crate::sinks::Sink;
 use indexer::{Indexed, Shift};
-use informer::Publishing;
+use plain_informer::Publishing;
 use std::alloc::AllocError;
 
 /// The changes of the last publish until the sink has taken them, and whether it has taken none yet.

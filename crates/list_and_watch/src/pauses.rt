@@ -1,6 +1,6 @@
 //! Pauses after failed tries.
 ghost use Rattle.std.specs.Prelude.{◌≡◌, ◌≤◌};
-ghost use Rattle.following.specs.Pauses.{pause_after, failures_at, failed};
+ghost use Rattle.list_and_watch.specs.Pauses.{pause_after, failures_at, failed};
 
 /// How many failures in a row are counted: so many make the longest pause.
 const MOST_FAILURES: u32 = 6;

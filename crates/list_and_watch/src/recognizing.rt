@@ -1,18 +1,18 @@
 //! Whether a server is still the one that was followed, by the first object that it had at a revision.
 ghost use Rattle.std.specs.Prelude.{◌≡◌, Some, IfOk, option_map};
-ghost use Rattle.controllers.specs.Reflectors.{list_of};
+ghost use Rattle.spec_client_go.specs.Reflectors.{list_of};
 ghost use Rattle.reflector.specs.Deltas.{delta_of};
-ghost use Rattle.following.specs.Listed.{listed_in, listed_of};
-ghost use Rattle.following.specs.Recognized.{agrees, by_code, has, by_list, by_reply, is_refusal, recognized};
+ghost use Rattle.list_and_watch.specs.Listed.{listed_in, listed_of};
+ghost use Rattle.list_and_watch.specs.Recognized.{agrees, by_code, has, by_list, by_reply, is_refusal, recognized};
 
 use crate::sameness::is_same_write;
-use client::{Answer, Reply};
-use definitions::kinds::Kind;
 use framing::Want;
+use http_client::{Answer, HttpReply};
 use indexer::Indexed;
 use meta::Object;
 use reflector::identities::key_of;
 use reflector::{Delta, ListFault, Reflector, SharedObject};
+use spec_api::kinds::Kind;
 use std::alloc::{AllocError, Global};
 
 /// The status code of a list (RFC 9110, 200 OK).
@@ -129,7 +129,7 @@ fn by_reply(
     kind: Kind,
     revision: u64,
     copy: &Indexed,
-    reply: &Reply,
+    reply: &HttpReply,
 ) -> Result<Recognized, Want>
     ensures { IfOk result (λ r. r ≡ by_reply kind revision copy.now.members reply.now) }
 {

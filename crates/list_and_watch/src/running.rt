@@ -10,10 +10,10 @@ use crate::sinks::{Onward, Sink};
 use crate::timers::Timer;
 use crate::tries::Tried;
 use crate::watching::watch;
-use controllers::reflectors::Ask;
-use definitions::kinds::Kind;
-use informer::Publishing;
-use remote::{Api, Opened};
+use api_client::{Api, Opened};
+use plain_informer::Publishing;
+use spec_api::kinds::Kind;
+use spec_client_go::reflectors::Ask;
 use std::alloc::Global;
 
 /// What is known between two tries.

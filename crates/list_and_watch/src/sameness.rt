@@ -1,6 +1,6 @@
 //! Whether two objects are one.
 ghost use Rattle.std.specs.Prelude.{◌≡◌, option_map};
-ghost use Rattle.following.specs.Recognized.{creation, is_same_text, is_same_write};
+ghost use Rattle.list_and_watch.specs.Recognized.{creation, is_same_text, is_same_write};
 
 use meta::Object;
 

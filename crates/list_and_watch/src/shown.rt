@@ -1,12 +1,12 @@
 //! Whether what is published shows another server.
 ghost use Rattle.std.specs.Prelude.{◌≡◌, Some, map, option_map};
-ghost use Rattle.keys.specs.Keys.{key_of};
+ghost use Rattle.object_keys.specs.Keys.{key_of};
 ghost use Rattle.indexer.specs.Shifted.{shift_of};
-ghost use Rattle.following.specs.Recognized.{has_moved, is_created_again, is_elsewhere, is_same_name, shows_other_in, shows_other_server, uid_in, uid_left};
+ghost use Rattle.list_and_watch.specs.Recognized.{has_moved, is_created_again, is_elsewhere, is_same_name, shows_other_in, shows_other_server, uid_in, uid_left};
 
 use crate::sameness::{creation, is_same_text};
 use indexer::Shift;
-use keys::Key;
+use object_keys::Key;
 use reflector::SharedObject;
 
 /// Returns whether an object has the uid of another one, and was created at another moment.

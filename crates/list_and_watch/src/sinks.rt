@@ -1,7 +1,7 @@
 //! What is told of what a follower publishes.
 ghost use Rattle.std.specs.Prelude.{List, Bool, OnOk, map};
-ghost use Rattle.server_state.specs.Snapshots.{Snapshot};
-ghost use Rattle.controllers.specs.Shifts as words;
+ghost use Rattle.spec_server.specs.Snapshots.{Snapshot};
+ghost use Rattle.spec_client_go.specs.Shifts as words;
 ghost use Rattle.indexer.specs.Shifted.{shift_of};
 
 use indexer::{Indexed, Shift};

@@ -1,8 +1,8 @@
 //! What came of a try.
 ghost use Rattle.std.specs.Prelude.{◌≡◌};
-ghost use Rattle.following.specs.Answered.{leaves_doubt, piece_of, tried_after};
+ghost use Rattle.list_and_watch.specs.Answered.{leaves_doubt, piece_of, tried_after};
 
-use controllers::reflectors::End;
+use spec_client_go::reflectors::End;
 
 /// A watch that ends within so many milliseconds and gave nothing is a failed try.
 const SHORT_MILLISECONDS: u64 = 1_000;

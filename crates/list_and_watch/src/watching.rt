@@ -1,6 +1,6 @@
 //! A watch, opened and read to its end.
 ghost use Rattle.std.specs.Prelude.{◌≡◌};
-ghost use Rattle.following.specs.Answered.{over};
+ghost use Rattle.list_and_watch.specs.Answered.{over};
 
 use crate::answered::piece_in;
 use crate::follower::Follower;
@@ -10,10 +10,10 @@ use crate::sinks::Sink;
 use crate::tails::Tail;
 use crate::timers::Timer;
 use crate::tries::{Left, Piece, Tried};
-use client::More;
-use controllers::reflectors::Ask;
-use informer::Publishing;
-use remote::Api;
+use api_client::Api;
+use http_client::More;
+use plain_informer::Publishing;
+use spec_client_go::reflectors::Ask;
 use std::alloc::Global;
 
 /// How many bytes of a watch are read at once.

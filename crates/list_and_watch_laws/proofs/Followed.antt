@@ -1,21 +1,21 @@
 -- Followers that take in lists and pieces of watches, and publish after each.
 use Rattle.std.proofs.Common.{◌≡◌, ◌≤◌, ◌++◌, ℕ, List, [], ◌∷◌, flat_map, Option, Some, None, refl, sym, ap, subst, ◌∙◌}
-use Rattle.definitions.specs.declared.kinds.Kind.{Kind}
-use Rattle.definitions.specs.History.{History, list}
-use Rattle.definitions.specs.Streams.{Line, text_of_lines}
-use Rattle.server_state.specs.Snapshots.{Snapshot}
-use Rattle.controllers.specs.declared.reflectors.End.{End}
-use Rattle.controllers.specs.declared.reflectors.Phase.{Phase}
-use Rattle.controllers.specs.declared.reflectors.Phase.TheVariants.{Listing, Streaming, Watching}
-use Rattle.controllers.specs.Informers.{all_applied}
-use Rattle.controllers.specs.Reflectors.{Reflector, Fed, list_of, list_delta, fed, fed_in, joined, all_fed, apply_deltas}
-use Rattle.laws.specs.SentLaws.{whole, listed_at}
-use Rattle.laws.proofs.SentLists.{lists_put, lists_read}
+use Rattle.spec_api.specs.declared.kinds.Kind.{Kind}
+use Rattle.spec_api.specs.History.{History, list}
+use Rattle.spec_api.specs.Streams.{Line, text_of_lines}
+use Rattle.spec_server.specs.Snapshots.{Snapshot}
+use Rattle.spec_client_go.specs.declared.reflectors.End.{End}
+use Rattle.spec_client_go.specs.declared.reflectors.Phase.{Phase}
+use Rattle.spec_client_go.specs.declared.reflectors.Phase.TheVariants.{Listing, Streaming, Watching}
+use Rattle.spec_client_go.specs.Informers.{all_applied}
+use Rattle.spec_client_go.specs.Reflectors.{Reflector, Fed, list_of, list_delta, fed, fed_in, joined, all_fed, apply_deltas}
+use Rattle.spec_laws.specs.SentLaws.{whole, listed_at}
+use Rattle.spec_laws.proofs.SentLists.{lists_put, lists_read}
 use Rattle.reflector.specs.Laws.{IsAt, IsServed}
 use Rattle.reflector.proofs.Served.{cut_served}
 use Rattle.informer_laws.proofs.Publishing.{applied_both, applied_members, all_fed_names}
-use Rattle.following.specs.Followers.{Follower, after_list, after_cut, published}
-use Rattle.following_laws.specs.FollowerLaws.{Shows, after_pieces, ListsAreShown, PiecesAreShown}
+use Rattle.list_and_watch.specs.Followers.{Follower, after_list, after_cut, published}
+use Rattle.list_and_watch_laws.specs.FollowerLaws.{Shows, after_pieces, ListsAreShown, PiecesAreShown}
 
 -- ---- a list
 

@@ -1,12 +1,12 @@
 -- Steps keep that what was taken, and what is owed, are the changes of what was published.
 use Rattle.std.proofs.Common.{◌≡◌, List, [], ◌∷◌, ◌++◌, Option, Some, None, refl, sym, ap, ◌∙◌, append_assoc, append-nil}
-use Rattle.definitions.specs.History.{Entries}
-use Rattle.controllers.specs.Informers.{Informer, all_applied}
-use Rattle.controllers.specs.Reflectors.{Delta, Listed, list_of, apply_delta, apply_deltas}
-use Rattle.controllers.specs.Shifts.{Shift, shifts_of, all_shifts}
+use Rattle.spec_api.specs.History.{Entries}
+use Rattle.spec_client_go.specs.Informers.{Informer, all_applied}
+use Rattle.spec_client_go.specs.Reflectors.{Delta, Listed, list_of, apply_delta, apply_deltas}
+use Rattle.spec_client_go.specs.Shifts.{Shift, shifts_of, all_shifts}
 use Rattle.informer_laws.proofs.Publishing.{applied_both, applied_members}
-use Rattle.following.specs.Followers.{Follower, after_list, changes_in, published_unless, owed_after}
-use Rattle.following_laws.specs.GivenLaws.{Told, Step, listed, bytes, cut, expired, refused, publish, give, after_step, after_steps, owed_in, told_nothing, IsGivenOnce, ChangesAreGivenOnce}
+use Rattle.list_and_watch.specs.Followers.{Follower, after_list, changes_in, published_unless, owed_after}
+use Rattle.list_and_watch_laws.specs.GivenLaws.{Told, Step, listed, bytes, cut, expired, refused, publish, give, after_step, after_steps, owed_in, told_nothing, IsGivenOnce, ChangesAreGivenOnce}
 
 shifts_both : (ms : Entries) (ds es : List Delta) → all_shifts ms (ds ++ es) ≡ all_shifts ms ds ++ all_shifts (apply_deltas ms ds) es
 shifts_both ms [] es = refl

@@ -1,18 +1,18 @@
 -- Followers that take in pieces of a stream of initial events, and publish after each.
 use Rattle.std.proofs.Common.{◌≡◌, ◌≤◌, ◌⊎◌, ◌++◌, inl, inr, ℕ, List, [], flat_map, None, refl, sym, ap, subst, ◌∙◌}
-use Rattle.definitions.specs.declared.kinds.Kind.{Kind}
-use Rattle.definitions.specs.History.{History, list}
-use Rattle.definitions.specs.Streams.{Line, text_of_lines}
-use Rattle.server_state.specs.Snapshots.{Snapshot}
-use Rattle.controllers.specs.Informers.{all_applied}
-use Rattle.controllers.specs.Reflectors.{Reflector, Fed, all_fed}
-use Rattle.laws.specs.SentLaws.{whole}
+use Rattle.spec_api.specs.declared.kinds.Kind.{Kind}
+use Rattle.spec_api.specs.History.{History, list}
+use Rattle.spec_api.specs.Streams.{Line, text_of_lines}
+use Rattle.spec_server.specs.Snapshots.{Snapshot}
+use Rattle.spec_client_go.specs.Informers.{all_applied}
+use Rattle.spec_client_go.specs.Reflectors.{Reflector, Fed, all_fed}
+use Rattle.spec_laws.specs.SentLaws.{whole}
 use Rattle.reflector.specs.Laws.{IsAtStart, IsServedInitial, Waits, Replaces}
 use Rattle.reflector.proofs.Opened.{initial_streams, cuts_open_again}
 use Rattle.informer_laws.proofs.Publishing.{all_fed_names, applied_members}
-use Rattle.following.specs.Followers.{Follower, after_cut}
-use Rattle.following_laws.proofs.Followed.{kind_of_all, with_pieces, at_rest, all_taken}
-use Rattle.following_laws.specs.FollowerLaws.{Shows, Starts, after_pieces, InitialStreamsAreShown}
+use Rattle.list_and_watch.specs.Followers.{Follower, after_cut}
+use Rattle.list_and_watch_laws.proofs.Followed.{kind_of_all, with_pieces, at_rest, all_taken}
+use Rattle.list_and_watch_laws.specs.FollowerLaws.{Shows, Starts, after_pieces, InitialStreamsAreShown}
 
 -- what a follower that took in pieces shows, where this was published before
 abbrev Result : History → Kind → ℕ → ℕ → Snapshot → Follower → Type 0

@@ -1,13 +1,13 @@
 -- Laws of what followers publish.
 use Rattle.std.specs.Prelude.{◌≡◌, ◌≤◌, ◌⊎◌, ℕ, List, [], ◌∷◌, ◌++◌, flat_map}
-use Rattle.definitions.specs.declared.kinds.Kind.{Kind}
-use Rattle.definitions.specs.History.{History, list}
-use Rattle.definitions.specs.Reached.{IsReached}
-use Rattle.definitions.specs.Streams.{Line, text_of_lines}
-use Rattle.controllers.specs.Reflectors.{list_of}
-use Rattle.laws.specs.SentLaws.{whole, IsListText}
+use Rattle.spec_api.specs.declared.kinds.Kind.{Kind}
+use Rattle.spec_api.specs.History.{History, list}
+use Rattle.spec_api.specs.Reached.{IsReached}
+use Rattle.spec_api.specs.Streams.{Line, text_of_lines}
+use Rattle.spec_client_go.specs.Reflectors.{list_of}
+use Rattle.spec_laws.specs.SentLaws.{whole, IsListText}
 use Rattle.reflector.specs.Laws.{IsAt, IsAtStart, IsServed, IsServedInitial}
-use Rattle.following.specs.Followers.{Follower, after_list, after_bytes, after_cut, published}
+use Rattle.list_and_watch.specs.Followers.{Follower, after_list, after_bytes, after_cut, published}
 
 -- of a kind, it has published the server's list at a revision, from which it watches, and nothing waits
 pub record Shows (h : History) (k : Kind) (r : ℕ) (f : Follower) : Type 0 where

@@ -1,9 +1,9 @@
 -- Laws of what sinks are given.
 use Rattle.std.specs.Prelude.{◌≡◌, ℕ, List, [], ◌∷◌, ◌++◌, Option, Some, None}
-use Rattle.controllers.specs.Informers.{Informer, all_applied}
-use Rattle.controllers.specs.Reflectors.{Delta, list_of}
-use Rattle.controllers.specs.Shifts.{Shift, all_shifts}
-use Rattle.following.specs.Followers.{Follower, after_list, after_bytes, after_cut, after_expiry, after_refusal, published_unless, owed_after}
+use Rattle.spec_client_go.specs.Informers.{Informer, all_applied}
+use Rattle.spec_client_go.specs.Reflectors.{Delta, list_of}
+use Rattle.spec_client_go.specs.Shifts.{Shift, all_shifts}
+use Rattle.list_and_watch.specs.Followers.{Follower, after_list, after_bytes, after_cut, after_expiry, after_refusal, published_unless, owed_after}
 
 -- a follower, the changes that are owed to its sink, and those that the sink has taken
 pub record Told : Type 0 where

@@ -4,14 +4,14 @@ use Rattle.serde_json.specs.Data.{Data, string, array, object, no_members, membe
 use Rattle.serde_json.specs.View.{items_of}
 use Rattle.serde_json.specs.Written.{compact_text}
 use Rattle.serde_json.proofs.OnLiterals.{serde_json_on_literals}
-use Rattle.definitions.specs.declared.kinds.Kind.{Kind}
-use Rattle.definitions.specs.Kinds.{api_version, kind_text}
-use Rattle.definitions.specs.Lists.{page_metadata, page_body}
-use Rattle.definitions.specs.Pages.{Place}
-use Rattle.definitions.specs.Verbs.{as_item}
+use Rattle.spec_api.specs.declared.kinds.Kind.{Kind}
+use Rattle.spec_api.specs.Kinds.{api_version, kind_text}
+use Rattle.spec_api.specs.Lists.{page_metadata, page_body}
+use Rattle.spec_api.specs.Pages.{Place}
+use Rattle.spec_api.specs.Verbs.{as_item}
 use Rattle.meta.specs.Members.{member_of}
 use Rattle.meta.specs.declared.lent_members.Member.{Member}
-use Rattle.list_texts.specs.PageTexts.{page_data, page_pieces}
+use Rattle.list_encoding.specs.PageTexts.{page_data, page_pieces}
 
 compact_text-page_data : (k : Kind) (ds : List Data) (said : Data) → compact_text (page_data k ds said) ≡ page_pieces k ds said
 unfolding serde_json_on_literals

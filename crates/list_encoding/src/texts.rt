@@ -4,16 +4,16 @@ ghost use Rattle.json.specs.Print.{quoted};
 ghost use Rattle.serde_json.specs.Data.{object as data_object};
 ghost use Rattle.serde_json.specs.View.{items_of, view};
 ghost use Rattle.serde_json.specs.Written as json;
-ghost use Rattle.definitions.specs.Kinds.{kind_text};
-ghost use Rattle.definitions.specs.Lists.{page_body, page_metadata};
-ghost use Rattle.definitions.specs.Verbs.{as_item};
+ghost use Rattle.spec_api.specs.Kinds.{kind_text};
+ghost use Rattle.spec_api.specs.Lists.{page_body, page_metadata};
+ghost use Rattle.spec_api.specs.Verbs.{as_item};
 ghost use Rattle.meta.specs.Members.{member_of};
 ghost use Rattle.pages.specs.Seen.{asked_place};
 
-use definitions::kinds::Kind;
 use meta::{Member, StoredObject};
 use pages::Token;
 use serde_json::{Value, json};
+use spec_api::kinds::Kind;
 use std::alloc::{AllocError, Global};
 
 /// About how much longer a page with few objects is than their texts.

@@ -14,11 +14,11 @@ use Rattle.std.specs.contracts.alloc.Global as Global
 use Rattle.std.specs.contracts.impls.GlobalAllocator.TheImpl.{ghosts}
 use Rattle.std.specs.contracts.sync.atomic.AtomicU64 as AtomicU64
 use Rattle.std.specs.contracts.vec.Vec as Vec
-use Rattle.keys.proofs.key.Key.TheSendSync as key_of
+use Rattle.object_keys.proofs.key.Key.TheSendSync as key_of
 use Rattle.lister_bench.proofs.looks.Wanted.TheSendSync as wanted_of
 use Rattle.lister_bench.specs.contracts.looks.Wanted as Wanted
-use Rattle.listers.proofs.Sent.{lister}
-use Rattle.listers.specs.contracts.listers.Lister as Lister
+use Rattle.informer.proofs.Sent.{lister}
+use Rattle.informer.specs.contracts.listers.Lister as Lister
 
 counter : IsSync AtomicU64.the_row
 counter = search (heap.crosses, sendable) depth 20

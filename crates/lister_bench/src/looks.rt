@@ -1,8 +1,8 @@
 //! Threads that look while another publishes.
 use crate::pods::{pods, publish_all, publish_one};
 use indexer::Indexed;
-use keys::Key;
-use listers::{Informer, Lister};
+use informer::{Informer, Lister};
+use object_keys::Key;
 use reflector::SharedObject;
 use std::alloc::{AllocError, Global};
 use std::sync::Wait;

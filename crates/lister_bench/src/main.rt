@@ -17,26 +17,26 @@ use std::thread::Threads;
 use std::time::Clock;
 use std::{env, io};
 
-/// What is measured.
+/// Measurement is measured.
 #[derive(Clone, Copy)]
-pub enum What {
+pub enum Measurement {
     Publish,
     Looks,
     Gets,
 }
 
 /// Returns what a word asks for.
-fn named(word: &str) -> Option<What> {
+fn named(word: &str) -> Option<Measurement> {
     match word {
-        "publish" => Some(What::Publish),
-        "looks" => Some(What::Looks),
-        "gets" => Some(What::Gets),
+        "publish" => Some(Measurement::Publish),
+        "looks" => Some(Measurement::Looks),
+        "gets" => Some(Measurement::Gets),
         _ => None,
     }
 }
 
 /// Returns what the arguments ask for, and the number.
-fn asked(rt: &HostRuntime) -> io::Result<Option<(What, u32)>> {
+fn asked(rt: &HostRuntime) -> io::Result<Option<(Measurement, u32)>> {
     let mut words = env::args(rt)?;
     let _program = words.next();
     let (Some(what), Some(number), None) = (words.next(), words.next(), words.next()) else {
@@ -66,16 +66,16 @@ fn looked<R: Threads + Wait + Clock + Sync>(
 fn measured<R: Threads + Wait + Clock + Sync>(
     rt: &R,
     alloc: Global,
-    what: What,
+    what: Measurement,
     number: u32,
 ) -> Result<String, AllocError> {
     match what {
-        What::Publish => {
+        Measurement::Publish => {
             let shifts = publishes::run(rt, alloc, number)?;
             format!(in alloc; "{shifts} shifts")
         }
-        What::Looks => looked(rt, alloc, number, &Wanted::Revision),
-        What::Gets => {
+        Measurement::Looks => looked(rt, alloc, number, &Wanted::Revision),
+        Measurement::Gets => {
             let wanted = Wanted::Object(key(alloc, PODS / 2)?);
             looked(rt, alloc, number, &wanted)
         }

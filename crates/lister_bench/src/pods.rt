@@ -1,10 +1,10 @@
 //! The Pods that are taken in.
-use definitions::kinds::Kind;
-use keys::Key;
-use listers::Informer;
+use informer::Informer;
 use meta::Object;
+use object_keys::Key;
 use reflector::{Delta, SharedObject};
 use serde_json::Value;
+use spec_api::kinds::Kind;
 use std::alloc::{AllocError, Global};
 use std::sync::Wait;
 

@@ -1,6 +1,6 @@
 //! Publishes of one delta.
 use crate::pods::{pods, publish_all, publish_one};
-use listers::Informer;
+use informer::Informer;
 use reflector::SharedObject;
 use std::alloc::{AllocError, Global};
 use std::sync::Wait;

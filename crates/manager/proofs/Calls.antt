@@ -2,10 +2,10 @@
 use Rattle.std.proofs.Common.{◌≡◌, ◌++◌, List, Option, None, Result, Ok, Err, OnOk, OnErr, ap, ◌∙◌, subst, append_assoc}
 use Rattle.std.proofs.lemmas.List.{append-nil}
 use Rattle.baton.specs.declared.views.Known.{Known}
-use Rattle.control.specs.Boards.{Board, Observation}
-use Rattle.controllers.specs.WorkQueues.{WorkKey}
-use Rattle.shared_board.specs.Calls.{IsCall, Nothing, once_ok}
-use Rattle.shared_board.specs.Steps.{Step, changing, observe}
+use Rattle.spec_work_board.specs.Boards.{Board, Observation}
+use Rattle.spec_client_go.specs.WorkQueues.{WorkKey}
+use Rattle.control_desk.specs.Calls.{IsCall, Nothing, once_ok}
+use Rattle.control_desk.specs.Steps.{Step, changing, observe}
 use Rattle.manager.specs.Handled.{HasWaited}
 
 -- a call that changes nothing

@@ -2,12 +2,12 @@
 use Rattle.std.proofs.Common.{◌≡◌, ℕ, Bool, List, [], drop, Result, Ok, Err, OnErr, ap, ◌∙◌, refl, sym}
 use Rattle.std.proofs.lemmas.List.{append-nil}
 use Rattle.baton.specs.declared.views.Known.{Known}
-use Rattle.control.specs.Boards.{Board}
-use Rattle.controllers.specs.Informers.{nothing}
-use Rattle.controllers.specs.Shifts.{Shift}
-use Rattle.server_state.specs.Snapshots.{Snapshot}
-use Rattle.shared_board.specs.Steps.{Step}
-use Rattle.turns.specs.declared.looks.Looks.{Looks}
+use Rattle.spec_work_board.specs.Boards.{Board}
+use Rattle.spec_client_go.specs.Informers.{nothing}
+use Rattle.spec_client_go.specs.Shifts.{Shift}
+use Rattle.spec_server.specs.Snapshots.{Snapshot}
+use Rattle.control_desk.specs.Steps.{Step}
+use Rattle.reconcile_types.specs.declared.looks.Looks.{Looks}
 use Rattle.manager.specs.Handled.{HandlesSome}
 
 empty : Looks Snapshot

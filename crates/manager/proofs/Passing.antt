@@ -2,10 +2,10 @@
 use Rattle.std.proofs.Common.{◌≡◌, ◌≤◌, ◌+◌, ◌++◌, ℕ, List, [], ◌∷◌, Bool, true, false, None, Some, if◌then◌else◌, ap, arith}
 use Rattle.baton.specs.Marks.{entries, marked}
 use Rattle.baton.specs.declared.views.Known.{Known}
-use Rattle.control.specs.Boards.{Board}
-use Rattle.shared_board.specs.Calls.{IsCall}
-use Rattle.shared_board.specs.Hands.{board}
-use Rattle.shared_board.specs.Steps.{Step, after, changing, is_same}
+use Rattle.spec_work_board.specs.Boards.{Board}
+use Rattle.control_desk.specs.Calls.{IsCall}
+use Rattle.control_desk.specs.Hands.{board}
+use Rattle.control_desk.specs.Steps.{Step, after, changing, is_same}
 use Rattle.manager.specs.Handled.{HasWaited}
 use Rattle.manager.specs.Passed.{milliseconds_of, passed_in}
 

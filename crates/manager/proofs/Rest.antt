@@ -2,12 +2,12 @@
 use Rattle.std.proofs.Common.{◌≡◌, ◌++◌, ◌+◌, ◌<◌, ℕ, Bool, List, [], ◌∷◌, map, drop, length, get_or, ap, ◌∙◌, refl, sym, subst, arith, append_assoc}
 use Rattle.std.proofs.lemmas.List.{drop_more, get_or-map, length-map}
 use Rattle.baton.specs.declared.views.Known.{Known}
-use Rattle.control.specs.Boards.{Board}
-use Rattle.controllers.specs.Shifts.{Shift}
-use Rattle.server_state.specs.Snapshots.{Snapshot}
-use Rattle.shared_board.specs.Calls.{IsCall, Nothing}
-use Rattle.shared_board.specs.Steps.{Step, changing}
-use Rattle.turns.specs.declared.looks.Looks.{Looks}
+use Rattle.spec_work_board.specs.Boards.{Board}
+use Rattle.spec_client_go.specs.Shifts.{Shift}
+use Rattle.spec_server.specs.Snapshots.{Snapshot}
+use Rattle.control_desk.specs.Calls.{IsCall, Nothing}
+use Rattle.control_desk.specs.Steps.{Step, changing}
+use Rattle.reconcile_types.specs.declared.looks.Looks.{Looks}
 use Rattle.manager.specs.Handled.{Handles, step_of}
 
 -- one more change is handled

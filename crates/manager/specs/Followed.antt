@@ -1,5 +1,5 @@
 -- A thread that follows a kind.
-use Rattle.controllers.specs.Reflectors.{Reflector}
+use Rattle.spec_client_go.specs.Reflectors.{Reflector}
 use Rattle.manager.specs.declared.reflecting.Reflecting.{Reflecting}
 
 -- what it asks of the server next, and what it has taken in

@@ -2,18 +2,18 @@
 use Rattle.std.specs.Prelude.{◌≡◌, ◌⊎◌, ◌||◌, ◌++◌, ℕ, List, [], ◌∷◌, drop, Bool, true, false, nat_lt, Option, None}
 use Rattle.baton.specs.Marks.{StartsWith}
 use Rattle.baton.specs.declared.views.Known.{Known}
-use Rattle.control.specs.Boards.{Board}
-use Rattle.controllers.specs.OwedKeys.{keys_of}
-use Rattle.controllers.specs.Shifts.{Shift}
-use Rattle.following.specs.Recognized.{shows_other_server}
-use Rattle.listers.specs.declared.listers.Lister.{Lister}
-use Rattle.reconciling.specs.ControlPlanes.{change_of}
-use Rattle.reconciling.specs.PodObservations.{observations}
-use Rattle.server_state.specs.Snapshots.{Snapshot}
-use Rattle.shared_board.specs.Calls.{IsCall, Nothing}
-use Rattle.shared_board.specs.Steps.{Step, changing, observe}
-use Rattle.turns.specs.Hands.{looks_of}
-use Rattle.turns.specs.declared.looks.Looks.{Looks}
+use Rattle.spec_work_board.specs.Boards.{Board}
+use Rattle.spec_client_go.specs.OwedKeys.{keys_of}
+use Rattle.spec_client_go.specs.Shifts.{Shift}
+use Rattle.list_and_watch.specs.Recognized.{shows_other_server}
+use Rattle.informer.specs.declared.listers.Lister.{Lister}
+use Rattle.spec_sim_control_plane.specs.ControlPlanes.{change_of}
+use Rattle.spec_sim_control_plane.specs.PodObservations.{observations}
+use Rattle.spec_server.specs.Snapshots.{Snapshot}
+use Rattle.control_desk.specs.Calls.{IsCall, Nothing}
+use Rattle.control_desk.specs.Steps.{Step, changing, observe}
+use Rattle.reconcile_types.specs.Hands.{looks_of}
+use Rattle.reconcile_types.specs.declared.looks.Looks.{Looks}
 use Rattle.manager.specs.Looked.{AreLookedAt}
 
 -- the step by which a change is handled: what it shows of the pods that are expected, nothing where it is of the first list, and the keys that it

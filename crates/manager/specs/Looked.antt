@@ -1,15 +1,15 @@
 -- What a thread that looks at what is published sees, and what its listers then know.
 use Rattle.std.specs.Prelude.{◌≡◌, Option, Some, None}
-use Rattle.definitions.specs.declared.kinds.Kind.{Kind}
-use Rattle.definitions.specs.declared.kinds.Kind.TheVariants.{ConfigMap, Pod, ReplicaSet, Deployment}
-use Rattle.controllers.specs.Informers.{nothing, all_applied}
-use Rattle.listers.specs.Knowing.{StartsWithAll}
-use Rattle.listers.specs.Listers.{known, known_last}
-use Rattle.listers.specs.Published.{all_of}
-use Rattle.listers.specs.declared.listers.Lister.{Lister}
+use Rattle.spec_api.specs.declared.kinds.Kind.{Kind}
+use Rattle.spec_api.specs.declared.kinds.Kind.TheVariants.{ConfigMap, Pod, ReplicaSet, Deployment}
+use Rattle.spec_client_go.specs.Informers.{nothing, all_applied}
+use Rattle.informer.specs.Knowing.{StartsWithAll}
+use Rattle.informer.specs.Listers.{known, known_last}
+use Rattle.informer.specs.Published.{all_of}
+use Rattle.informer.specs.declared.listers.Lister.{Lister}
 use Rattle.reflector.specs.Deltas.{deltas_of}
-use Rattle.server_state.specs.Snapshots.{Snapshot}
-use Rattle.turns.specs.declared.looks.Looks.{Looks}
+use Rattle.spec_server.specs.Snapshots.{Snapshot}
+use Rattle.reconcile_types.specs.declared.looks.Looks.{Looks}
 
 -- what is of a kind
 abbrev pub of_kind : {S : Type 0} → Kind → Looks S → S

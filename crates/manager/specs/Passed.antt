@@ -3,7 +3,7 @@ use Rattle.std.specs.Prelude.{ℕ, ◌+◌, List, [], ◌∷◌}
 use Rattle.clocks.specs.declared.stopwatch.Stopwatch.{Stopwatch}
 use Rattle.manager.specs.declared.timing.Wall.{Wall}
 use Rattle.tcp_client.specs.Clocks.{stopwatch_of}
-use Rattle.shared_board.specs.Steps.{Step, take, finish, requeue, observe, expect_creations, expect_deletions, forget, tick}
+use Rattle.control_desk.specs.Steps.{Step, take, finish, requeue, observe, expect_creations, expect_deletions, forget, tick}
 
 abbrev pub milliseconds_of : Step → ℕ
 milliseconds_of (take k) = 0

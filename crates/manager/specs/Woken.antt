@@ -1,11 +1,11 @@
 -- What wakes the keys that wait for what is never seen.
 use Rattle.std.specs.Prelude.{ℕ, List, [], None}
 use Rattle.baton.specs.declared.views.Known.{Known}
-use Rattle.control.specs.Boards.{Board}
-use Rattle.control_desk.specs.Aged.{HaveAgedOut}
-use Rattle.controllers.specs.WorkQueues.{WorkKey}
-use Rattle.shared_board.specs.Calls.{IsCall, Nothing}
-use Rattle.shared_board.specs.Steps.{Step, changing, observe}
+use Rattle.spec_work_board.specs.Boards.{Board}
+use Rattle.work_board.specs.Aged.{HaveAgedOut}
+use Rattle.spec_client_go.specs.WorkQueues.{WorkKey}
+use Rattle.control_desk.specs.Calls.{IsCall, Nothing}
+use Rattle.control_desk.specs.Steps.{Step, changing, observe}
 
 -- The keys of the ReplicaSets whose expectations aged out from a moment until now, the board's time when it was looked at, are added as those
 -- that a change owes.

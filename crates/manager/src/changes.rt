@@ -1,25 +1,25 @@
 //! Changes of a publish, handled at the board.
 ghost use Rattle.std.specs.Prelude.{◌≡◌, IfOk, OnOk, OnErr, map, drop};
-ghost use Rattle.control_desk.specs.Seen.{observation_of};
-ghost use Rattle.controllers.specs.OwedKeys.{keys_of};
+ghost use Rattle.work_board.specs.Seen.{observation_of};
+ghost use Rattle.spec_client_go.specs.OwedKeys.{keys_of};
 ghost use Rattle.indexer.specs.Shifted.{shift_of};
-ghost use Rattle.reconciling.specs.ControlPlanes.{change_of};
-ghost use Rattle.reconciling.specs.PodObservations.{observations};
-ghost use Rattle.shared_board.specs.Calls.{IsCall, Nothing};
-ghost use Rattle.shared_board.specs.Desks.{known, IsPassAt};
-ghost use Rattle.shared_board.specs.Steps.{changing};
-ghost use Rattle.turns.specs.Hands.{looks_of};
+ghost use Rattle.spec_sim_control_plane.specs.ControlPlanes.{change_of};
+ghost use Rattle.spec_sim_control_plane.specs.PodObservations.{observations};
+ghost use Rattle.control_desk.specs.Calls.{IsCall, Nothing};
+ghost use Rattle.control_desk.specs.Desks.{known, IsPassAt};
+ghost use Rattle.control_desk.specs.Steps.{changing};
+ghost use Rattle.reconcile_types.specs.Hands.{looks_of};
 ghost use Rattle.work_keys.specs.WorkKeys.{work_key_of};
 ghost use Rattle.manager.specs.Handled.{step_of, HasWaited, Handles, StopsAt};
 
-use control_desk::Observation;
+use control_desk::{ControlDesk, WorkPass};
 use indexer::{Indexed, Shift};
-use informer::keys_of;
+use plain_informer::keys_of;
 use pod_observations::{object_in, observations};
-use shared_board::{ControlDesk, WorkPass};
+use reconcile_types::Looks;
 use std::alloc::{AllocError, Global};
 use std::sync::Wait;
-use turns::Looks;
+use work_board::Observation;
 use work_keys::WorkKey;
 
 /// By what the changes of a publish are handled.

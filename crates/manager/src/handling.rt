@@ -1,16 +1,16 @@
 //! Published changes, handled.
-ghost use Rattle.shared_board.specs.Desks.{IsPassAt};
+ghost use Rattle.control_desk.specs.Desks.{IsPassAt};
 
 use crate::changes::Handling;
 use crate::looking::Listers;
-use following::{Onward, Sink, shows_other_server};
+use control_desk::{ControlDesk, WorkPass};
 use indexer::{Indexed, Shift};
-use shared_board::{ControlDesk, WorkPass};
+use list_and_watch::{Onward, Sink, shows_other_server};
+use manager_worker::Signals;
+use reconcile_types::Looks;
 use std::alloc::{AllocError, Global};
 use std::sync::Wait;
 use std::time::Clock;
-use turns::Looks;
-use worker_turns::Signals;
 
 /// What handles the changes that an informer publishes: each pod that they show counts as created or deleted, and each key that they owe
 /// waits in the queue. A change of the first list shows no pod that was waited for: its pods are older than everything that is expected.
@@ -34,7 +34,7 @@ pub struct Handler<'a, R> {
 impl<'a, R: Wait + Clock> Handler<'a, R> {
     ghost use Rattle.std.specs.Prelude.{◌≡◌, OnOk, OnErr, IfSome, map, drop, None};
     ghost use Rattle.indexer.specs.Shifted.{shift_of};
-    ghost use Rattle.shared_board.specs.Desks.{known, IsPassAt};
+    ghost use Rattle.control_desk.specs.Desks.{known, IsPassAt};
     ghost use Rattle.manager.specs.Handled.{HandlesAll, HandlesSome, is_other};
     ghost use Rattle.manager.specs.Looked.{AreLookedAt};
 
@@ -116,7 +116,7 @@ impl<'a, R: Wait + Clock> Handler<'a, R> {
 }
 
 impl<R: Wait + Clock> Sink for Handler<'_, R> {
-    ghost use Rattle.shared_board.specs.Desks.{known};
+    ghost use Rattle.control_desk.specs.Desks.{known};
     ghost use Rattle.manager.specs.Handled.{Takes};
 
     ghost takes = { λ before shifts objects is_first after.

@@ -11,5 +11,5 @@ pub mod running;
 pub mod ticking;
 pub mod timing;
 
+pub use manager_worker::{Gate, Open, Signals};
 pub use running::{Apis, run};
-pub use worker_turns::{Gate, Open, Signals};

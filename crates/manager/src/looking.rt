@@ -3,12 +3,12 @@ ghost use Rattle.std.specs.Prelude.{◌≡◌, IfOk, IfSome};
 ghost use Rattle.manager.specs.Looked.{map_known, KnowsMore};
 
 use core::mem::replace_with;
-use definitions::kinds::Kind;
 use indexer::Indexed;
-use listers::Lister;
+use informer::Lister;
+use manager_worker::Looking;
+use reconcile_types::Looks;
+use spec_api::kinds::Kind;
 use std::alloc::AllocError;
-use turns::Looks;
-use worker_turns::Looking;
 
 /// The listers of a thread, one for each kind.
 #[derive(Drop)]

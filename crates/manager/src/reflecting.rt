@@ -1,18 +1,18 @@
 //! A thread that follows a kind.
 ghost use Rattle.std.specs.Prelude.{◌≡◌};
-ghost use Rattle.controllers.specs.Reflectors.{begun_streaming};
+ghost use Rattle.spec_client_go.specs.Reflectors.{begun_streaming};
 ghost use Rattle.manager.specs.Followed.{reflector_of};
 
 use crate::handling::Handler;
 use crate::timing::Wall;
-use definitions::kinds::Kind;
-use following::{Follower, follow};
-use listers::SharedInformer;
-use remote::Api;
+use api_client::Api;
+use informer::SharedInformer;
+use list_and_watch::{Follower, follow};
+use manager_worker::Signals;
+use spec_api::kinds::Kind;
 use std::alloc::Global;
 use std::sync::Wait;
 use std::time::Clock;
-use worker_turns::Signals;
 
 /// What follows a kind at the server: a reflector and an informer, and what handles each change once it is published.
 #[derive(Drop)]

@@ -1,22 +1,22 @@
 //! All threads of a manager.
 ghost use Rattle.std.specs.Prelude.{◌≡◌, ◌<◌, ◌^◌, ◌+◌, IfOk, OnOk, All, vec_len};
-ghost use Rattle.shared_board.specs.Desks.{IsNewAt};
+ghost use Rattle.control_desk.specs.Desks.{IsNewAt};
 
 use crate::handling::Handler;
 use crate::looking::Listers;
-use crate::members::Member;
+use crate::members::ManagerThread;
 use crate::reflecting::Reflecting;
 use crate::ticking::Ticker;
-use definitions::kinds::Kind;
-use listers::{Informer, SharedInformer};
-use remote::Api;
-use shared_board::{ControlDesk, WorkPass};
+use api_client::Api;
+use control_desk::{ControlDesk, WorkPass};
+use informer::{Informer, SharedInformer};
+use manager_worker::{Gate, Signals, Tools, Worker};
+use reconcile_types::Looks;
+use spec_api::kinds::Kind;
 use std::alloc::{AllocError, Global};
 use std::sync::Wait;
 use std::thread::{Threads, for_each_mut};
 use std::time::Clock;
-use turns::Looks;
-use worker_turns::{Gate, Signals, Tools, Worker};
 
 /// How many threads look at what is published beside the workers: each that follows a kind.
 const FOLLOWERS: usize = 4;
@@ -89,11 +89,11 @@ impl<'a, R: Threads + Wait + Clock + Sync, G: Gate> Floor<'a, R, G> {
         informer: SharedInformer<'a, R>,
         listers: Listers,
         api: A,
-    ) -> Member<'a, R, A, G>
+    ) -> ManagerThread<'a, R, A, G>
         requires { IsNewAt self.now.desk.now pass }
     {
         let handler = Handler::new(self.rt, self.alloc, self.desk, pass, self.signals, listers);
-        Member::Follows(Reflecting::new(
+        ManagerThread::Follows(Reflecting::new(
             self.rt,
             self.alloc,
             kind,
@@ -105,7 +105,12 @@ impl<'a, R: Threads + Wait + Clock + Sync, G: Gate> Floor<'a, R, G> {
     }
 
     /// Returns a worker.
-    fn works<A: Api + Drop>(&self, pass: WorkPass, listers: Listers, api: A) -> Member<'a, R, A, G>
+    fn works<A: Api + Drop>(
+        &self,
+        pass: WorkPass,
+        listers: Listers,
+        api: A,
+    ) -> ManagerThread<'a, R, A, G>
         requires { IsNewAt self.now.desk.now pass }
     {
         let tools = Tools {
@@ -116,7 +121,7 @@ impl<'a, R: Threads + Wait + Clock + Sync, G: Gate> Floor<'a, R, G> {
             listers,
             api,
         };
-        Member::Works(Worker::new(self.desk, pass, tools))
+        ManagerThread::Works(Worker::new(self.desk, pass, tools))
     }
 }
 
@@ -126,7 +131,7 @@ fn workers<'a, R: Threads + Wait + Clock + Sync, A: Api + Drop, G: Gate>(
     passes: &mut Vec<WorkPass>,
     informers: &mut Looks<SharedInformer<'a, R>>,
     apis: Vec<A>,
-) -> Result<Vec<Member<'a, R, A, G>>, AllocError>
+) -> Result<Vec<ManagerThread<'a, R, A, G>>, AllocError>
     requires passes { All (IsNewAt floor.now.desk.now) passes.old.items }
     requires enough { vec_len passes.old ≡ vec_len apis + 5 }
     ensures passes { All (IsNewAt floor.now.desk.now) passes.new.items }
@@ -148,7 +153,7 @@ fn members<'a, R: Threads + Wait + Clock + Sync, A: Api + Drop, G: Gate>(
     passes: Vec<WorkPass>,
     informers: Looks<SharedInformer<'a, R>>,
     apis: Apis<A>,
-) -> Result<Vec<Member<'a, R, A, G>>, AllocError>
+) -> Result<Vec<ManagerThread<'a, R, A, G>>, AllocError>
     requires passes { All (IsNewAt floor.now.desk.now) passes.items }
     requires enough { vec_len passes ≡ vec_len apis.workers + 5 }
     ensures { IfOk result (λ made. vec_len made ≡ vec_len apis.workers + 5) }
@@ -190,7 +195,7 @@ fn members<'a, R: Threads + Wait + Clock + Sync, A: Api + Drop, G: Gate>(
         own.deployments,
         asking.deployments,
     ))?;
-    made.push(Member::Ticks(Ticker::new(
+    made.push(ManagerThread::Ticks(Ticker::new(
         floor.rt,
         floor.desk,
         floor.next_pass(&mut passes),

@@ -1,14 +1,14 @@
 //! Time that passes at the board.
 ghost use Rattle.std.specs.Prelude.{◌≤◌};
-ghost use Rattle.shared_board.specs.Desks.{known, IsPassAt};
+ghost use Rattle.control_desk.specs.Desks.{known, IsPassAt};
 ghost use Rattle.manager.specs.Passed.{passed_in};
 
 use crate::timing::Wall;
-use shared_board::{ControlDesk, WorkPass};
+use control_desk::{ControlDesk, WorkPass};
+use manager_worker::Signals;
 use std::alloc::AllocError;
 use std::sync::Wait;
 use std::time::Clock;
-use worker_turns::Signals;
 
 /// How many milliseconds lie between two ticks.
 const TICK_MILLISECONDS: u64 = 5;
@@ -35,9 +35,9 @@ pub struct Ticker<'a, R> {
 
 impl<'a, R: Wait + Clock> Ticker<'a, R> {
     ghost use Rattle.std.specs.Prelude.{◌≡◌, ◌+◌, ◌-◌, ◌<◌, ◌⊎◌, OnOk, OnErr};
-    ghost use Rattle.shared_board.specs.Calls.{IsCall, Nothing};
-    ghost use Rattle.shared_board.specs.Desks.{known, IsNewAt};
-    ghost use Rattle.shared_board.specs.Steps as steps;
+    ghost use Rattle.control_desk.specs.Calls.{IsCall, Nothing};
+    ghost use Rattle.control_desk.specs.Desks.{known, IsNewAt};
+    ghost use Rattle.control_desk.specs.Steps as steps;
     ghost use Rattle.manager.specs.Handled.{HasWaited};
     ghost use Rattle.manager.specs.Woken.{Wakes};
 

@@ -1,9 +1,9 @@
 //! The clock of the machine, and waits that a stop ends.
-use bells::Stop;
-use following::{Onward, Timer};
+use list_and_watch::{Onward, Timer};
 use std::sync::Wait;
 use std::time::Clock;
 use tcp_client::WallClock;
+use wakeups::Stop;
 
 /// The clock of the machine, and how long it went on since this was made. Who pauses by it wakes when all is to stop.
 #[derive(Drop)]

@@ -3,8 +3,8 @@ use crate::clients::Client;
 use crate::halting::Halting;
 use crate::polling::wait_until;
 use crate::scenarios::Scenario;
-use definitions::kinds::Kind;
 use serde_json::Value;
+use spec_api::kinds::Kind;
 use std::sync::Wait;
 use std::time::Clock;
 

@@ -1,6 +1,6 @@
 //! A ConfigMap that is given an owner while its delete is planned.
 ghost use Rattle.std.specs.Prelude.{All};
-ghost use Rattle.shared_desk.specs.Desks.{IsNewAt};
+ghost use Rattle.desk.specs.Desks.{IsNewAt};
 
 use crate::adopting::{Adopting, ITEM};
 use crate::clients::Client;
@@ -9,9 +9,9 @@ use crate::halting::Halting;
 use crate::objects::{owned, owner};
 use crate::running::run_beside;
 use crate::scenes::Scene;
-use controllers::controller::Controller;
-use definitions::kinds::Kind;
-use shared_desk::StorePass;
+use desk::StorePass;
+use spec_api::kinds::Kind;
+use spec_client_go::controller::Controller;
 use std::alloc::{AllocError, Global};
 use std::sync::Wait;
 use std::time::Clock;

@@ -1,8 +1,8 @@
 //! A gate at which one worker waits for another.
 use crate::polling::wait_for_count;
 use crate::scenes::Scene;
-use controllers::controller::Controller;
 use manager::{Gate, Signals};
+use spec_client_go::controller::Controller;
 use std::alloc::AllocError;
 use std::sync::Wait;
 use std::sync::atomic::{AtomicU64, Ordering};

@@ -1,6 +1,6 @@
 //! Two workers.
 ghost use Rattle.std.specs.Prelude.{All};
-ghost use Rattle.shared_desk.specs.Desks.{IsNewAt};
+ghost use Rattle.desk.specs.Desks.{IsNewAt};
 
 use crate::beside::Beside;
 use crate::clients::Client;
@@ -9,8 +9,8 @@ use crate::objects::with_pods;
 use crate::running::run_beside;
 use crate::scenes::Scene;
 use crate::waiting::Waiting;
-use definitions::kinds::Kind;
-use shared_desk::StorePass;
+use desk::StorePass;
+use spec_api::kinds::Kind;
 use std::alloc::AllocError;
 use std::sync::Wait;
 use std::time::Clock;

@@ -1,16 +1,16 @@
 //! A client of the server.
 ghost use Rattle.std.specs.Prelude.{All};
-ghost use Rattle.shared_desk.specs.Desks.{IsNewAt};
+ghost use Rattle.desk.specs.Desks.{IsNewAt};
 
 use crate::scenes::Scene;
 use crate::servers::SharedServer;
-use client::Answer;
-use definitions::kinds::Kind;
-use keys::Key;
-use remote::Api;
-use requests::Request;
+use api_client::Api;
+use desk::StorePass;
+use http_client::Answer;
+use object_keys::Key;
+use request_parts::Request;
 use serde_json::Value;
-use shared_desk::StorePass;
+use spec_api::kinds::Kind;
 use std::alloc::{AllocError, Global};
 use std::sync::Wait;
 use std::time::Clock;
@@ -46,7 +46,7 @@ fn done(alloc: Global, answer: &Answer) -> Option<Value> {
 
 impl<'a, R: Wait + Clock> Client<'a, R> {
     ghost use Rattle.std.specs.Prelude.{All};
-    ghost use Rattle.shared_desk.specs.Desks.{IsNewAt};
+    ghost use Rattle.desk.specs.Desks.{IsNewAt};
 
     /// Returns a client of a scene's server, with the last of the passes. The error is that none is left.
     pub fn new(

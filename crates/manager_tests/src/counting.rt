@@ -1,6 +1,6 @@
 //! A scenario in which objects are counted.
 ghost use Rattle.std.specs.Prelude.{All};
-ghost use Rattle.shared_desk.specs.Desks.{IsNewAt};
+ghost use Rattle.desk.specs.Desks.{IsNewAt};
 
 use crate::clients::Client;
 use crate::objects::with_pods;
@@ -8,10 +8,10 @@ use crate::polling::wait_until;
 use crate::running::run_beside;
 use crate::scenarios::Scenario;
 use crate::scenes::Scene;
-use definitions::kinds::Kind;
+use desk::StorePass;
 use manager::Open;
 use serde_json::Value;
-use shared_desk::StorePass;
+use spec_api::kinds::Kind;
 use std::alloc::{AllocError, Global};
 use std::sync::Wait;
 use std::thread::Threads;

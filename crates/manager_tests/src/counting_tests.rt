@@ -1,7 +1,7 @@
 //! Pods that are declared.
 use crate::counting::declare_and_count;
 use crate::environments::Environment;
-use definitions::kinds::Kind;
+use spec_api::kinds::Kind;
 use std::alloc::{AllocError, Global};
 use std::sync::Wait;
 use std::thread::Threads;

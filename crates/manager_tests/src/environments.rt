@@ -1,15 +1,15 @@
 //! The environment of a test.
 ghost use Rattle.std.specs.Prelude.{◌≡◌, ◌<◌, All, IfOk, length};
-ghost use Rattle.shared_desk.specs.Desks.{IsNewAt};
+ghost use Rattle.desk.specs.Desks.{IsNewAt};
 
 use crate::scenes::Scene;
-use bells::Bell;
-use client::Answer;
+use desk::{Anything, Desk, StorePass};
+use http_client::Answer;
 use manager::Signals;
-use requests::Request;
-use shared_desk::{Anything, Desk, StorePass};
+use request_parts::Request;
 use std::alloc::{AllocError, Global};
 use std::sync::atomic::{AtomicU64, Ordering};
+use wakeups::Bell;
 
 /// The status code of the refusal of a request that names a version of an object which is not its present one (RFC 9110, 409 Conflict).
 const CONFLICT: u16 = 409;

@@ -1,13 +1,13 @@
 //! A gate at which a worker waits for a client.
 use crate::polling::wait_for_count;
 use crate::scenes::Scene;
-use bells::Stop;
-use controllers::controller::Controller;
 use manager::Gate;
+use spec_client_go::controller::Controller;
 use std::alloc::AllocError;
 use std::sync::Wait;
 use std::sync::atomic::{AtomicU64, Ordering};
 use std::time::Clock;
+use wakeups::Stop;
 use work_keys::WorkKey;
 
 /// A gate at which the first turn of a key waits, once it is planned and before its first command, until a client lets it go on. The gate

@@ -1,6 +1,6 @@
 //! A set that is labelled while an update of it is planned.
 ghost use Rattle.std.specs.Prelude.{◌≡◌, All};
-ghost use Rattle.shared_desk.specs.Desks.{IsNewAt};
+ghost use Rattle.desk.specs.Desks.{IsNewAt};
 
 use crate::clients::Client;
 use crate::counting::declare_and_count;
@@ -10,10 +10,10 @@ use crate::halting::Halting;
 use crate::labelling::Labelling;
 use crate::running::run_beside;
 use crate::scenes::Scene;
-use controllers::controller::Controller;
-use definitions::kinds::Kind;
+use desk::StorePass;
 use manager::Signals;
-use shared_desk::StorePass;
+use spec_api::kinds::Kind;
+use spec_client_go::controller::Controller;
 use std::alloc::{AllocError, Global};
 use std::sync::Wait;
 use std::thread::Threads;

@@ -1,8 +1,8 @@
 //! Waiting for a condition.
-use bells::Stop;
 use std::sync::atomic::{AtomicU64, Ordering};
 use std::thread;
 use std::time::{Clock, Duration};
+use wakeups::Stop;
 
 /// How often a condition is looked at before it is given up: for some six seconds, where the looks are short. It is a number of looks and
 /// not a time, since on a busy machine each look and each pause takes longer, as does what is waited for.

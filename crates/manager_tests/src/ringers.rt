@@ -1,16 +1,16 @@
 //! What wakes the watches of all threads.
-use bells::Bell;
-use definitions::kinds::Kind;
-use shared_desk::Listener;
+use desk::Listener;
+use spec_api::kinds::Kind;
 use std::sync::Wait;
+use wakeups::Bell;
 
 /// Wakes the watches of all threads at each write.
 #[derive(Drop)]
-pub struct Ringer<'a> {
+pub struct BellRinger<'a> {
     pub bell: &'a Bell,
 }
 
-impl Listener for Ringer<'_> {
+impl Listener for BellRinger<'_> {
     ghost Hears = { λ kind before after. Unit {0} };
 
     fn wrote<R: Wait>(&mut self, _rt: &R, _kind: Kind) {

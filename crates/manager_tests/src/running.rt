@@ -1,25 +1,25 @@
 //! The controllers, run beside a scenario.
 ghost use Rattle.std.specs.Prelude.{All};
-ghost use Rattle.shared_desk.specs.Desks.{IsNewAt};
+ghost use Rattle.desk.specs.Desks.{IsNewAt};
 
 use crate::scenarios::Scenario;
 use crate::scenes::Scene;
 use crate::servers::SharedServer;
+use desk::StorePass;
 use manager::{Apis, Gate, Signals};
-use shared_desk::StorePass;
+use reconcile_types::Looks;
 use std::alloc::{AllocError, Global};
 use std::sync::Wait;
 use std::thread;
 use std::thread::Threads;
 use std::time::Clock;
-use turns::Looks;
 
 /// How many workers there are at most.
 const MOST_WORKERS: usize = 64;
 
 /// The controllers of a scene, which no thread runs yet.
 #[derive(Drop)]
-pub struct Controllers<'a, 'g, R, G> {
+pub struct SceneControllers<'a, 'g, R, G> {
     rt: &'a R,
     alloc: Global,
     apis: Apis<SharedServer<'a, R>>,
@@ -52,9 +52,9 @@ fn apis<'a, R: Wait + Clock>(
     })
 }
 
-impl<'a, 'g, R: Threads + Wait + Clock + Sync, G: Gate + Sync> Controllers<'a, 'g, R, G> {
+impl<'a, 'g, R: Threads + Wait + Clock + Sync, G: Gate + Sync> SceneControllers<'a, 'g, R, G> {
     ghost use Rattle.std.specs.Prelude.{All};
-    ghost use Rattle.shared_desk.specs.Desks.{IsNewAt};
+    ghost use Rattle.desk.specs.Desks.{IsNewAt};
 
     /// Returns the controllers of a scene with so many workers, each of which passes a gate. They ask with the last of the passes. The error
     /// is running out of memory or of passes.
@@ -63,12 +63,12 @@ impl<'a, 'g, R: Threads + Wait + Clock + Sync, G: Gate + Sync> Controllers<'a, '
         passes: &mut Vec<StorePass>,
         count: usize,
         gate: &'g G,
-    ) -> Result<Controllers<'a, 'g, R, G>, AllocError>
+    ) -> Result<SceneControllers<'a, 'g, R, G>, AllocError>
         requires { All (IsNewAt scene.now.environment.now.desk) passes.old.items }
         ensures { All (IsNewAt scene.now.environment.now.desk) passes.new.items }
     {
         let apis = apis(scene, passes, count)?;
-        Ok(Controllers {
+        Ok(SceneControllers {
             rt: scene.rt,
             alloc: scene.alloc,
             apis,
@@ -79,7 +79,7 @@ impl<'a, 'g, R: Threads + Wait + Clock + Sync, G: Gate + Sync> Controllers<'a, '
 
     /// Runs the controllers until all threads are to stop, and returns whether they ran.
     fn run(self) -> bool {
-        let Controllers {
+        let SceneControllers {
             rt,
             alloc,
             apis,
@@ -102,7 +102,7 @@ fn run_to_stop<S: Scenario>(scenario: &mut S, signals: &Signals) -> bool {
 
 /// Runs a scenario while the controllers run in threads of their own, and stops them at its end. Returns whether they ran, and all that the
 /// scenario waits for has come.
-pub fn run_scenario<R, G, S>(controllers: Controllers<'_, '_, R, G>, scenario: &mut S) -> bool
+pub fn run_scenario<R, G, S>(controllers: SceneControllers<'_, '_, R, G>, scenario: &mut S) -> bool
 where
     R: Threads + Wait + Clock + Sync,
     G: Gate + Sync,
@@ -129,6 +129,6 @@ where
     requires { All (IsNewAt scene.now.environment.now.desk) passes.old.items }
     ensures { All (IsNewAt scene.now.environment.now.desk) passes.new.items }
 {
-    let controllers = Controllers::new(scene, passes, workers, gate)?;
+    let controllers = SceneControllers::new(scene, passes, workers, gate)?;
     Ok(run_scenario(controllers, scenario))
 }

@@ -1,31 +1,31 @@
 //! The server of a test.
 ghost use Rattle.std.specs.Prelude.{All};
-ghost use Rattle.shared_desk.specs.Desks.{IsNewAt, IsPassAt};
+ghost use Rattle.desk.specs.Desks.{IsNewAt, IsPassAt};
 
 use crate::environments::Environment;
-use crate::ringers::Ringer;
+use crate::ringers::BellRinger;
 use crate::scenes::Scene;
 use crate::watches::Watch;
-use asked::{Asked, read_request};
-use bells::Stop;
-use client::{Answer, More};
-use definitions::kinds::Kind;
-use definitions::versions::At;
-use keys::Fault;
-use loopback::answer_of;
-use remote::{Api, Opened};
-use request_texts::{can_be_told, request_text};
-use requests::Request;
-use requests::list_options::ListOptions;
-use routes::table::Routes;
+use api_client::{Api, Opened};
+use desk::{Anything, Seat, StorePass};
+use http_backend::Site;
+use http_client::{Answer, More};
+use http_watch::WatchSource;
+use kcp_loopback::answer_of;
+use metadata_values::moments::Moment;
+use object_keys::Fault;
+use request_decoding::{Asked, read_request};
+use request_encoding::{can_be_told, request_text};
+use request_parts::Request;
+use request_parts::list_options::ListOptions;
+use request_routing::table::Routes;
 use selector::View;
-use shared_desk::{Anything, Seat, StorePass};
-use sites::Site;
-use stamps::moments::Moment;
+use spec_api::kinds::Kind;
+use spec_api::versions::At;
 use std::alloc::{AllocError, Global};
 use std::sync::Wait;
 use std::time::Clock;
-use watch_service::WatchSource;
+use wakeups::Stop;
 
 /// How many events a watch is given at once at most.
 const MOST_EVENTS: usize = 64;
@@ -39,7 +39,7 @@ const PAUSE_MILLISECONDS: u64 = 20;
 pub struct SharedServer<'a, R> {
     rt: &'a R,
     alloc: Global,
-    seat: Seat<'a, Anything, Ringer<'a>, R>,
+    seat: Seat<'a, Anything, BellRinger<'a>, R>,
     environment: &'a Environment,
     stop: &'a Stop,
     watch: Watch,
@@ -47,14 +47,14 @@ pub struct SharedServer<'a, R> {
 
 impl<'a, R: Wait + Clock> SharedServer<'a, R> {
     ghost use Rattle.std.specs.Prelude.{All};
-    ghost use Rattle.shared_desk.specs.Desks.{IsNewAt, IsPassAt};
+    ghost use Rattle.desk.specs.Desks.{IsNewAt, IsPassAt};
 
     /// Returns the server of a scene, for who has a pass of its desk.
     pub fn new(scene: &Scene<'a, R>, pass: StorePass) -> SharedServer<'a, R>
         requires { IsPassAt scene.now.environment.now.desk pass }
     {
         let (rt, environment, signals) = (scene.rt, scene.environment, scene.signals);
-        let ringer = Ringer {
+        let ringer = BellRinger {
             bell: &environment.bell,
         };
         SharedServer {

@@ -1,9 +1,9 @@
 //! A scenario in which nothing is done.
 use crate::scenarios::Scenario;
 use crate::scenes::Scene;
-use bells::Stop;
 use std::sync::Wait;
 use std::time::Clock;
+use wakeups::Stop;
 
 /// Waits until all threads are to stop, for so many milliseconds at most.
 #[derive(Drop)]

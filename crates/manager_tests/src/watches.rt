@@ -1,9 +1,9 @@
 //! A watch, as who reads it sees it.
-use definitions::kinds::Kind;
 use framing::{added_text, bookmark_text, frame_text};
-use revisions::{Event, Watched};
+use http_watch::Begun;
+use revisions::{Event, WatchedEvents};
+use spec_api::kinds::Kind;
 use std::alloc::{AllocError, Global};
-use watch_service::Begun;
 
 /// A watch of a kind: after which revision it goes on, and what is still to be read of the lines that it was given.
 #[derive(Drop)]
@@ -70,7 +70,7 @@ impl Watch {
     }
 
     /// Takes in what the watch is given next, once all lines were read. The error is running out of memory, and changes nothing.
-    pub fn take_in(&mut self, alloc: Global, watched: &Watched) -> Result<(), AllocError> {
+    pub fn take_in(&mut self, alloc: Global, watched: &WatchedEvents) -> Result<(), AllocError> {
         self.text = lines(alloc, &watched.events)?;
         self.read = 0;
         self.after = watched.stands;

@@ -1,7 +1,7 @@
 -- How a turn goes on.
 use Rattle.std.proofs.Common.{false, inl, inr, subst, sym}
-use Rattle.reconciling.specs.Turns.{Turn}
-use Rattle.worker_turns.specs.Stepping.{Reaches, more, Advances}
+use Rattle.spec_sim_control_plane.specs.Turns.{Turn}
+use Rattle.manager_worker.specs.Stepping.{Reaches, more, Advances}
 
 pub goes-on : (s t u : Turn) → Reaches s t → Advances t u false → Reaches s u
 goes-on s t u r (inl a) = more t u a.0 r a.1

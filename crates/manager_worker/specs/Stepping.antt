@@ -1,14 +1,14 @@
 -- What a worker's steps make of its turn: each is the one that comes next in it.
 use Rattle.std.specs.Prelude.{◌≡◌, ◌⊎◌, Option, Bool, true, false}
-use Rattle.definitions.specs.Keys.{Key}
-use Rattle.definitions.specs.declared.kinds.Kind.{Kind}
-use Rattle.reconciling.specs.NextSteps.{NextStep, next, look, ask_satisfied, read, expect, issue, finish}
-use Rattle.reconciling.specs.Turns.{Turn, Answer, looked, satisfied, with_sight, with_read, with_expected}
+use Rattle.spec_api.specs.Keys.{Key}
+use Rattle.spec_api.specs.declared.kinds.Kind.{Kind}
+use Rattle.spec_sim_control_plane.specs.NextSteps.{NextStep, next, look, ask_satisfied, read, expect, issue, finish}
+use Rattle.spec_sim_control_plane.specs.Turns.{Turn, Answer, looked, satisfied, with_sight, with_read, with_expected}
 use Rattle.serde_json.specs.Data.{Data}
-use Rattle.server_state.specs.Snapshots.{Snapshot}
-use Rattle.workers.specs.Seen.{answered_to, command_issued}
-use Rattle.worker_turns.specs.declared.steps.Progress.{Progress}
-use Rattle.worker_turns.specs.declared.steps.Progress.TheVariants as progress
+use Rattle.spec_server.specs.Snapshots.{Snapshot}
+use Rattle.reconcile_turn.specs.Seen.{answered_to, command_issued}
+use Rattle.manager_worker.specs.declared.steps.Progress.{Progress}
+use Rattle.manager_worker.specs.declared.steps.Progress.TheVariants as progress
 
 -- a look adds what some map shows
 abbrev pub Looks : Kind → Turn → Turn → Progress → Type 0

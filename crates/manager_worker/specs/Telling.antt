@@ -1,7 +1,7 @@
 -- What a worker tells the board of its turn.
 use Rattle.std.specs.Prelude.{◌==◌, if◌then◌else◌}
-use Rattle.reconciling.specs.Turns.{Expected}
-use Rattle.shared_board.specs.Steps.{Step, expect_creations, expect_deletions}
+use Rattle.spec_sim_control_plane.specs.Turns.{Expected}
+use Rattle.control_desk.specs.Steps.{Step, expect_creations, expect_deletions}
 
 -- what is expected of pods: no plan both creates some and deletes some
 abbrev pub expecting : Expected → Step

@@ -1,8 +1,8 @@
 //! What a worker learns of its command.
-ghost use Rattle.worker_turns.specs.Learning.{IsAccepted, Learns, LearnsOf};
+ghost use Rattle.manager_worker.specs.Learning.{IsAccepted, Learns, LearnsOf};
 
-use client::Reply;
-use workers::Answer;
+use http_client::HttpReply;
+use reconcile_turn::CommandAnswer;
 
 /// The status code by which a server says that it has no memory for a request, which then changed nothing (RFC 9110, 503 Service
 /// Unavailable).
@@ -12,24 +12,24 @@ const NO_MEMORY: u16 = 503;
 #[derive(Drop)]
 pub enum Learnt {
     /// What became of it.
-    Known(Answer),
+    Known(CommandAnswer),
     /// Nothing was done: the command is to be made again.
     Again,
 }
 
 /// Returns the answer that the reply to an accepted command is; one whose body is no text is as good as lost.
-fn accepted(reply: Reply) -> Answer
+fn accepted(reply: HttpReply) -> CommandAnswer
     ensures { IsAccepted reply.code reply.body.items result }
 {
-    let Reply { code, body } = reply;
+    let HttpReply { code, body } = reply;
     match String::from_utf8(body) {
-        Ok(text) => Answer::Accepted { code, text },
-        Err(_) => Answer::Lost,
+        Ok(text) => CommandAnswer::Accepted { code, text },
+        Err(_) => CommandAnswer::Lost,
     }
 }
 
 /// Returns what a worker learns of a reply (RFC 9110, Status Codes).
-fn learnt_of_reply(reply: Reply) -> Learnt
+fn learnt_of_reply(reply: HttpReply) -> Learnt
     ensures { Learns reply.code reply.body.items result }
 {
     if reply.code == NO_MEMORY {
@@ -38,17 +38,17 @@ fn learnt_of_reply(reply: Reply) -> Learnt
     if 200 <= reply.code && reply.code < 300 {
         return Learnt::Known(accepted(reply));
     }
-    Learnt::Known(Answer::Refused { code: reply.code })
+    Learnt::Known(CommandAnswer::Refused { code: reply.code })
 }
 
 /// Returns what a worker learns of what became of its request. One that was written, and to which no whole reply has come, may have been
 /// carried out.
-pub fn learnt_of(answer: client::Answer) -> Learnt
+pub fn learnt_of(answer: http_client::Answer) -> Learnt
     ensures { LearnsOf answer result }
 {
     match answer {
-        client::Answer::Replied(reply) => learnt_of_reply(reply),
-        client::Answer::NotSent => Learnt::Again,
-        client::Answer::Lost => Learnt::Known(Answer::Lost),
+        http_client::Answer::Replied(reply) => learnt_of_reply(reply),
+        http_client::Answer::NotSent => Learnt::Again,
+        http_client::Answer::Lost => Learnt::Known(CommandAnswer::Lost),
     }
 }

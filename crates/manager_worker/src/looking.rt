@@ -1,6 +1,6 @@
 //! What a worker looks at.
-use definitions::kinds::Kind;
 use indexer::Indexed;
+use spec_api::kinds::Kind;
 use std::alloc::AllocError;
 
 /// What can be looked at: what is published of each kind.

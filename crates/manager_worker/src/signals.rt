@@ -1,10 +1,10 @@
 //! What threads tell one another.
 ghost use Rattle.std.specs.Prelude.{◌<◌, IfSome};
 
-use bells::{Bell, Stop};
 use std::sync::Wait;
 use std::sync::atomic::{AtomicU64, Ordering};
 use std::time::Clock;
+use wakeups::{Bell, Stop};
 
 /// How many kinds are followed.
 const KINDS: u64 = 4;

@@ -1,31 +1,31 @@
 //! The steps of a turn.
 ghost use Rattle.std.specs.Prelude.{◌≡◌, ◌⊎◌, Bool, None, Some, IfOk, IfSome, OnOk, OnErr, is_some, true, false};
-ghost use Rattle.keys.specs.Keys.{key_of};
-ghost use Rattle.reconciling.specs.Managers.{is_satisfied_for};
-ghost use Rattle.reconciling.specs.NextSteps as steps;
-ghost use Rattle.reconciling.specs.NextSteps.{next, look, ask_satisfied};
-ghost use Rattle.reconciling.specs.Turns.{lost, owner, satisfied, with_sight};
-ghost use Rattle.shared_board.specs.Calls.{IsCall, Nothing};
-ghost use Rattle.shared_board.specs.Desks.{known, key_in_hand, IsPassAt};
-ghost use Rattle.shared_board.specs.Steps.{changing, forget};
-ghost use Rattle.workers.specs.Seen.{answer_of, answered_to, command_issued, expectation};
-ghost use Rattle.worker_turns.specs.Stepping.{Looks, Asks, Reads, Expects, Issues, Steps};
-ghost use Rattle.worker_turns.specs.Telling.{expecting};
+ghost use Rattle.object_keys.specs.Keys.{key_of};
+ghost use Rattle.spec_sim_control_plane.specs.Managers.{is_satisfied_for};
+ghost use Rattle.spec_sim_control_plane.specs.NextSteps as steps;
+ghost use Rattle.spec_sim_control_plane.specs.NextSteps.{next, look, ask_satisfied};
+ghost use Rattle.spec_sim_control_plane.specs.Turns.{lost, owner, satisfied, with_sight};
+ghost use Rattle.control_desk.specs.Calls.{IsCall, Nothing};
+ghost use Rattle.control_desk.specs.Desks.{known, key_in_hand, IsPassAt};
+ghost use Rattle.control_desk.specs.Steps.{changing, forget};
+ghost use Rattle.reconcile_turn.specs.Seen.{answer_of, answered_to, command_issued, expectation};
+ghost use Rattle.manager_worker.specs.Stepping.{Looks, Asks, Reads, Expects, Issues, Steps};
+ghost use Rattle.manager_worker.specs.Telling.{expecting};
 
 use crate::answers::{Learnt, learnt_of};
-use crate::live_reads::{Found, can_be, found_in};
+use crate::live_reads::{FoundObject, can_be, found_in};
 use crate::looking::Looking;
 use crate::tools::Tools;
-use definitions::kinds::Kind;
-use keys::Key;
-use remote::Api;
-use request_texts::can_be_told;
-use requests::Request;
-use shared_board::{ControlDesk, WorkPass};
+use api_client::Api;
+use control_desk::{ControlDesk, WorkPass};
+use object_keys::Key;
+use reconcile_turn::{CommandAnswer, Expected, NextStep, Sight, Turn};
+use request_encoding::can_be_told;
+use request_parts::Request;
+use spec_api::kinds::Kind;
 use std::alloc::AllocError;
 use std::sync::Wait;
 use std::time::Clock;
-use workers::{Answer, Expected, NextStep, Sight, Turn};
 
 /// What came of a step.
 #[derive(Debug, Clone, Copy, PartialEq, Eq)]
@@ -94,9 +94,9 @@ impl<R: Wait + Clock, L: Looking + Drop, A: Api + Drop, G> Tools<'_, R, L, A, G>
     }
 
     /// Returns what is there under a key: an object that cannot be is absent without being asked for.
-    fn find(&mut self, key: &Key) -> Result<Found, AllocError> {
+    fn find(&mut self, key: &Key) -> Result<FoundObject, AllocError> {
         if !can_be(key) {
-            return Ok(Found::Absent);
+            return Ok(FoundObject::Absent);
         }
         let request = Request::Get(key.try_copy()?);
         let answer = self.api.call(self.alloc, &request);
@@ -110,15 +110,15 @@ impl<R: Wait + Clock, L: Looking + Drop, A: Api + Drop, G> Tools<'_, R, L, A, G>
         ensures err { OnErr result (turn.new ≡ turn.old) }
     {
         match self.find(key)? {
-            Found::Present(object) => {
+            FoundObject::Present(object) => {
                 turn.add_read(Some(object))?;
                 Ok(Progress::Went)
             }
-            Found::Absent => {
+            FoundObject::Absent => {
                 turn.add_read(None)?;
                 Ok(Progress::Went)
             }
-            Found::Unknown => Ok(Progress::Again),
+            FoundObject::Unknown => Ok(Progress::Again),
         }
     }
 
@@ -157,7 +157,7 @@ impl<R: Wait + Clock, L: Looking + Drop, A: Api + Drop, G> Tools<'_, R, L, A, G>
 
     /// Notes the answer to the command that is issued next. Where there is no memory for it, it is noted as lost, as soon as there is
     /// memory for that: so no command is issued twice. Returns whether it was noted: not where all is to stop.
-    fn note(&self, turn: &mut Turn, answer: Answer) -> bool
+    fn note(&self, turn: &mut Turn, answer: CommandAnswer) -> bool
         requires { is_some (command_issued (next turn.old)) ≡ true }
         ensures noted { result ≡ true
             → (turn.new ≡ answered_to (command_issued (next turn.old)) (answer_of answer) turn.old)
@@ -168,7 +168,7 @@ impl<R: Wait + Clock, L: Looking + Drop, A: Api + Drop, G> Tools<'_, R, L, A, G>
             return true;
         }
         for _ in self.rt.forever() {
-            if turn.answer(Answer::Lost).is_ok() {
+            if turn.answer(CommandAnswer::Lost).is_ok() {
                 return true;
             }
             if self.signals.stop.rest(self.rt, PAUSE_MILLISECONDS) {
@@ -181,7 +181,7 @@ impl<R: Wait + Clock, L: Looking + Drop, A: Api + Drop, G> Tools<'_, R, L, A, G>
     /// Returns what a worker learns of the request of its command. One that cannot be told over HTTP is as good as refused.
     fn ask(&mut self, request: &Request) -> Learnt {
         if !can_be_told(request) {
-            return Learnt::Known(Answer::Refused { code: BAD_REQUEST });
+            return Learnt::Known(CommandAnswer::Refused { code: BAD_REQUEST });
         }
         learnt_of(self.api.call(self.alloc, request))
     }

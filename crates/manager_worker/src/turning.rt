@@ -1,25 +1,25 @@
 //! A whole turn.
 ghost use Rattle.std.specs.Prelude.{◌≡◌, None, Some, Ok, IfOk, OnOk, OnErr, true, false};
-ghost use Rattle.reconciling.specs.NextSteps.{next, finish};
-ghost use Rattle.reconciling.specs.Turns.{all_accepted, taken_back};
-ghost use Rattle.shared_board.specs.Calls.{IsCall, Nothing};
-ghost use Rattle.shared_board.specs.Desks.{known, key_in_hand, IsPassAt};
-ghost use Rattle.shared_board.specs.Steps as steps;
-ghost use Rattle.shared_board.specs.Steps.{changing};
+ghost use Rattle.spec_sim_control_plane.specs.NextSteps.{next, finish};
+ghost use Rattle.spec_sim_control_plane.specs.Turns.{all_accepted, taken_back};
+ghost use Rattle.control_desk.specs.Calls.{IsCall, Nothing};
+ghost use Rattle.control_desk.specs.Desks.{known, key_in_hand, IsPassAt};
+ghost use Rattle.control_desk.specs.Steps as steps;
+ghost use Rattle.control_desk.specs.Steps.{changing};
 ghost use Rattle.work_keys.specs.WorkKeys.{work_key_of};
-ghost use Rattle.worker_turns.specs.Stepping.{Advances, GoesToEnd};
+ghost use Rattle.manager_worker.specs.Stepping.{Advances, GoesToEnd};
 
 use crate::gates::Gate;
 use crate::looking::Looking;
 use crate::steps::Progress;
 use crate::tools::Tools;
-use remote::Api;
-use shared_board::{ControlDesk, WorkPass};
+use api_client::Api;
+use control_desk::{ControlDesk, WorkPass};
+use reconcile_turn::{NextStep, Turn};
 use std::alloc::AllocError;
 use std::sync::Wait;
 use std::time::Clock;
 use work_keys::WorkKey;
-use workers::{NextStep, Turn};
 
 /// How many milliseconds a worker waits before it tries a step again.
 const PAUSE_MILLISECONDS: u64 = 50;

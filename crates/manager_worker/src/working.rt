@@ -1,17 +1,17 @@
 //! A worker.
 ghost use Rattle.std.specs.Prelude.{◌≡◌, option_map};
-ghost use Rattle.shared_board.specs.Desks.{IsPassAt, key_in_hand};
+ghost use Rattle.control_desk.specs.Desks.{IsPassAt, key_in_hand};
 ghost use Rattle.work_keys.specs.WorkKeys.{work_key_of};
 
 use crate::gates::Gate;
 use crate::looking::Looking;
 use crate::tools::Tools;
-use remote::Api;
-use shared_board::{ControlDesk, WorkPass};
+use api_client::Api;
+use control_desk::{ControlDesk, WorkPass};
+use reconcile_turn::Turn;
 use std::sync::Wait;
 use std::time::Clock;
 use work_keys::WorkKey;
-use workers::Turn;
 
 /// How many milliseconds a worker waits for memory.
 const PAUSE_MILLISECONDS: u64 = 50;
@@ -29,7 +29,7 @@ pub struct Worker<'a, R, L: Drop, A: Drop, G> {
 
 impl<'a, R: Wait + Clock, L: Looking + Drop, A: Api + Drop, G: Gate> Worker<'a, R, L, A, G> {
     ghost use Rattle.std.specs.Prelude.{◌≡◌, ◌⊎◌, None, is_some};
-    ghost use Rattle.shared_board.specs.Desks.{IsPassAt, key_in_hand};
+    ghost use Rattle.control_desk.specs.Desks.{IsPassAt, key_in_hand};
 
     /// Returns a worker that has no key.
     pub fn new(

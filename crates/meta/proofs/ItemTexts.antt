@@ -10,7 +10,7 @@ use Rattle.serde_json.specs.Data.{Data, string, object, Members, no_members, mem
 use Rattle.serde_json.specs.View.{members_view}
 use Rattle.serde_json.specs.Written.{comma_if, compact_text, members_text}
 use Rattle.serde_json.proofs.Views.{Entry}
-use Rattle.definitions.specs.Values.{without}
+use Rattle.spec_api.specs.Values.{without}
 use Rattle.meta.specs.Items.{member_text, item_text}
 
 -- ---- members in ascending order

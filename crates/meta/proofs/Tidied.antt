@@ -3,13 +3,13 @@ use Rattle.std.proofs.Common.{◌≡◌, List, ℕ, Bool, true, false, cond, cod
 use Rattle.std.proofs.Common.{is_some}
 use Rattle.serde_json.specs.Data.{Data, null, boolean, number, string, array, object}
 use Rattle.serde_json.specs.Find.{get, as_object}
-use Rattle.definitions.proofs.Truths.{both_true}
-use Rattle.definitions.specs.declared.kinds.Kind.{Kind}
-use Rattle.definitions.specs.declared.kinds.Kind.TheVariants.{Pod}
-use Rattle.definitions.specs.declared.schemas.Shape.{Shape}
-use Rattle.definitions.specs.Kinds.{api_version, kind_text}
-use Rattle.definitions.specs.Values.{with_member, with_default}
-use Rattle.definitions.specs.Reading.{tidied, filled, with_spec, is_body, empty}
+use Rattle.spec_api.proofs.Truths.{both_true}
+use Rattle.spec_api.specs.declared.kinds.Kind.{Kind}
+use Rattle.spec_api.specs.declared.kinds.Kind.TheVariants.{Pod}
+use Rattle.spec_api.specs.declared.schemas.Shape.{Shape}
+use Rattle.spec_api.specs.Kinds.{api_version, kind_text}
+use Rattle.spec_api.specs.Values.{with_member, with_default}
+use Rattle.spec_api.specs.Reading.{tidied, filled, with_spec, is_body, empty}
 
 abbrev pub is_object : Data → Bool
 is_object d = is_some (as_object d)

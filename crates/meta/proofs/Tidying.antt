@@ -9,10 +9,10 @@ use Rattle.std.specs.Ordering.{ordering_reverse}
 use Rattle.serde_json.specs.Data.{Data, Members, member, put}
 use Rattle.serde_json.specs.View.{view, items_of, members_view}
 use Rattle.serde_json.proofs.Views.{Entry}
-use Rattle.definitions.specs.declared.schemas.Shape.{Shape}
-use Rattle.definitions.specs.declared.schemas.Schema.{Schema}
-use Rattle.definitions.specs.Schemas.{property_at}
-use Rattle.definitions.specs.Reading.{tidied, tidied_items, tidied_members, is_absent}
+use Rattle.spec_api.specs.declared.schemas.Shape.{Shape}
+use Rattle.spec_api.specs.declared.schemas.Schema.{Schema}
+use Rattle.spec_api.specs.Schemas.{property_at}
+use Rattle.spec_api.specs.Reading.{tidied, tidied_items, tidied_members, is_absent}
 
 pub tidied_items-items_of : (s : Shape) (ds : List Data) → tidied_items s (items_of ds) ≡ items_of (map (tidied s) ds)
 tidied_items-items_of s [] = refl

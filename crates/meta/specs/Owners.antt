@@ -1,7 +1,7 @@
 -- An owner reference, by the bytes of its texts.
 use Rattle.std.specs.Prelude.{option_map}
 use Rattle.meta.specs.declared.owners.OwnerReference.{OwnerReference}
-use Rattle.definitions.specs.Metadata.{Owner}
+use Rattle.spec_api.specs.Metadata.{Owner}
 
 abbrev pub owner_of : OwnerReference → Owner
 owner_of o =

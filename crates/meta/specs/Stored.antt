@@ -8,8 +8,8 @@ use Rattle.serde_json.specs.Read.{read, max_depth}
 use Rattle.serde_json.specs.View.{view}
 use Rattle.serde_json.specs.Written.{has_float, compact_text, IsInOrder}
 use Rattle.serde_json.specs.declared.value.Value.{Value}
-use Rattle.definitions.specs.Metadata.{metadata}
-use Rattle.definitions.specs.Verbs.{as_item}
+use Rattle.spec_api.specs.Metadata.{metadata}
+use Rattle.spec_api.specs.Verbs.{as_item}
 use Rattle.meta.specs.Labels.{labels_of, label_of}
 use Rattle.meta.specs.Pieces.{Says}
 use Rattle.meta.specs.declared.labels.Label.{Label}

@@ -1,8 +1,8 @@
 -- What a write says.
 use Rattle.std.specs.Prelude.{option_map}
-use Rattle.definitions.specs.History as history
+use Rattle.spec_api.specs.History as history
 use Rattle.meta.specs.declared.writes.Write.{Write}
-use Rattle.keys.specs.Keys.{key_of}
+use Rattle.object_keys.specs.Keys.{key_of}
 
 -- the write, by its key's name and its object's data
 abbrev pub write_of : Write → history.Write

@@ -3,7 +3,7 @@ ghost use Rattle.std.specs.Prelude.{◌≡◌, false};
 ghost use Rattle.std.specs.Str.{bytes_eq};
 ghost use Rattle.serde_json.specs.View.{view, items_view};
 ghost use Rattle.serde_json.specs.Written.{items_have_float};
-ghost use Rattle.definitions.specs.Checks.{text_is, has_text, finalizers};
+ghost use Rattle.spec_api.specs.Checks.{text_is, has_text, finalizers};
 
 use crate::objects::Object;
 use serde_json::Value;

@@ -3,7 +3,7 @@ ghost use Rattle.std.specs.Prelude.{◌≡◌, ◌++◌, ◌||◌, codes, not, f
 ghost use Rattle.serde_json.specs.View.{view, members_view};
 ghost use Rattle.serde_json.specs.Data.{object};
 ghost use Rattle.serde_json.specs.Written.{has_float, compact_text, members_have_float};
-ghost use Rattle.definitions.specs.Values.{without};
+ghost use Rattle.spec_api.specs.Values.{without};
 ghost use Rattle.meta.specs.Items.{is_said_once, shown_text};
 
 use serde_json::{Map, Value};

@@ -1,7 +1,7 @@
 //! Objects that are there, lent.
 
 use crate::stored::StoredObject;
-use keys::Key;
+use object_keys::Key;
 
 /// An object that is there, with its key, lent.
 #[derive(Clone, Copy)]

@@ -15,9 +15,10 @@ pub mod stored;
 pub(crate) mod stored_texts;
 pub mod writes;
 
-pub use definitions::kinds::Kind;
 pub use lent_members::Member;
+pub use object_keys::{Fault, Key};
 pub use objects::Object;
 pub use owners::OwnerReference;
+pub use spec_api::kinds::Kind;
 pub use stored::StoredObject;
 pub use writes::Write;

@@ -4,8 +4,8 @@ ghost use Rattle.serde_json.specs.Data.{object, put};
 ghost use Rattle.serde_json.specs.Find.{get_member};
 ghost use Rattle.serde_json.specs.View.{view};
 ghost use Rattle.serde_json.specs.Written.{has_float};
-ghost use Rattle.definitions.specs.Replacements.{as_stored};
-ghost use Rattle.definitions.specs.Values.{members_of, without};
+ghost use Rattle.spec_api.specs.Replacements.{as_stored};
+ghost use Rattle.spec_api.specs.Values.{members_of, without};
 
 use crate::objects::Object;
 use json_values::members::{into_members, remove};

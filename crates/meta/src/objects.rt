@@ -5,20 +5,20 @@ ghost use Rattle.serde_json.specs.Data.{depth};
 ghost use Rattle.serde_json.specs.Read.{read, max_depth};
 ghost use Rattle.serde_json.specs.View.{view, items_view, members_view};
 ghost use Rattle.serde_json.specs.Written.{has_float, compact_text, IsInOrder};
-ghost use Rattle.definitions.specs.Checks.{generate_name};
-ghost use Rattle.definitions.specs.Metadata.{name, namespace, uid, version, is_being_deleted, label, owners, metadata, metadata_text};
-ghost use Rattle.definitions.specs.Reading.{reading};
-ghost use Rattle.definitions.specs.Replacements.{generation, next_generation};
-ghost use Rattle.definitions.specs.Verbs.{as_item};
+ghost use Rattle.spec_api.specs.Checks.{generate_name};
+ghost use Rattle.spec_api.specs.Metadata.{name, namespace, uid, version, is_being_deleted, label, owners, metadata, metadata_text};
+ghost use Rattle.spec_api.specs.Reading.{reading};
+ghost use Rattle.spec_api.specs.Replacements.{generation, next_generation};
+ghost use Rattle.spec_api.specs.Verbs.{as_item};
 ghost use Rattle.meta.specs.Refused.{RefusesReading};
 ghost use Rattle.meta.specs.Owners.{owner_of};
 
 use crate::items::push_item_text;
 use crate::owners::{OwnerReference, owners_in};
 use crate::reading::read;
-use definitions::kinds::Kind;
-use keys::Fault;
+use object_keys::Fault;
 use serde_json::{Map, Value};
+use spec_api::kinds::Kind;
 use std::alloc::{AllocError, Global};
 use std::marker::Model;
 
@@ -34,8 +34,8 @@ pub struct Object {
 
 impl Model for Object {
     ghost use Rattle.std.specs.Prelude.{◌≡◌, true, false, is_some};
-    ghost use Rattle.codes.specs.Codes.{coded_object};
-    ghost use Rattle.definitions.specs.Objects as objects;
+    ghost use Rattle.model_encodings.specs.Codes.{coded_object};
+    ghost use Rattle.spec_api.specs.Objects as objects;
     ghost use Rattle.serde_json.specs.Find.{as_object};
     ghost use Rattle.serde_json.specs.View as json;
     ghost use Rattle.serde_json.specs.Written.{has_float};

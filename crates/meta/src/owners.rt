@@ -3,7 +3,7 @@ ghost use Rattle.std.specs.Prelude.{◌≡◌, IfOk, map, codes, option_map, opt
 ghost use Rattle.serde_json.specs.Data.{no_items};
 ghost use Rattle.serde_json.specs.Find.{get, as_str, as_bool, as_array};
 ghost use Rattle.serde_json.specs.View.{view, items_view};
-ghost use Rattle.definitions.specs.Metadata.{text_at, truth_at, owner, owners_in};
+ghost use Rattle.spec_api.specs.Metadata.{text_at, truth_at, owner, owners_in};
 ghost use Rattle.meta.specs.Owners.{owner_of};
 
 use serde_json::Value;

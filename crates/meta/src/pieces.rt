@@ -2,7 +2,7 @@
 ghost use Rattle.std.specs.Prelude.{◌≡◌, ◌≤◌, ◌++◌, ◌↔◌, length, IsTrue, IfSome, IfOk, OnOk, string_bytes};
 ghost use Rattle.meta.specs.Pieces.{IsCut, cut, Says};
 
-use definitions::kinds::Kind;
+use spec_api::kinds::Kind;
 use std::alloc::AllocError;
 use std::cmp::min;
 

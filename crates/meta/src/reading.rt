@@ -4,16 +4,16 @@ ghost use Rattle.serde_json.specs.Data.{put};
 ghost use Rattle.serde_json.specs.Find.{as_object};
 ghost use Rattle.serde_json.specs.Written.{has_float};
 ghost use Rattle.serde_json.specs.View.{view, items_view, members_view};
-ghost use Rattle.definitions.specs.Reading.{fits, items_fit, members_fit, tidied, tidied_items, tidied_members, is_empty, is_absent, schema_of, item_of, with_spec, filled, is_body, reading};
+ghost use Rattle.spec_api.specs.Reading.{fits, items_fit, members_fit, tidied, tidied_items, tidied_members, is_empty, is_absent, schema_of, item_of, with_spec, filled, is_body, reading};
 ghost use Rattle.meta.specs.Refused.{RefusesReading};
 
 use crate::schemas::property_at;
-use definitions::kinds::Kind;
-use definitions::refusals::Part;
-use definitions::schemas::{Property, Schema, Shape};
 use json_values::values::{has_float, nests_within, with_object, with_text};
-use keys::Fault;
+use object_keys::Fault;
 use serde_json::{Map, Value};
+use spec_api::kinds::Kind;
+use spec_api::refusals::Part;
+use spec_api::schemas::{Property, Schema, Shape};
 use std::alloc::{AllocError, Global};
 use std::default::Emptied;
 

@@ -1,10 +1,10 @@
 //! The schemas of objects: tables of their members.
 ghost use Rattle.std.specs.Prelude.{◌≡◌};
-ghost use Rattle.definitions.specs.Schemas.{with_shape, unless_empty, property_at};
-ghost use Rattle.definitions.specs.declared.schemas.Schema.TheVariants.{Root, Metadata, OwnerReference, PodSpec, PodStatus, Condition, ReplicaSetSpec, ReplicaSetStatus, DeploymentSpec, DeploymentStatus, Selector, Expression, Template, TemplateMetadata, Strategy, DeleteOptions, Preconditions};
+ghost use Rattle.spec_api.specs.Schemas.{with_shape, unless_empty, property_at};
+ghost use Rattle.spec_api.specs.declared.schemas.Schema.TheVariants.{Root, Metadata, OwnerReference, PodSpec, PodStatus, Condition, ReplicaSetSpec, ReplicaSetStatus, DeploymentSpec, DeploymentStatus, Selector, Expression, Template, TemplateMetadata, Strategy, DeleteOptions, Preconditions};
 
-use definitions::kinds::Kind;
-use definitions::schemas::{Property, Schema, Shape};
+use spec_api::kinds::Kind;
+use spec_api::schemas::{Property, Schema, Shape};
 
 /// A whole number of 32 bits.
 const COUNT: Shape = Shape::Whole(i32::MIN as i64, i32::MAX as i64);

@@ -3,12 +3,12 @@ ghost use Rattle.std.specs.Prelude.{◌≡◌, ◌≤◌, ◌++◌, Some, IfOk, 
 ghost use Rattle.serde_json.specs.Data.{depth};
 ghost use Rattle.serde_json.specs.Read.{read, max_depth};
 ghost use Rattle.serde_json.specs.Written.{has_float, compact_text, IsInOrder};
-ghost use Rattle.definitions.specs.Metadata.{label};
-ghost use Rattle.definitions.specs.Verbs.{as_item};
+ghost use Rattle.spec_api.specs.Metadata.{label};
+ghost use Rattle.spec_api.specs.Verbs.{as_item};
 
 use crate::objects::Object;
 use crate::stored_texts::StoredTexts;
-use definitions::kinds::Kind;
+use spec_api::kinds::Kind;
 use std::alloc::{AllocError, Global};
 use std::marker::Model;
 use std::sync::Arc;
@@ -22,8 +22,8 @@ pub struct StoredObject {
 
 impl Model for StoredObject {
     ghost use Rattle.std.specs.Arc.{arc_value};
-    ghost use Rattle.codes.specs.Codes.{coded_object};
-    ghost use Rattle.definitions.specs.Objects as objects;
+    ghost use Rattle.model_encodings.specs.Codes.{coded_object};
+    ghost use Rattle.spec_api.specs.Objects as objects;
 
     ghost Value = { objects.Object };
 

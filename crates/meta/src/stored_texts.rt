@@ -5,17 +5,17 @@ ghost use Rattle.serde_json.specs.Find.{as_object};
 ghost use Rattle.serde_json.specs.Read.{read, max_depth};
 ghost use Rattle.serde_json.specs.View.{view};
 ghost use Rattle.serde_json.specs.Written.{has_float, compact_text, IsInOrder};
-ghost use Rattle.definitions.specs.Metadata.{label, metadata};
-ghost use Rattle.definitions.specs.Verbs.{as_item};
+ghost use Rattle.spec_api.specs.Metadata.{label, metadata};
+ghost use Rattle.spec_api.specs.Verbs.{as_item};
 ghost use Rattle.meta.specs.Labels.{labels_of, label_of};
 ghost use Rattle.meta.specs.Stored.{IsTree, tree_view};
 
 use crate::labels::{Label, label_text, labels_in};
 use crate::objects::Object;
 use crate::pieces::{Item, push_pieces};
-use definitions::kinds::Kind;
 use json_values::values::nests_within;
 use serde_json::Value;
+use spec_api::kinds::Kind;
 use std::alloc::{AllocError, Global};
 use std::marker::Model;
 
@@ -35,8 +35,8 @@ pub(crate) struct StoredTexts {
 
 impl Model for StoredTexts {
     ghost use Rattle.std.specs.Prelude.{option_map, string_bytes};
-    ghost use Rattle.codes.specs.Codes.{coded_object};
-    ghost use Rattle.definitions.specs.Objects as objects;
+    ghost use Rattle.model_encodings.specs.Codes.{coded_object};
+    ghost use Rattle.spec_api.specs.Objects as objects;
     ghost use Rattle.meta.specs.Stored.{Keeps, data_kept, tree_view};
 
     ghost Value = { objects.Object };

@@ -1,7 +1,7 @@
 //! Writes.
 
 use crate::stored::StoredObject;
-use keys::Key;
+use object_keys::Key;
 
 /// A write: an object put under a key, or, with none, the key's object removed.
 #[derive(Drop)]

@@ -2,9 +2,9 @@
 use Rattle.std.specs.Prelude.{refl}
 use Rattle.std.specs.Coded.{Coded, code_by, coded×}
 use Rattle.serde_json.specs.Data.{Data, Members}
-use Rattle.definitions.specs.declared.kinds.Kind.{Kind}
-use Rattle.definitions.specs.contracts.kinds.Kind as kind
-use Rattle.codes.specs.Codes.{coded_data, code_members, inj_members}
+use Rattle.spec_api.specs.declared.kinds.Kind.{Kind}
+use Rattle.spec_api.specs.contracts.kinds.Kind as kind
+use Rattle.model_encodings.specs.Codes.{coded_data, code_members, inj_members}
 
 -- the kind, what the object says but for its metadata, and the metadata so far
 pub record Draft : Type 0 where

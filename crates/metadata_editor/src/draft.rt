@@ -4,16 +4,16 @@ ghost use Rattle.serde_json.specs.Data.{Members, string, array, put};
 ghost use Rattle.serde_json.specs.View.{items_view};
 ghost use Rattle.serde_json.specs.Written.{items_have_float};
 ghost use Rattle.serde_json.specs.Find.{get_member};
-ghost use Rattle.definitions.specs.Defaults.{unsigned_value};
-ghost use Rattle.definitions.specs.Metadata.{metadata_of, with_metadata};
-ghost use Rattle.definitions.specs.Values.{without};
-ghost use Rattle.definitions.specs.Replacements.{as_stored};
+ghost use Rattle.spec_api.specs.Defaults.{unsigned_value};
+ghost use Rattle.spec_api.specs.Metadata.{metadata_of, with_metadata};
+ghost use Rattle.spec_api.specs.Values.{without};
+ghost use Rattle.spec_api.specs.Replacements.{as_stored};
 
-use definitions::kinds::Kind;
 use json_values::members::{into_members, remove, take};
 use json_values::values::whole_number;
 use meta::Object;
 use serde_json::{Map, Value};
+use spec_api::kinds::Kind;
 use std::alloc::{AllocError, Global};
 use std::marker::Model;
 
@@ -31,7 +31,7 @@ impl Model for Draft {
     ghost use Rattle.serde_json.specs.Data.{object};
     ghost use Rattle.serde_json.specs.View.{members_view};
     ghost use Rattle.serde_json.specs.Written.{members_have_float};
-    ghost use Rattle.drafts.specs.Drafts as drafts;
+    ghost use Rattle.metadata_editor.specs.Drafts as drafts;
 
     ghost Value = { drafts.Draft };
 

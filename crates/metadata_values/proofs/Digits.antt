@@ -4,9 +4,9 @@ use Rattle.std.proofs.lemmas.Bool.Decides.{nat_tests}
 use Rattle.std.specs.List.{list_all}
 use Rattle.std.specs.Char.{digit_value}
 use Rattle.std.specs.Str.Parse.{AllDigits, IsNumeral, digits_value, without_leading_plus}
-use Rattle.definitions.proofs.Truths.{both_true}
-use Rattle.definitions.specs.Moments.{is_digit}
-use Rattle.definitions.specs.Revisions.{revision_of}
+use Rattle.spec_api.proofs.Truths.{both_true}
+use Rattle.spec_api.specs.Moments.{is_digit}
+use Rattle.spec_api.specs.Revisions.{revision_of}
 
 -- a digit's value
 digit-small : (x : ℕ) → is_digit x ≡ true → digit_value x < 10

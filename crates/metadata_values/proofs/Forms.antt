@@ -5,9 +5,9 @@ use Rattle.std.proofs.lemmas.Bool.Decides.{nat_tests}
 use Rattle.std.specs.Char.{digit_value}
 use Rattle.std.specs.List.{list_all}
 use Rattle.std.specs.Str.Parse.{digits_value_after}
-use Rattle.definitions.proofs.Truths.{both_true}
-use Rattle.definitions.specs.Moments.{is_digit, has_form, part, is_day, is_moment}
-use Rattle.stamps.specs.Forms.{fits}
+use Rattle.spec_api.proofs.Truths.{both_true}
+use Rattle.spec_api.specs.Moments.{is_digit, has_form, part, is_day, is_moment}
+use Rattle.metadata_values.specs.Forms.{fits}
 
 -- both_true of two tests
 -- a byte that fits an ASCII mark is ASCII

@@ -5,7 +5,7 @@ use Rattle.std.proofs.lemmas.Bool.Decides.{nat_tests}
 use Rattle.std.specs.Char.{digit_char}
 use Rattle.std.specs.Int.{byte_at, bytes_high_first, to_be_bytes, w128}
 use Rattle.uuid.specs.Text.{by_index, hex_digit, hyphenated_text, lower}
-use Rattle.definitions.specs.Uids.{hex, uid_text}
+use Rattle.spec_api.specs.Uids.{hex, uid_text}
 
 -- the first digit of one digit more
 hex-cons : (n x : ℕ) → hex (suc n) x ≡ digit_char (x / 16 ^ n % 16) ∷ hex n x

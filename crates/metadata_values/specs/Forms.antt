@@ -1,6 +1,6 @@
 -- How the bytes of a text agree with a form, place by place.
 use Rattle.std.specs.Prelude.{ℕ, Bool, ◌==◌, if◌then◌else◌}
-use Rattle.definitions.specs.Moments.{is_digit}
+use Rattle.spec_api.specs.Moments.{is_digit}
 
 -- a byte may stand where the form has this mark
 abbrev pub fits : ℕ → ℕ → Bool

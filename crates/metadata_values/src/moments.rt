@@ -2,8 +2,8 @@
 ghost use Rattle.std.specs.Prelude.{◌≡◌, ◌<◌, ◌≤◌, ◌^◌, ◌&&◌, length, nat_le, true, codes};
 ghost use Rattle.std.specs.List.{list_all, zip};
 ghost use Rattle.std.specs.Str.Parse.{digits_value};
-ghost use Rattle.definitions.specs.Moments.{is_digit, has_form, is_day, is_moment};
-ghost use Rattle.stamps.specs.Forms.{fits};
+ghost use Rattle.spec_api.specs.Moments.{is_digit, has_form, is_day, is_moment};
+ghost use Rattle.metadata_values.specs.Forms.{fits};
 
 use jiff::civil::Date;
 use std::marker::Model;
@@ -19,7 +19,7 @@ pub struct Moment {
 
 impl Model for Moment {
     ghost use Rattle.std.specs.Prelude.{◌≡◌, ℕ, List, true};
-    ghost use Rattle.definitions.specs.Moments.{is_moment};
+    ghost use Rattle.spec_api.specs.Moments.{is_moment};
 
     ghost Value = { List ℕ };
 
@@ -111,9 +111,9 @@ fn is_moment(text: &[u8]) -> bool
 
 impl Moment {
     ghost use Rattle.std.specs.Prelude.{◌≡◌, true, if◌then◌else◌};
-    ghost use Rattle.definitions.specs.Replies.{start};
-    ghost use Rattle.definitions.specs.Replies.{default_window};
-    ghost use Rattle.definitions.specs.Moments.{is_moment};
+    ghost use Rattle.spec_api.specs.Replies.{start};
+    ghost use Rattle.spec_api.specs.Replies.{default_window};
+    ghost use Rattle.spec_api.specs.Moments.{is_moment};
 
     /// Returns the moment at which a session begins, `2026-01-01T00:00:00Z`.
     pub fn start() -> Moment

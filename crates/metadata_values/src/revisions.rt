@@ -1,8 +1,8 @@
 //! Revisions.
 ghost use Rattle.std.specs.Prelude.{◌≡◌};
 ghost use Rattle.std.specs.List.{list_all};
-ghost use Rattle.definitions.specs.Moments.{is_digit};
-ghost use Rattle.definitions.specs.Revisions.{revision_of};
+ghost use Rattle.spec_api.specs.Moments.{is_digit};
+ghost use Rattle.spec_api.specs.Revisions.{revision_of};
 
 /// Revisions are below this, so that a float of 64 bits represents each of them exactly.
 const LIMIT: u64 = 1 << 53;

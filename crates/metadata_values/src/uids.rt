@@ -1,6 +1,6 @@
 //! Uids.
 ghost use Rattle.std.specs.Prelude.{◌≡◌, ◌<◌, ◌^◌, IfOk, string_bytes};
-ghost use Rattle.definitions.specs.Uids.{uid_text};
+ghost use Rattle.spec_api.specs.Uids.{uid_text};
 
 use std::alloc::{AllocError, Global};
 use uuid::Uuid;

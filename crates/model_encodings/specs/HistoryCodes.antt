@@ -3,11 +3,11 @@ use Rattle.std.specs.Prelude.{ℕ, List, Option, refl}
 use Rattle.std.specs.Coded.{Coded, code_by, coded×, coded⊎, coded_ℕ, coded_list, coded_option}
 use Rattle.std.proofs.Common.{◌⊎◌, inl, inr, ◌≡◌}
 use Rattle.serde_json.specs.Data.{Data}
-use Rattle.definitions.specs.declared.kinds.Kind.{Kind}
-use Rattle.definitions.specs.contracts.kinds.Kind as kind
-use Rattle.codes.specs.Codes.{coded_data, coded_text}
-use Rattle.definitions.specs.Keys.{Key}
-use Rattle.definitions.specs.History.{Write, Entry, write, compaction, History}
+use Rattle.spec_api.specs.declared.kinds.Kind.{Kind}
+use Rattle.spec_api.specs.contracts.kinds.Kind as kind
+use Rattle.model_encodings.specs.Codes.{coded_data, coded_text}
+use Rattle.spec_api.specs.Keys.{Key}
+use Rattle.spec_api.specs.History.{Write, Entry, write, compaction, History}
 
 abbrev pub coded_key : Coded Key
 coded_key =

@@ -1,13 +1,13 @@
 -- Codes by which models may hold requirements.
 use Rattle.std.specs.Prelude.{ℕ, List, Bool, refl}
 use Rattle.std.specs.Coded.{Coded, code_by, coded×, coded_bool, coded_list}
-use Rattle.definitions.specs.declared.selectors.Operator.{Operator}
-use Rattle.definitions.specs.declared.selectors.SelectableField.{SelectableField}
-use Rattle.definitions.specs.contracts.selectors.Operator as operator
-use Rattle.definitions.specs.contracts.selectors.SelectableField as field
-use Rattle.codes.specs.Codes.{coded_text}
-use Rattle.definitions.specs.SelectorFields.{FieldRequirement}
-use Rattle.definitions.specs.Selectors.{Requirement}
+use Rattle.spec_api.specs.declared.selectors.Operator.{Operator}
+use Rattle.spec_api.specs.declared.selectors.SelectableField.{SelectableField}
+use Rattle.spec_api.specs.contracts.selectors.Operator as operator
+use Rattle.spec_api.specs.contracts.selectors.SelectableField as field
+use Rattle.model_encodings.specs.Codes.{coded_text}
+use Rattle.spec_api.specs.SelectorFields.{FieldRequirement}
+use Rattle.spec_api.specs.Selectors.{Requirement}
 
 abbrev pub coded_requirement : Coded Requirement
 coded_requirement =

@@ -1,7 +1,7 @@
 //! Labels of DNS names.
 ghost use Rattle.std.specs.Prelude.{◌≡◌, ◌||◌, ◌==◌};
 ghost use Rattle.std.specs.List.{list_all};
-ghost use Rattle.definitions.specs.Keys.{is_letter_or_digit, is_label, is_namespace};
+ghost use Rattle.spec_api.specs.Keys.{is_letter_or_digit, is_label, is_namespace};
 
 /// The greatest length of a namespace's name, in bytes.
 const LONGEST: usize = 63;

@@ -1,7 +1,7 @@
 //! The keys and values of objects' labels.
 ghost use Rattle.std.specs.Prelude.{◌≡◌};
 ghost use Rattle.std.specs.List.{list_all};
-ghost use Rattle.definitions.specs.Labels.{is_alphanumeric, is_name_byte, is_short_name, is_label_key, is_label_value};
+ghost use Rattle.spec_api.specs.Labels.{is_alphanumeric, is_name_byte, is_short_name, is_label_key, is_label_value};
 
 use crate::labels::is_letter_or_digit;
 use crate::subdomains::is_subdomain;

@@ -1,7 +1,7 @@
 //! Labels joined by dots.
 ghost use Rattle.std.specs.Prelude.{◌≡◌, ◌==◌};
 ghost use Rattle.std.specs.List.{list_all, slice_split};
-ghost use Rattle.definitions.specs.Keys.{is_label, is_subdomain};
+ghost use Rattle.spec_api.specs.Keys.{is_label, is_subdomain};
 
 use crate::labels::is_label;
 

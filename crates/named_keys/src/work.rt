@@ -1,14 +1,14 @@
 //! Keys of objects and work keys are keys to queue by.
 use crate::named::Named;
-use keys::Key;
+use object_keys::Key;
 use std::alloc::AllocError;
 use work_keys::WorkKey;
 
 impl Named for Key {
-    ghost use Rattle.definitions.specs.Keys.{Key as KeyName, key_cmp};
-    ghost use Rattle.keys.specs.Keys.{key_of};
-    ghost use Rattle.controllers.proofs.WorkKeyOrder.{name_total, name_tells};
-    ghost use Rattle.keys.proofs.KeyOrder.{key_cmp-name_cmp};
+    ghost use Rattle.spec_api.specs.Keys.{Key as KeyName, key_cmp};
+    ghost use Rattle.object_keys.specs.Keys.{key_of};
+    ghost use Rattle.spec_client_go.proofs.WorkKeyOrder.{name_total, name_tells};
+    ghost use Rattle.object_keys.proofs.KeyOrder.{key_cmp-name_cmp};
 
     ghost Name = { KeyName };
 
@@ -28,9 +28,9 @@ impl Named for Key {
 }
 
 impl Named for WorkKey {
-    ghost use Rattle.controllers.specs.WorkQueues.{WorkKey as Task, work_key_cmp};
+    ghost use Rattle.spec_client_go.specs.WorkQueues.{WorkKey as Task, work_key_cmp};
     ghost use Rattle.work_keys.specs.WorkKeys.{work_key_of};
-    ghost use Rattle.controllers.proofs.WorkKeyOrder.{work_key_total, work_key_tells};
+    ghost use Rattle.spec_client_go.proofs.WorkKeyOrder.{work_key_total, work_key_tells};
     ghost use Rattle.work_keys.proofs.WorkKeyOrder.{work_key_cmp-task_cmp};
 
     ghost Name = { Task };

@@ -4,7 +4,7 @@ use Rattle.std.specs.Borrow.{Bor}
 use Rattle.serde_json.specs.Data.{Data}
 use Rattle.serde_json.specs.View.{view}
 use Rattle.serde_json.specs.declared.value.Value.{Value}
-use Rattle.definitions.specs.Objects.{Object}
+use Rattle.spec_api.specs.Objects.{Object}
 
 abbrev pub value_of : Option (Bor Value) → Option Data
 value_of found = option_map (λ v. view v.now) found

@@ -3,9 +3,9 @@ ghost use Rattle.std.specs.Prelude.{◌≡◌, IfOk, IfSome, false};
 ghost use Rattle.serde_json.specs.Data.{object, no_members};
 ghost use Rattle.serde_json.specs.View.{view};
 ghost use Rattle.serde_json.specs.Written.{has_float};
-ghost use Rattle.definitions.specs.Replacements.{says_the_same};
-ghost use Rattle.definitions.specs.Values.{inner_of};
-ghost use Rattle.readings.specs.Lent.{value_of};
+ghost use Rattle.spec_api.specs.Replacements.{says_the_same};
+ghost use Rattle.spec_api.specs.Values.{inner_of};
+ghost use Rattle.object_fields.specs.Lent.{value_of};
 
 use json_values::members::into_members;
 use meta::{Kind, Object};

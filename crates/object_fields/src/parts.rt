@@ -2,10 +2,10 @@
 ghost use Rattle.std.specs.Prelude.{◌≡◌, IfSome, false};
 ghost use Rattle.serde_json.specs.View.{view};
 ghost use Rattle.serde_json.specs.Written.{has_float};
-ghost use Rattle.definitions.specs.Checks.{in_spec, in_status};
-ghost use Rattle.definitions.specs.Metadata.{text_at, truth_at};
-ghost use Rattle.definitions.specs.SelectorValues.{text_in};
-ghost use Rattle.readings.specs.Lent.{text_of, value_of};
+ghost use Rattle.spec_api.specs.Checks.{in_spec, in_status};
+ghost use Rattle.spec_api.specs.Metadata.{text_at, truth_at};
+ghost use Rattle.spec_api.specs.SelectorValues.{text_in};
+ghost use Rattle.object_fields.specs.Lent.{text_of, value_of};
 
 use meta::Object;
 use serde_json::Value;

@@ -1,12 +1,12 @@
 -- The derived orders of kinds and keys are those of ranks and names.
 use Rattle.std.proofs.Common.{◌≡◌, nat_cmp, rules}
-use Rattle.definitions.specs.contracts.kinds.KindOrd.TheImpl as kind_ord
-use Rattle.definitions.specs.declared.kinds.Kind.{Kind}
-use Rattle.definitions.specs.Kinds.{rank}
-use Rattle.definitions.specs.Keys.{key_cmp}
-use Rattle.keys.specs.contracts.key.KeyOrd.TheImpl as key_ord
-use Rattle.keys.specs.declared.key.Key.{Key}
-use Rattle.keys.specs.Keys.{key_of}
+use Rattle.spec_api.specs.contracts.kinds.KindOrd.TheImpl as kind_ord
+use Rattle.spec_api.specs.declared.kinds.Kind.{Kind}
+use Rattle.spec_api.specs.Kinds.{rank}
+use Rattle.spec_api.specs.Keys.{key_cmp}
+use Rattle.object_keys.specs.contracts.key.KeyOrd.TheImpl as key_ord
+use Rattle.object_keys.specs.declared.key.Key.{Key}
+use Rattle.object_keys.specs.Keys.{key_of}
 
 -- kinds go by their ranks
 pub kind_cmp-rank : (a b : Kind) → (kind_ord.ghosts).cmp a b ≡ nat_cmp (rank a) (rank b)

@@ -1,8 +1,8 @@
 -- What a fault tells the client.
-use Rattle.definitions.specs.Refusals.{Refusal, bad_request, not_found, no_such_path, method_not_allowed, already_exists, conflict, expired, length_required, too_large, unsupported_media_type, invalid, no_memory, too_new, storage_full}
-use Rattle.keys.specs.declared.fault.Fault.{Fault}
-use Rattle.keys.specs.declared.fault.Fault.TheVariants as fault
-use Rattle.keys.specs.Keys.{key_of}
+use Rattle.spec_api.specs.Refusals.{Refusal, bad_request, not_found, no_such_path, method_not_allowed, already_exists, conflict, expired, length_required, too_large, unsupported_media_type, invalid, no_memory, too_new, storage_full}
+use Rattle.object_keys.specs.declared.fault.Fault.{Fault}
+use Rattle.object_keys.specs.declared.fault.Fault.TheVariants as fault
+use Rattle.object_keys.specs.Keys.{key_of}
 
 -- the refusal that a fault is answered by
 abbrev pub refusal_of : Fault → Refusal

@@ -1,9 +1,9 @@
 //! Why a request is not done.
 ghost use Rattle.std.specs.Prelude.{◌≡◌};
-ghost use Rattle.keys.specs.declared.fault.Fault.TheVariants.{NoMemory};
+ghost use Rattle.object_keys.specs.declared.fault.Fault.TheVariants.{NoMemory};
 
 use crate::key::Key;
-use definitions::refusals::{Field, Mismatch, Part};
+use spec_api::refusals::{Field, Mismatch, Part};
 use std::alloc::{AllocError, AllocFailed};
 
 /// Why a request is not done.

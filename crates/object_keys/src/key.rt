@@ -1,8 +1,8 @@
 //! Keys of objects.
 ghost use Rattle.std.specs.Prelude.{◌≡◌, IfOk};
-ghost use Rattle.keys.specs.Keys.{key_of};
+ghost use Rattle.object_keys.specs.Keys.{key_of};
 
-use definitions::kinds::Kind;
+use spec_api::kinds::Kind;
 use std::alloc::AllocError;
 
 /// What one object at a time is called: its kind, its namespace and its name. Keys go by kind, then namespace, then

@@ -1,8 +1,8 @@
 //! Objects that nest deeper than a body may, and how they are laid out.
-use definitions::kinds::Kind;
 use json_values::values::has_float;
 use meta::{Object, StoredObject};
 use serde_json::{Map, Value};
+use spec_api::kinds::Kind;
 use std::alloc::{AllocError, Global};
 use std::mem::size_of;
 

@@ -1,5 +1,5 @@
 //! Uids of other clusters than the first, whose only one lines show.
-use stamps::uids::uid_text;
+use metadata_values::uids::uid_text;
 use std::alloc::{AllocError, Global};
 
 /// Returns whether a uid has the digits of its cluster and of its revision.

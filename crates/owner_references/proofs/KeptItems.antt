@@ -6,9 +6,9 @@ use Rattle.serde_json.specs.Data.{Data, Items, no_items, item}
 use Rattle.serde_json.specs.View.{view, items_of, items_view}
 use Rattle.serde_json.specs.declared.value.Value.{Value}
 use Rattle.serde_json.specs.Written.{has_float, items_have_float}
-use Rattle.definitions.proofs.Truths.{left_false, right_false}
-use Rattle.definitions.proofs.NoFloatsRead.{both_false}
-use Rattle.plans.specs.MetadataEdits.{only, with_last}
+use Rattle.spec_api.proofs.Truths.{left_false, right_false}
+use Rattle.spec_api.proofs.NoFloatsRead.{both_false}
+use Rattle.spec_reconcile.specs.MetadataEdits.{only, with_last}
 
 only_of-at : (b : Bool) (d : Data) (ds : Items) (es : List Data) → ds ≡ items_of es → cond b (item d ds) ds ≡ items_of (cond b (d ∷ es) es)
 only_of-at true d ds es is = ap (item d) is

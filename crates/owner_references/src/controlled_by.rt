@@ -2,12 +2,12 @@
 ghost use Rattle.std.specs.Prelude.{◌≡◌, ◌&&◌};
 ghost use Rattle.std.specs.List.{list_any};
 ghost use Rattle.serde_json.specs.View.{view, items_view};
-ghost use Rattle.definitions.specs.Metadata.{Owner, owner, owners_in};
-ghost use Rattle.controllers.specs.OwnerReferences.{has_controller, is_controlled_by, is_text};
+ghost use Rattle.spec_api.specs.Metadata.{Owner, owner, owners_in};
+ghost use Rattle.spec_client_go.specs.OwnerReferences.{has_controller, is_controlled_by, is_text};
 
 use crate::owned_by::is_text;
 use meta::Object;
-use readings::{text_at, truth_at};
+use object_fields::{text_at, truth_at};
 use serde_json::Value;
 
 /// Returns whether an owner reference is a controller's. It takes no memory.

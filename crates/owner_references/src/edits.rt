@@ -3,12 +3,12 @@ ghost use Rattle.std.specs.Prelude.{◌≡◌, IfOk, OnOk, map, true, false};
 ghost use Rattle.serde_json.specs.Data.{boolean, string, put};
 ghost use Rattle.serde_json.specs.View.{view, items_view, members_view};
 ghost use Rattle.serde_json.specs.Written.{has_float, items_have_float, members_have_float};
-ghost use Rattle.keys.specs.Keys.{key_of};
-ghost use Rattle.plans.specs.MetadataEdits.{references, with_list, controller_reference, with_controller};
+ghost use Rattle.object_keys.specs.Keys.{key_of};
+ghost use Rattle.spec_reconcile.specs.MetadataEdits.{references, with_list, controller_reference, with_controller};
 
-use drafts::Draft;
-use keys::Key;
 use meta::Object;
+use metadata_editor::Draft;
+use object_keys::Key;
 use serde_json::{Map, Value};
 use std::alloc::{AllocError, Global};
 

@@ -2,8 +2,8 @@
 ghost use Rattle.std.specs.Prelude.{◌≡◌, option_map};
 ghost use Rattle.std.specs.List.{list_any};
 ghost use Rattle.serde_json.specs.View.{items_view};
-ghost use Rattle.definitions.specs.Metadata.{owners_in};
-ghost use Rattle.controllers.specs.OwnerReferences.{is_text, is_owned_by};
+ghost use Rattle.spec_api.specs.Metadata.{owners_in};
+ghost use Rattle.spec_client_go.specs.OwnerReferences.{is_text, is_owned_by};
 
 use meta::Object;
 use meta::owners::owner;

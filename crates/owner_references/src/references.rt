@@ -1,12 +1,12 @@
 //! What owner references name.
 ghost use Rattle.std.specs.Prelude.{◌≡◌, IfOk, filter_map, map, option_map};
-ghost use Rattle.keys.specs.Keys.{key_of};
+ghost use Rattle.object_keys.specs.Keys.{key_of};
 ghost use Rattle.meta.specs.Owners.{owner_of};
-ghost use Rattle.controllers.specs.OwnerReferences.{refers_to, kind_referred, key_named, owner_key, namespace_of, owner_keys, controls_as, controllers, controller_keys};
+ghost use Rattle.spec_client_go.specs.OwnerReferences.{refers_to, kind_referred, key_named, owner_key, namespace_of, owner_keys, controls_as, controllers, controller_keys};
 
 use crate::owned_by::is_text;
-use keys::Key;
 use meta::{Kind, Object, OwnerReference};
+use object_keys::Key;
 use std::alloc::{AllocError, Global};
 
 /// Returns whether a reference is to an object of the kind.

@@ -3,9 +3,9 @@ use Rattle.std.proofs.Common.{◌≡◌, ◌<◌, ℕ, zero, suc, List, [], ◌�
 use Rattle.std.specs.List.{AllByRecursion}
 use Rattle.std.specs.List.Sorted.{IsStrictlySortedBy, IsPartitionedBy, IsPartitionPoint}
 use Rattle.std.specs.Ordering.{is_lt}
-use Rattle.definitions.specs.Pages.{AreInPlace, Place, place_of, place_cmp, is_after}
-use Rattle.definitions.specs.PageTokens.{Token, token_place}
-use Rattle.definitions.proofs.PageLists.{place_total}
+use Rattle.spec_api.specs.Pages.{AreInPlace, Place, place_of, place_cmp, is_after}
+use Rattle.spec_api.specs.PageTokens.{Token, token_place}
+use Rattle.spec_api.proofs.PageLists.{place_total}
 use Rattle.meta.specs.Members.{member_of}
 use Rattle.meta.specs.declared.lent_members.Member.{Member}
 use Rattle.pages.specs.Seen.{is_passed, list_after}

@@ -8,10 +8,10 @@ use Rattle.serde_json.specs.Data.{Data}
 use Rattle.serde_json.specs.Read.{read}
 use Rattle.serde_json.specs.Written.{compact_text}
 use Rattle.serde_json.proofs.OnLiterals.{serde_json_on_literals}
-use Rattle.definitions.specs.PageTokens.{Token, token_data, token_text, IsToken}
-use Rattle.definitions.specs.Revisions.{greatest_revision}
-use Rattle.definitions.proofs.RevisionTexts.{revision_is}
-use Rattle.definitions.proofs.TokenTexts.{token_decodes, data_read_back, IsUtf8-token}
+use Rattle.spec_api.specs.PageTokens.{Token, token_data, token_text, IsToken}
+use Rattle.spec_api.specs.Revisions.{greatest_revision}
+use Rattle.spec_api.proofs.RevisionTexts.{revision_is}
+use Rattle.spec_api.proofs.TokenTexts.{token_decodes, data_read_back, IsUtf8-token}
 use Rattle.pages.specs.Read.{token_in}
 use Rattle.pages.specs.Refused.{IsNoToken, HoldsToken}
 

@@ -2,8 +2,8 @@
 use Rattle.std.specs.Prelude.{ℕ, List, codes, Option, option_map, option_and_then}
 use Rattle.serde_json.specs.Data.{Data}
 use Rattle.serde_json.specs.Find.{get, as_str}
-use Rattle.definitions.specs.PageTokens.{Token}
-use Rattle.definitions.specs.Revisions.{revision_of}
+use Rattle.spec_api.specs.PageTokens.{Token}
+use Rattle.spec_api.specs.Revisions.{revision_of}
 use Rattle.pages.specs.declared.reading.Members.{Members}
 
 -- a member that is a text

@@ -1,11 +1,11 @@
 -- What is refused as a page token.
 use Rattle.std.specs.Prelude.{◌≡◌, ◌⊎◌, ℕ, List}
 use Rattle.serde_json.specs.Data.{Data}
-use Rattle.definitions.specs.declared.refusals.Part.TheVariants as part
-use Rattle.definitions.specs.PageTokens as tokens
-use Rattle.definitions.specs.PageTokens.{token_data, IsToken}
-use Rattle.keys.specs.declared.fault.Fault.{Fault}
-use Rattle.keys.specs.declared.fault.Fault.TheVariants as fault
+use Rattle.spec_api.specs.declared.refusals.Part.TheVariants as part
+use Rattle.spec_api.specs.PageTokens as tokens
+use Rattle.spec_api.specs.PageTokens.{token_data, IsToken}
+use Rattle.object_keys.specs.declared.fault.Fault.{Fault}
+use Rattle.object_keys.specs.declared.fault.Fault.TheVariants as fault
 
 -- the text is no token's
 abbrev pub IsNoToken : List ℕ → Type 0

@@ -1,10 +1,10 @@
 -- Tokens and lists, as clients see them.
 use Rattle.std.specs.Prelude.{Bool, not, string_bytes, Option, Some, option_map}
 use denote.Ref.{Bor}
-use Rattle.definitions.specs.History as history
-use Rattle.definitions.specs.Pages.{Place, is_after, after_place}
-use Rattle.definitions.specs.PageTokens as tokens
-use Rattle.definitions.specs.PageTokens.{token_place}
+use Rattle.spec_api.specs.History as history
+use Rattle.spec_api.specs.Pages.{Place, is_after, after_place}
+use Rattle.spec_api.specs.PageTokens as tokens
+use Rattle.spec_api.specs.PageTokens.{token_place}
 use Rattle.meta.specs.Members.{member_of}
 use Rattle.meta.specs.declared.lent_members.Member.{Member}
 use Rattle.pages.specs.declared.tokens.Token.{Token}

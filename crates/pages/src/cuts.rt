@@ -1,15 +1,15 @@
 //! Pages of lists.
 ghost use Rattle.std.specs.Prelude.{◌≡◌, ◌≤◌, length, map, drop};
-ghost use Rattle.definitions.specs.Pages as pages;
-ghost use Rattle.definitions.specs.Pages.{AreInPlace, place_of, place_cmp, after_place};
-ghost use Rattle.keys.specs.Keys.{key_of};
+ghost use Rattle.spec_api.specs.Pages as pages;
+ghost use Rattle.spec_api.specs.Pages.{AreInPlace, place_of, place_cmp, after_place};
+ghost use Rattle.object_keys.specs.Keys.{key_of};
 ghost use Rattle.meta.specs.Members.{member_of};
 ghost use Rattle.pages.specs.Seen.{token_of, asked_place, is_passed, list_after};
-ghost use Rattle.definitions.specs.PageTokens.{token_place};
+ghost use Rattle.spec_api.specs.PageTokens.{token_place};
 
 use crate::tokens::Token;
-use keys::Key;
 use meta::Member;
+use object_keys::Key;
 use std::cmp::Ordering;
 
 /// A part of a list: its objects, and how many come after them. If any do, the next page begins after the last one.

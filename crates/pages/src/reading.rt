@@ -2,7 +2,7 @@
 ghost use Rattle.std.specs.Prelude.{◌≡◌, ◌≤◌, IfOk, IfErr, Some, option_map, option_and_then};
 ghost use Rattle.serde_json.specs.Find.{get, as_str};
 ghost use Rattle.serde_json.specs.View.{view};
-ghost use Rattle.definitions.specs.Revisions.{greatest_revision};
+ghost use Rattle.spec_api.specs.Revisions.{greatest_revision};
 ghost use Rattle.pages.specs.Seen.{token_of};
 ghost use Rattle.pages.specs.Read.{text_at, token_in, lent_token};
 ghost use Rattle.pages.specs.Refused.{RefusesToken, HoldsToken};
@@ -10,10 +10,10 @@ ghost use Rattle.pages.specs.Refused.{RefusesToken, HoldsToken};
 use crate::tokens::Token;
 use base64::DecodeAllocError;
 use base64::engine::general_purpose::URL_SAFE_NO_PAD;
-use definitions::refusals::Part;
-use keys::Fault;
+use metadata_values::revisions::read_revision;
+use object_keys::Fault;
 use serde_json::{Category, Value};
-use stamps::revisions::read_revision;
+use spec_api::refusals::Part;
 use std::alloc::{AllocError, Global};
 
 /// Returns the value that a text has in base64, of whichever form.

@@ -3,10 +3,10 @@ ghost use Rattle.std.specs.Prelude.{◌≡◌, IfOk, IfErr, string_bytes};
 
 use crate::reading::{members_of, value_of};
 use base64::engine::general_purpose::URL_SAFE_NO_PAD;
-use definitions::refusals::Part;
-use keys::Fault;
 use meta::Member;
+use object_keys::Fault;
 use serde_json::{Map, Value};
+use spec_api::refusals::Part;
 use std::alloc::{AllocError, Global};
 
 /// Where a page ended, and the revision of its list: what a client gives back to ask for the next page.
@@ -22,9 +22,9 @@ pub struct Token {
 
 impl Token {
     ghost use Rattle.std.specs.Prelude.{◌≡◌, IfOk, IfErr, string_bytes};
-    ghost use Rattle.definitions.specs.Pages.{place_of};
-    ghost use Rattle.definitions.specs.PageTokens.{token_place, token_text, IsToken};
-    ghost use Rattle.keys.specs.Keys.{key_of};
+    ghost use Rattle.spec_api.specs.Pages.{place_of};
+    ghost use Rattle.spec_api.specs.PageTokens.{token_place, token_text, IsToken};
+    ghost use Rattle.object_keys.specs.Keys.{key_of};
     ghost use Rattle.pages.specs.Seen.{token_of};
     ghost use Rattle.pages.specs.Refused.{RefusesToken};
 

@@ -2,8 +2,8 @@
 use Rattle.std.proofs.Common.{◌≡◌, List, [], ◌∷◌, ◌++◌, map, Ordering, Less, Equal, Greater, refl, ap, ◌∙◌}
 use Rattle.std.specs.Ordering.{match_ordering}
 use Rattle.std.specs.BTreeSet.{insert_key}
-use Rattle.controllers.specs.WorkQueues.{WorkKey as Task, work_key_cmp as task_cmp}
-use Rattle.controllers.specs.OwedKeys.{with_keys}
+use Rattle.spec_client_go.specs.WorkQueues.{WorkKey as Task, work_key_cmp as task_cmp}
+use Rattle.spec_client_go.specs.OwedKeys.{with_keys}
 use Rattle.work_keys.specs.WorkKeys.{work_key_of}
 use Rattle.work_keys.specs.declared.work_key.WorkKey.{WorkKey}
 use Rattle.work_keys.proofs.WorkKeyOrder.{work_key_cmp, work_key_cmp-task_cmp}

@@ -1,7 +1,7 @@
 -- Deltas that wait to be published.
 use Rattle.std.specs.Prelude.{List, ◌++◌}
-use Rattle.controllers.specs.Informers.{Informer}
-use Rattle.controllers.specs.Reflectors.{Delta}
+use Rattle.spec_client_go.specs.Informers.{Informer}
+use Rattle.spec_client_go.specs.Reflectors.{Delta}
 
 -- more deltas wait, in their order
 abbrev pub all_appended : Informer → List Delta → Informer

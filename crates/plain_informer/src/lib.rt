@@ -13,4 +13,4 @@ pub use indexer::{Indexed, Shift};
 pub use owed::keys_of;
 pub use plain::PlainInformer;
 pub use publisher::Publishing;
-pub use turns::{Command, Entry, Hand, Looks, Plan, Seen};
+pub use reconcile_types::{Command, Entry, Hand, Looks, Plan, Seen};

@@ -1,17 +1,17 @@
 //! What is found in the maps that are looked at.
 ghost use Rattle.std.specs.Prelude.{◌≡◌, IfOk, filter, map};
-ghost use Rattle.definitions.specs.Checks.{requirements};
-ghost use Rattle.keys.specs.Keys.{key_of};
-ghost use Rattle.controllers.specs.OwnerReferences.{has_controller};
-ghost use Rattle.controllers.specs.OwedKeys.{selects, adopters, dependents_in};
-ghost use Rattle.turns.specs.Entries.{entry_of};
+ghost use Rattle.spec_api.specs.Checks.{requirements};
+ghost use Rattle.object_keys.specs.Keys.{key_of};
+ghost use Rattle.spec_client_go.specs.OwnerReferences.{has_controller};
+ghost use Rattle.spec_client_go.specs.OwedKeys.{selects, adopters, dependents_in};
+ghost use Rattle.reconcile_types.specs.Entries.{entry_of};
 
-use keys::Key;
 use meta::Object;
-use owners::references::namespace_of;
+use object_keys::Key;
+use owner_references::references::namespace_of;
+use reconcile_types::{Entry, Seen};
 use selector::Selector;
 use std::alloc::{AllocError, Global};
-use turns::{Entry, Seen};
 
 /// Returns the selector of an object, if it has one that can be read.
 fn selector_of(alloc: Global, object: &Object) -> Result<Option<Selector>, AllocError>
@@ -25,9 +25,9 @@ fn selector_of(alloc: Global, object: &Object) -> Result<Option<Selector>, Alloc
     };
     match Selector::of_value(alloc, value) {
         Ok(selector) => Ok(Some(selector)),
-        Err(selector::Fault::Malformed) => Ok(None),
-        Err(selector::Fault::Invalid) => Ok(None),
-        Err(selector::Fault::NoMemory) => Err(AllocError),
+        Err(selector::SelectorFault::Malformed) => Ok(None),
+        Err(selector::SelectorFault::Invalid) => Ok(None),
+        Err(selector::SelectorFault::NoMemory) => Err(AllocError),
     }
 }
 

@@ -1,11 +1,11 @@
 //! Work keys, each once and in order.
 ghost use Rattle.std.specs.Prelude.{◌≡◌, IfOk, OnOk, map};
-ghost use Rattle.keys.specs.Keys.{key_of};
-ghost use Rattle.controllers.specs.OwedKeys.{with_keys, for_controller};
+ghost use Rattle.object_keys.specs.Keys.{key_of};
+ghost use Rattle.spec_client_go.specs.OwedKeys.{with_keys, for_controller};
 ghost use Rattle.work_keys.specs.WorkKeys.{work_key_of};
 
-use controllers::controller::Controller;
-use keys::Key;
+use object_keys::Key;
+use spec_client_go::controller::Controller;
 use std::alloc::{AllocError, Global};
 use std::collections::BTreeSet;
 use work_keys::WorkKey;

@@ -14,8 +14,8 @@ pub struct PlainInformer {
 }
 
 impl Model for PlainInformer {
-    ghost use Rattle.controllers.specs.Informers.{Informer};
-    ghost use Rattle.controllers.specs.InformerCodes.{coded_informer};
+    ghost use Rattle.spec_client_go.specs.Informers.{Informer};
+    ghost use Rattle.spec_client_go.specs.InformerCodes.{coded_informer};
     ghost use Rattle.reflector.specs.Deltas.{deltas_of};
 
     ghost Value = { Informer };
@@ -27,11 +27,11 @@ impl Model for PlainInformer {
 
 impl PlainInformer {
     ghost use Rattle.std.specs.Prelude.{◌≡◌, IfOk, IfErr, OnOk, OnErr, length, map};
-    ghost use Rattle.controllers.specs.Informers.{begun, appended, after_publish};
-    ghost use Rattle.controllers.specs.Shifts.{all_shifts};
+    ghost use Rattle.spec_client_go.specs.Informers.{begun, appended, after_publish};
+    ghost use Rattle.spec_client_go.specs.Shifts.{all_shifts};
     ghost use Rattle.reflector.specs.Deltas.{delta_of, deltas_of};
     ghost use Rattle.indexer.specs.Shifted.{shift_of};
-    ghost use Rattle.informer.specs.Appended.{all_appended};
+    ghost use Rattle.plain_informer.specs.Appended.{all_appended};
 
     /// Returns an informer that has published nothing yet: an empty map at revision 0.
     pub fn new(alloc: Global) -> PlainInformer

@@ -1,9 +1,9 @@
 //! What publishes a map: a map that others look at, and the deltas that wait to be published.
 ghost use Rattle.std.specs.Prelude.{◌≡◌, IfOk, OnOk, OnErr, length, map};
-ghost use Rattle.controllers.specs.Informers.{Informer, appended, after_publish};
-ghost use Rattle.controllers.specs.Shifts.{all_shifts};
+ghost use Rattle.spec_client_go.specs.Informers.{Informer, appended, after_publish};
+ghost use Rattle.spec_client_go.specs.Shifts.{all_shifts};
 ghost use Rattle.indexer.specs.Shifted.{shift_of};
-ghost use Rattle.informer.specs.Appended.{all_appended};
+ghost use Rattle.plain_informer.specs.Appended.{all_appended};
 ghost use Rattle.reflector.specs.Deltas.{delta_of, deltas_of};
 
 use crate::plain::PlainInformer;

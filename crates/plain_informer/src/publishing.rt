@@ -1,7 +1,7 @@
 //! Deltas applied one after another, with what each changes.
 ghost use Rattle.std.specs.Prelude.{◌≡◌, ◌++◌, IfOk, OnOk, OnErr, map};
-ghost use Rattle.controllers.specs.Informers.{all_applied, applied};
-ghost use Rattle.controllers.specs.Shifts.{all_shifts, shifts_of};
+ghost use Rattle.spec_client_go.specs.Informers.{all_applied, applied};
+ghost use Rattle.spec_client_go.specs.Shifts.{all_shifts, shifts_of};
 ghost use Rattle.reflector.specs.Deltas.{delta_of, deltas_of};
 ghost use Rattle.indexer.specs.Shifted.{shift_of};
 

@@ -1,19 +1,19 @@
 //! The Deployments over a Pod.
 ghost use Rattle.std.specs.Prelude.{◌≡◌, ◌++◌, IfOk, OnOk, map, option_and_then, option_map};
-ghost use Rattle.definitions.specs.History.{found};
-ghost use Rattle.definitions.specs.SelectorValues.{is_some_and};
-ghost use Rattle.definitions.specs.declared.kinds.Kind.TheVariants.{ReplicaSet};
-ghost use Rattle.controllers.specs.OwnerReferences.{is_text, key_named};
-ghost use Rattle.keys.specs.Keys.{key_of};
+ghost use Rattle.spec_api.specs.History.{found};
+ghost use Rattle.spec_api.specs.SelectorValues.{is_some_and};
+ghost use Rattle.spec_api.specs.declared.kinds.Kind.TheVariants.{ReplicaSet};
+ghost use Rattle.spec_client_go.specs.OwnerReferences.{is_text, key_named};
+ghost use Rattle.object_keys.specs.Keys.{key_of};
 ghost use Rattle.meta.specs.Owners.{owner_of};
-ghost use Rattle.controllers.specs.OwedKeys.{deployments_if, deployments_over, deployments_of_pod};
+ghost use Rattle.spec_client_go.specs.OwedKeys.{deployments_if, deployments_over, deployments_of_pod};
 
-use keys::Key;
 use meta::{Kind, Object, OwnerReference};
-use owners::owned_by::is_text;
-use owners::references::{controller_keys, controllers, key_named, namespace_of};
+use object_keys::Key;
+use owner_references::owned_by::is_text;
+use owner_references::references::{controller_keys, controllers, key_named, namespace_of};
+use reconcile_types::Seen;
 use std::alloc::{AllocError, Global};
-use turns::Seen;
 
 /// Returns whether both uids are there, and are the same.
 fn is_same(uid: Option<&str>, found: Option<&str>) -> bool

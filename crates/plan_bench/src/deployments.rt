@@ -1,12 +1,12 @@
 //! What is planned of: a Deployment, and its sets.
 use crate::Way;
 use crate::hands::{look, object};
-use definitions::kinds::Kind;
 use indexer::Indexed;
-use keys::{Fault, Key};
+use object_keys::{Fault, Key};
+use reconcile_types::{Hand, Looks};
 use reflector::SharedObject;
+use spec_api::kinds::Kind;
 use std::alloc::{AllocError, Global};
-use turns::{Hand, Looks};
 
 /// How many pods the Deployment is to have.
 const REPLICAS: u32 = 20;

@@ -1,15 +1,15 @@
 //! What is planned of: the set, and its pods.
 use crate::Way;
 use crate::texts::{pod, set};
-use definitions::kinds::Kind;
-use definitions::refusals::Part;
 use indexer::Indexed;
-use keys::{Fault, Key};
 use meta::Object;
+use object_keys::{Fault, Key};
+use reconcile_types::{Hand, Looks, Read};
 use reflector::{Delta, SharedObject};
 use serde_json::Value;
+use spec_api::kinds::Kind;
+use spec_api::refusals::Part;
 use std::alloc::{AllocError, Global};
-use turns::{Hand, Looks, Read};
 
 /// Returns the object that a text says.
 pub fn object(alloc: Global, kind: Kind, text: &str) -> Result<Object, Fault> {

@@ -12,11 +12,11 @@ mod texts;
 use crate::deployments::rollout_hand;
 use crate::hands::hand;
 use indexer::Indexed;
-use keys::Fault;
+use object_keys::Fault;
+use reconcile_types::{Hand, Plan};
 use std::alloc::{AllocError, Global};
 use std::process::ExitCode;
 use std::{env, io};
-use turns::{Hand, Plan};
 
 /// What is planned.
 #[derive(Clone, Copy)]

@@ -2,11 +2,11 @@
 use crate::hands::{hand, look, read, read_none};
 use crate::written::{tell_commands, tell_keys};
 use collector::{asks, plan};
-use definitions::kinds::Kind;
 use indexer::Indexed;
+use reconcile_types::Hand;
+use spec_api::kinds::Kind;
 use std::alloc::{AllocError, Global};
 use test_objects::key;
-use turns::Hand;
 
 /// A pod of the ConfigMap `a`.
 const OF_A: &str =

@@ -1,12 +1,12 @@
 //! A turn of a Deployment.
 use crate::hands::{hand, look};
 use crate::written::{tell_commands, tell_keys};
-use definitions::kinds::Kind;
 use deployment::{asks, plan};
 use indexer::Indexed;
+use reconcile_types::Hand;
+use spec_api::kinds::Kind;
 use std::alloc::{AllocError, Global};
 use test_objects::key;
-use turns::Hand;
 
 /// A Deployment of ten that goes on to the image `web:2`, with the default pace: there may be 25% more, and 25% may be unavailable.
 const DEPLOYMENT: &str =

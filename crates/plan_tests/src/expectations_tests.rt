@@ -1,7 +1,7 @@
 //! Creations and deletions that are waited for.
-use definitions::kinds::Kind;
 use expectations::Table;
-use keys::Key;
+use object_keys::Key;
+use spec_api::kinds::Kind;
 use std::alloc::{AllocError, Global};
 use test_objects::key;
 

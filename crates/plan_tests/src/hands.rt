@@ -1,13 +1,13 @@
 //! What workers have at hand.
-use definitions::kinds::Kind;
 use indexer::Indexed;
-use keys::Key;
 use meta::Object;
+use object_keys::Key;
+use reconcile_types::{Hand, Looks, Read};
 use reflector::{Delta, SharedObject};
 use serde_json::Value;
+use spec_api::kinds::Kind;
 use std::alloc::{AllocError, Global};
 use test_objects::key;
-use turns::{Hand, Looks, Read};
 
 /// Returns the object of a kind that a text says. The text is one that can be read.
 fn object(alloc: Global, kind: Kind, text: &str) -> Result<Object, AllocError> {

@@ -1,12 +1,12 @@
 //! A turn of a ReplicaSet.
 use crate::hands::{hand, look};
 use crate::written::{tell_commands, tell_keys};
-use definitions::kinds::Kind;
 use indexer::Indexed;
+use reconcile_types::Hand;
 use replicaset::{asks, plan};
+use spec_api::kinds::Kind;
 use std::alloc::{AllocError, Global};
 use test_objects::key;
-use turns::Hand;
 
 /// A pod that is ready.
 const P3: &str =

@@ -1,6 +1,6 @@
 //! A key that is added while a worker has it.
-use controllers::controller::Controller;
-use definitions::kinds::Kind;
+use spec_api::kinds::Kind;
+use spec_client_go::controller::Controller;
 use std::alloc::{AllocError, Global};
 use test_objects::key;
 use work_keys::WorkKey;

@@ -1,7 +1,7 @@
 //! Keys and commands as texts, to be compared.
-use keys::Key;
+use object_keys::Key;
+use reconcile_types::{Command, Version};
 use std::alloc::AllocError;
-use turns::{Command, Version};
 
 /// Adds two words to a text, with a blank between them and a comma in the end.
 fn tell(text: &mut String, first: &str, second: &str) -> Result<(), AllocError> {

@@ -2,11 +2,11 @@
 use Rattle.std.proofs.Common.{◌≡◌, ℕ, List, [], ◌∷◌, ◌++◌, map, Option, Some, Result, Ok, Err, IfOk, sym, ap, ◌∙◌, append-nil}
 use Rattle.std.specs.Prelude.{flat_map}
 use Rattle.serde_json.specs.Data.{Data}
-use Rattle.definitions.specs.Metadata.{uid}
-use Rattle.control.specs.Boards.{Observation, deletion_observed}
-use Rattle.controllers.specs.Expectations.{Owner}
-use Rattle.controllers.specs.OwedKeys.{one_of}
-use Rattle.reconciling.specs.PodObservations.{sets_of, deletion}
+use Rattle.spec_api.specs.Metadata.{uid}
+use Rattle.spec_work_board.specs.Boards.{Observation, deletion_observed}
+use Rattle.spec_client_go.specs.Expectations.{Owner}
+use Rattle.spec_client_go.specs.OwedKeys.{one_of}
+use Rattle.spec_sim_control_plane.specs.PodObservations.{sets_of, deletion}
 
 pub deletion_is : (pod : Data) (u : List ℕ) → uid pod ≡ Some u → map (λ (o : Owner). deletion_observed o u) (sets_of pod) ≡ deletion pod
 deletion_is pod u is =

@@ -2,12 +2,12 @@
 use Rattle.std.specs.Prelude.{◌&&◌, not, List, [], ◌++◌, flat_map, Option, option_map, if◌then◌else◌}
 use Rattle.std.specs.Borrow.{Bor}
 use Rattle.serde_json.specs.Data.{Data}
-use Rattle.definitions.specs.Keys.{Key}
-use Rattle.definitions.specs.Metadata.{is_being_deleted}
-use Rattle.definitions.specs.Objects.{Object}
-use Rattle.control.specs.Boards.{Observation}
-use Rattle.controllers.specs.OwedKeys.{one_of}
-use Rattle.reconciling.specs.PodObservations.{is_same_pod, was_being_deleted, creation, deletion, seen_now, seen_no_more}
+use Rattle.spec_api.specs.Keys.{Key}
+use Rattle.spec_api.specs.Metadata.{is_being_deleted}
+use Rattle.spec_api.specs.Objects.{Object}
+use Rattle.spec_work_board.specs.Boards.{Observation}
+use Rattle.spec_client_go.specs.OwedKeys.{one_of}
+use Rattle.spec_sim_control_plane.specs.PodObservations.{is_same_pod, was_being_deleted, creation, deletion, seen_now, seen_no_more}
 
 -- the data of an object, if there is one
 abbrev pub data_of : Option (Bor Object) → Option Data

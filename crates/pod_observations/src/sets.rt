@@ -1,13 +1,13 @@
 //! Whose pod it is.
 ghost use Rattle.std.specs.Prelude.{◌≡◌, IfOk, filter_map, map, option_map};
 ghost use Rattle.meta.specs.Owners.{owner_of as reference_of};
-ghost use Rattle.control_desk.specs.Seen.{owner_of};
-ghost use Rattle.reconciling.specs.PodObservations.{set_named, sets_of};
+ghost use Rattle.work_board.specs.Seen.{owner_of};
+ghost use Rattle.spec_sim_control_plane.specs.PodObservations.{set_named, sets_of};
 
-use control_desk::Owner;
 use meta::{Kind, Object, OwnerReference};
-use owners::references::{controllers, key_named, namespace_of};
+use owner_references::references::{controllers, key_named, namespace_of};
 use std::alloc::{AllocError, Global};
+use work_board::Owner;
 
 /// Returns the ReplicaSet that a reference names in a namespace, by key and uid; nothing, where it lacks one of them.
 fn set_named(

@@ -1,19 +1,19 @@
 //! What a change of a pod shows.
 ghost use Rattle.std.specs.Prelude.{◌≡◌, ◌++◌, IfOk, map, option_map, [], string_bytes};
-ghost use Rattle.control.specs.Boards as boards;
-ghost use Rattle.control_desk.specs.Seen.{observation_of, owner_of};
-ghost use Rattle.plans.specs.PodClaims as claims;
-ghost use Rattle.reconciling.specs.PodObservations.{is_same_pod, was_being_deleted, creation, deletion, seen_now, seen_no_more, observations_of_pod, observations_by};
+ghost use Rattle.spec_work_board.specs.Boards as boards;
+ghost use Rattle.work_board.specs.Seen.{observation_of, owner_of};
+ghost use Rattle.spec_reconcile.specs.PodClaims as claims;
+ghost use Rattle.spec_sim_control_plane.specs.PodObservations.{is_same_pod, was_being_deleted, creation, deletion, seen_now, seen_no_more, observations_of_pod, observations_by};
 ghost use Rattle.indexer.specs.Shifted.{shift_of};
 ghost use Rattle.pod_observations.specs.Changes.{data_of, seen_first, seen_deleted, of_old, of_new};
 
 use crate::sets::sets_of;
-use control_desk::{Observation, Owner};
 use indexer::Shift;
 use meta::{Kind, Object};
-use owners::owned_by::is_text;
+use owner_references::owned_by::is_text;
 use reflector::SharedObject;
 use std::alloc::{AllocError, Global};
+use work_board::{Observation, Owner};
 
 /// Returns whether two objects have one uid.
 fn have_one_uid(one: &Object, other: &Object) -> bool

@@ -4,7 +4,7 @@ use work_keys::WorkKey;
 use workqueue::Queue;
 
 /// Keys that wait in a line, and keys that were handed out.
-pub trait Line {
+pub trait WaitingLine {
     /// Puts a key at the end of the line.
     fn add(&mut self, key: WorkKey) -> Result<(), AllocError>;
 
@@ -15,7 +15,7 @@ pub trait Line {
     fn done(&mut self, key: &WorkKey);
 }
 
-impl Line for Queue {
+impl WaitingLine for Queue {
     fn add(&mut self, key: WorkKey) -> Result<(), AllocError> {
         Queue::add(self, key)
     }

@@ -1,5 +1,5 @@
 //! A line without the queue's rules, to compare with.
-use crate::line::Line;
+use crate::line::WaitingLine;
 use std::alloc::{AllocError, Global};
 use std::collections::{BTreeSet, VecDeque};
 use work_keys::WorkKey;
@@ -21,7 +21,7 @@ impl Plain {
     }
 }
 
-impl Line for Plain {
+impl WaitingLine for Plain {
     fn add(&mut self, key: WorkKey) -> Result<(), AllocError> {
         self.open.insert(key.try_copy()?)?;
         self.waiting.push_back(key)?;

@@ -1,8 +1,8 @@
 //! The loop that is measured.
-use crate::line::Line;
-use controllers::controller::Controller;
-use definitions::kinds::Kind;
-use keys::Key;
+use crate::line::WaitingLine;
+use object_keys::Key;
+use spec_api::kinds::Kind;
+use spec_client_go::controller::Controller;
 use std::alloc::{AllocError, Global};
 use work_keys::WorkKey;
 
@@ -15,7 +15,7 @@ const STRIDE: usize = 70_001;
 
 /// Adds some thousand keys: all the keys in turn, and again from the first. Each time that all stand in the line, and at
 /// the end, they are handed out and taken back, one after another. Gives how many keys were handed out.
-pub fn run<L: Line>(alloc: Global, line: &mut L, thousands: u32) -> Result<u64, AllocError> {
+pub fn run<L: WaitingLine>(alloc: Global, line: &mut L, thousands: u32) -> Result<u64, AllocError> {
     let keys = keys(alloc)?;
     let mut handed_out = 0u64;
     let rounds = thousands as usize * 1000;
@@ -28,7 +28,7 @@ pub fn run<L: Line>(alloc: Global, line: &mut L, thousands: u32) -> Result<u64, 
 }
 
 /// Adds the first keys.
-fn add_all<L: Line>(line: &mut L, keys: &[WorkKey], count: usize) -> Result<(), AllocError> {
+fn add_all<L: WaitingLine>(line: &mut L, keys: &[WorkKey], count: usize) -> Result<(), AllocError> {
     for key in keys.iter().take(count) {
         line.add(key.try_copy()?)?;
     }
@@ -36,7 +36,7 @@ fn add_all<L: Line>(line: &mut L, keys: &[WorkKey], count: usize) -> Result<(), 
 }
 
 /// Takes keys from the line, each when the one before is done, and gives how many came.
-fn take_all<L: Line>(line: &mut L, count: usize) -> Result<u64, AllocError> {
+fn take_all<L: WaitingLine>(line: &mut L, count: usize) -> Result<u64, AllocError> {
     let mut handed_out = 0u64;
     for _ in 0..count {
         if let Some(key) = line.get()? {

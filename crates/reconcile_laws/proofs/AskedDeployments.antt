@@ -15,40 +15,40 @@ use Rattle.sha2.specs.Sha256.{sha256}
 use Rattle.serde_json.specs.Data.{Data, string, array, object, no_items, item, Members, no_members, put}
 use Rattle.serde_json.specs.Find.{get}
 use Rattle.serde_json.specs.Written.{compact_text}
-use Rattle.definitions.specs.Checks.{in_spec}
-use Rattle.definitions.specs.Defaults.{unsigned_value, is_rolling_update}
-use Rattle.definitions.specs.History.{Entries, found}
-use Rattle.definitions.specs.Keys.{Key, is_namespace, is_subdomain}
-use Rattle.definitions.specs.Metadata.{metadata, metadata_of, labels_of}
-use Rattle.definitions.specs.Moments.{is_digit}
-use Rattle.definitions.specs.Reached.{IsParsed}
-use Rattle.definitions.specs.Replacements.{says_the_same}
-use Rattle.definitions.specs.SelectorValues.{is_some_and, text_in}
-use Rattle.definitions.specs.Values.{inner_of}
-use Rattle.definitions.proofs.Truths.{both_true}
-use Rattle.controllers.specs.Commands.{Command, update, update_status}
-use Rattle.controllers.specs.Hands.{Hand}
-use Rattle.controllers.specs.Informers.{Looks, of_namespace}
-use Rattle.laws.proofs.NameBytes.{name_text}
-use Rattle.laws.proofs.Parsed.{Both, joined, inside, Both-set, inner}
-use Rattle.laws.proofs.Parsed as parsed
-use Rattle.laws.proofs.ParsedEdits.{inner_edits}
-use Rattle.laws.proofs.ParsedObjects.{meta, with_meta}
-use Rattle.plans.specs.Counts.{count_in_spec, count_in_status, replicas}
-use Rattle.plans.specs.Deployments.{Rollout, age_cmp, asked_by, clean_up, count_collision, counted, delete_set, due, first_of, forget, go_on, has_its_template, has_running_pods, hash_of, is_going_on, is_managed_by, is_name_taken, is_complete, make, managed, pace_of, plan_for, plan_of, recreate, renew, renew_whole, report, roll, roll_with, rollout, scale, scale_each, sets_of, summary, tally, with_replicas, with_summary, without_first}
-use Rattle.plans.specs.MetadataEdits.{controller_reference}
-use Rattle.plans.specs.NewPods.{template}
-use Rattle.plans.specs.Revisions.{revision_annotation, is_revision, revision_said, revision, greatest, annotated, with_revision, raised}
-use Rattle.plans.specs.Rollouts.{asked, growth, most, resized, shrunk}
-use Rattle.plans.specs.Statuses.{status, with_status}
-use Rattle.plans.specs.Templates.{collision_digits, template_hash, hash_label, selector, with_hash, labelled, selecting, set_name, new_set_metadata, new_set_spec}
-use Rattle.plan_laws.specs.AskedLaws.{IsStoredAs, AreStored, IsOfServer, CanBeAsked, AllCanBeAsked}
-use Rattle.plan_laws.specs.DeploymentLaws.{Bounded}
-use Rattle.plan_laws.proofs.AskedEdits.{in_meta, in_spec_parsed, ascii, decimal_utf8, reference_parsed, template_parsed, replicas_low, status_both, status_parsed}
-use Rattle.plan_laws.proofs.AskedReplicaSets.{found_all, either}
-use Rattle.plan_laws.proofs.DeploymentPlans.{all_kept, all_ordered}
-use Rattle.plan_laws.proofs.Permuted.{all_joined}
-use Rattle.plan_laws.proofs.RolloutNumbers.{only_shrink}
+use Rattle.spec_api.specs.Checks.{in_spec}
+use Rattle.spec_api.specs.Defaults.{unsigned_value, is_rolling_update}
+use Rattle.spec_api.specs.History.{Entries, found}
+use Rattle.spec_api.specs.Keys.{Key, is_namespace, is_subdomain}
+use Rattle.spec_api.specs.Metadata.{metadata, metadata_of, labels_of}
+use Rattle.spec_api.specs.Moments.{is_digit}
+use Rattle.spec_api.specs.Reached.{IsParsed}
+use Rattle.spec_api.specs.Replacements.{says_the_same}
+use Rattle.spec_api.specs.SelectorValues.{is_some_and, text_in}
+use Rattle.spec_api.specs.Values.{inner_of}
+use Rattle.spec_api.proofs.Truths.{both_true}
+use Rattle.spec_client_go.specs.Commands.{Command, update, update_status}
+use Rattle.spec_client_go.specs.Hands.{Hand}
+use Rattle.spec_client_go.specs.Informers.{Looks, of_namespace}
+use Rattle.spec_laws.proofs.NameBytes.{name_text}
+use Rattle.spec_laws.proofs.Parsed.{Both, joined, inside, Both-set, inner}
+use Rattle.spec_laws.proofs.Parsed as parsed
+use Rattle.spec_laws.proofs.ParsedEdits.{inner_edits}
+use Rattle.spec_laws.proofs.ParsedObjects.{meta, with_meta}
+use Rattle.spec_reconcile.specs.Counts.{count_in_spec, count_in_status, replicas}
+use Rattle.spec_reconcile.specs.Deployments.{Rollout, age_cmp, asked_by, clean_up, count_collision, counted, delete_set, due, first_of, forget, go_on, has_its_template, has_running_pods, hash_of, is_going_on, is_managed_by, is_name_taken, is_complete, make, managed, pace_of, plan_for, plan_of, recreate, renew, renew_whole, report, roll, roll_with, rollout, scale, scale_each, sets_of, summary, tally, with_replicas, with_summary, without_first}
+use Rattle.spec_reconcile.specs.MetadataEdits.{controller_reference}
+use Rattle.spec_reconcile.specs.NewPods.{template}
+use Rattle.spec_reconcile.specs.Revisions.{revision_annotation, is_revision, revision_said, revision, greatest, annotated, with_revision, raised}
+use Rattle.spec_reconcile.specs.Rollouts.{asked, growth, most, resized, shrunk}
+use Rattle.spec_reconcile.specs.Statuses.{status, with_status}
+use Rattle.spec_reconcile.specs.Templates.{collision_digits, template_hash, hash_label, selector, with_hash, labelled, selecting, set_name, new_set_metadata, new_set_spec}
+use Rattle.reconcile_laws.specs.AskedLaws.{IsStoredAs, AreStored, IsOfServer, CanBeAsked, AllCanBeAsked}
+use Rattle.reconcile_laws.specs.DeploymentLaws.{Bounded}
+use Rattle.reconcile_laws.proofs.AskedEdits.{in_meta, in_spec_parsed, ascii, decimal_utf8, reference_parsed, template_parsed, replicas_low, status_both, status_parsed}
+use Rattle.reconcile_laws.proofs.AskedReplicaSets.{found_all, either}
+use Rattle.reconcile_laws.proofs.DeploymentPlans.{all_kept, all_ordered}
+use Rattle.reconcile_laws.proofs.Permuted.{all_joined}
+use Rattle.reconcile_laws.proofs.RolloutNumbers.{only_shrink}
 
 abbrev IsAt : Key × Data → Type 0
 IsAt m = IsStoredAs m.0 m.1

@@ -7,22 +7,22 @@ use Rattle.std.specs.Str.{IsUtf8}
 use Rattle.json.proofs.Printed.Utf8.{are_ascii, IsUtf8-are_ascii}
 use Rattle.serde_json.specs.Data.{Data, null, boolean, number, unsigned, negative, float, string, array, object, Items, no_items, item, Members, no_members, put}
 use Rattle.serde_json.specs.Find.{get, as_str, as_number, as_u64}
-use Rattle.definitions.specs.Checks.{finalizers, in_spec, in_status}
-use Rattle.definitions.specs.Keys.{Key, is_subdomain}
-use Rattle.definitions.specs.Kinds.{api_version, kind_text}
-use Rattle.definitions.specs.Metadata.{Owner, owner, uid, metadata, metadata_of}
-use Rattle.definitions.specs.Reached.{IsParsed, AreParsed}
-use Rattle.definitions.specs.Replacements.{generation, keeping}
-use Rattle.definitions.specs.SelectorValues.{items_in}
-use Rattle.definitions.specs.Values.{inner_of, members_of}
-use Rattle.laws.proofs.NameBytes.{name_text}
-use Rattle.laws.proofs.Parsed.{Both, joined, inside, Both-set, found_in, inner, version_ascii, kind_ascii}
-use Rattle.laws.proofs.Parsed as parsed
-use Rattle.laws.proofs.ParsedObjects.{meta, with_meta, keeps}
-use Rattle.plans.specs.Counts.{count, not_below_0, replicas}
-use Rattle.plans.specs.MetadataEdits.{with_list, only, without_finalizer, references, keeping_owners, all_unblocked, blocking_nobody, controller_reference, with_last, with_controller}
-use Rattle.plans.specs.NewPods.{template, copied, new_metadata, new_pod}
-use Rattle.plans.specs.Statuses.{status, with_status}
+use Rattle.spec_api.specs.Checks.{finalizers, in_spec, in_status}
+use Rattle.spec_api.specs.Keys.{Key, is_subdomain}
+use Rattle.spec_api.specs.Kinds.{api_version, kind_text}
+use Rattle.spec_api.specs.Metadata.{Owner, owner, uid, metadata, metadata_of}
+use Rattle.spec_api.specs.Reached.{IsParsed, AreParsed}
+use Rattle.spec_api.specs.Replacements.{generation, keeping}
+use Rattle.spec_api.specs.SelectorValues.{items_in}
+use Rattle.spec_api.specs.Values.{inner_of, members_of}
+use Rattle.spec_laws.proofs.NameBytes.{name_text}
+use Rattle.spec_laws.proofs.Parsed.{Both, joined, inside, Both-set, found_in, inner, version_ascii, kind_ascii}
+use Rattle.spec_laws.proofs.Parsed as parsed
+use Rattle.spec_laws.proofs.ParsedObjects.{meta, with_meta, keeps}
+use Rattle.spec_reconcile.specs.Counts.{count, not_below_0, replicas}
+use Rattle.spec_reconcile.specs.MetadataEdits.{with_list, only, without_finalizer, references, keeping_owners, all_unblocked, blocking_nobody, controller_reference, with_last, with_controller}
+use Rattle.spec_reconcile.specs.NewPods.{template, copied, new_metadata, new_pod}
+use Rattle.spec_reconcile.specs.Statuses.{status, with_status}
 
 -- ---- members
 

@@ -4,14 +4,14 @@ use Rattle.std.proofs.lemmas.Bool.{lt-ltb}
 use Rattle.serde_json.specs.Data.{Data, null, boolean, number, string, array, object, Members, put}
 use Rattle.serde_json.specs.Find.{get, get_member, as_str}
 use Rattle.serde_json.proofs.Views.{get_member-put, get_member-put_other}
-use Rattle.definitions.specs.Defaults.{unsigned_value}
-use Rattle.definitions.specs.Metadata.{metadata, metadata_of, version}
-use Rattle.definitions.specs.Values.{inner_of, members_of}
-use Rattle.definitions.proofs.JsonMembers.{apart, metadata_text-with, text_in-put_other}
-use Rattle.plans.specs.Counts.{count, not_below_0, replicas}
-use Rattle.plans.specs.Deployments.{Rollout, new_object, with_replicas}
-use Rattle.plans.specs.Revisions.{annotated, raised, revision, with_revision}
-use Rattle.plan_laws.specs.DeploymentLaws.{ScalesAskForTheirNumber, MadeSetsAskForTheirNumber, UpdatesNameTheLookedVersion}
+use Rattle.spec_api.specs.Defaults.{unsigned_value}
+use Rattle.spec_api.specs.Metadata.{metadata, metadata_of, version}
+use Rattle.spec_api.specs.Values.{inner_of, members_of}
+use Rattle.spec_api.proofs.JsonMembers.{apart, metadata_text-with, text_in-put_other}
+use Rattle.spec_reconcile.specs.Counts.{count, not_below_0, replicas}
+use Rattle.spec_reconcile.specs.Deployments.{Rollout, new_object, with_replicas}
+use Rattle.spec_reconcile.specs.Revisions.{annotated, raised, revision, with_revision}
+use Rattle.reconcile_laws.specs.DeploymentLaws.{ScalesAskForTheirNumber, MadeSetsAskForTheirNumber, UpdatesNameTheLookedVersion}
 
 counted : (n : ℕ) → n < 2 ^ 63 → count (Some (unsigned_value n)) ≡ n
 counted n h = ap (λ b. not_below_0 (unwrap_or (if b then Some (pos n) else None) (pos 0))) (lt-ltb n (2 ^ 63) h)

@@ -3,35 +3,35 @@ use Rattle.std.proofs.Common.{◌≡◌, ◌<◌, ◌≤◌, ◌^◌, ◌&&◌, 
 use Rattle.std.specs.BTreeMap.{is_at}
 use Rattle.std.specs.List.{AllByRecursion, list_all, list_any}
 use Rattle.serde_json.specs.Data.{Data, object, put}
-use Rattle.definitions.specs.declared.kinds.Kind.TheVariants.{Pod}
-use Rattle.definitions.specs.Checks.{finalizers, has_text}
-use Rattle.definitions.specs.Defaults.{unsigned_value}
-use Rattle.definitions.specs.declared.policies.Policy.TheVariants.{Foreground}
-use Rattle.definitions.specs.Deletion.{orphan, foreground}
-use Rattle.definitions.specs.History.{Entries, found}
-use Rattle.definitions.specs.Keys.{Key, key_cmp, is_same_key, is_namespace, is_subdomain}
-use Rattle.definitions.specs.Metadata.{Owner, is_being_deleted, uid}
-use Rattle.definitions.specs.Reached.{IsParsed}
-use Rattle.definitions.specs.Replacements.{generation, says_the_same}
-use Rattle.definitions.proofs.PutLaws.{same_name}
-use Rattle.controllers.specs.Commands.{Command, create, update, delete, answered}
-use Rattle.controllers.specs.Hands.{Hand, Read, live}
-use Rattle.controllers.specs.Informers.{of_owner}
-use Rattle.controllers.specs.OwnerReferences.{namespace_of}
-use Rattle.laws.proofs.Parsed.{Both, Both-set}
-use Rattle.plans.specs.GarbageCollection as garbage
-use Rattle.plans.specs.MetadataEdits.{keeping_owners, without_finalizer, blocking_nobody}
-use Rattle.plans.specs.NewPods.{new_pod}
-use Rattle.plans.specs.PodClaims.{is_to_controller, is_released, is_adoptable, is_own, may_adopt, own_pods, released, adopted, claim, claims}
-use Rattle.plans.specs.PodRanks.{missing, victims}
-use Rattle.plans.specs.Pods.{is_ready}
-use Rattle.plans.specs.ReplicaSets.{set_looked_at, pods_looked_at, delete_pod, scale, scale_if, ready_pods, with_counts, new_status, report, plan_with, plan_of, replicas}
-use Rattle.plans.specs.Standings.{standing, standings, is_solid, is_to, waits_for_dependents, dependents, with_owner_if}
-use Rattle.plans.specs.Statuses.{status}
-use Rattle.plan_laws.specs.AskedLaws.{IsStoredAs, AreStored, IsOfServer, CanBeAsked, AllCanBeAsked}
-use Rattle.plan_laws.proofs.AskedEdits.{keeping_parsed, without_parsed, nobody_parsed, controlled_parsed, pod_parsed, generation_low, status_both, status_parsed}
-use Rattle.plan_laws.proofs.DeploymentPlans.{all_kept}
-use Rattle.plan_laws.proofs.Permuted.{all_joined}
+use Rattle.spec_api.specs.declared.kinds.Kind.TheVariants.{Pod}
+use Rattle.spec_api.specs.Checks.{finalizers, has_text}
+use Rattle.spec_api.specs.Defaults.{unsigned_value}
+use Rattle.spec_api.specs.declared.policies.Policy.TheVariants.{Foreground}
+use Rattle.spec_api.specs.Deletion.{orphan, foreground}
+use Rattle.spec_api.specs.History.{Entries, found}
+use Rattle.spec_api.specs.Keys.{Key, key_cmp, is_same_key, is_namespace, is_subdomain}
+use Rattle.spec_api.specs.Metadata.{Owner, is_being_deleted, uid}
+use Rattle.spec_api.specs.Reached.{IsParsed}
+use Rattle.spec_api.specs.Replacements.{generation, says_the_same}
+use Rattle.spec_api.proofs.PutLaws.{same_name}
+use Rattle.spec_client_go.specs.Commands.{Command, create, update, delete, answered}
+use Rattle.spec_client_go.specs.Hands.{Hand, Read, live}
+use Rattle.spec_client_go.specs.Informers.{of_owner}
+use Rattle.spec_client_go.specs.OwnerReferences.{namespace_of}
+use Rattle.spec_laws.proofs.Parsed.{Both, Both-set}
+use Rattle.spec_reconcile.specs.GarbageCollection as garbage
+use Rattle.spec_reconcile.specs.MetadataEdits.{keeping_owners, without_finalizer, blocking_nobody}
+use Rattle.spec_reconcile.specs.NewPods.{new_pod}
+use Rattle.spec_reconcile.specs.PodClaims.{is_to_controller, is_released, is_adoptable, is_own, may_adopt, own_pods, released, adopted, claim, claims}
+use Rattle.spec_reconcile.specs.PodRanks.{missing, victims}
+use Rattle.spec_reconcile.specs.Pods.{is_ready}
+use Rattle.spec_reconcile.specs.ReplicaSets.{set_looked_at, pods_looked_at, delete_pod, scale, scale_if, ready_pods, with_counts, new_status, report, plan_with, plan_of, replicas}
+use Rattle.spec_reconcile.specs.Standings.{standing, standings, is_solid, is_to, waits_for_dependents, dependents, with_owner_if}
+use Rattle.spec_reconcile.specs.Statuses.{status}
+use Rattle.reconcile_laws.specs.AskedLaws.{IsStoredAs, AreStored, IsOfServer, CanBeAsked, AllCanBeAsked}
+use Rattle.reconcile_laws.proofs.AskedEdits.{keeping_parsed, without_parsed, nobody_parsed, controlled_parsed, pod_parsed, generation_low, status_both, status_parsed}
+use Rattle.reconcile_laws.proofs.DeploymentPlans.{all_kept}
+use Rattle.reconcile_laws.proofs.Permuted.{all_joined}
 
 -- ---- lists
 

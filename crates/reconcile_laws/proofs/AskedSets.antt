@@ -2,18 +2,18 @@
 use Rattle.std.proofs.Common.{◌≡◌, ℕ, zero, suc, ◌+◌, ◌-◌, ◌≤◌, ◌<◌, ◌^◌, ◌⊎◌, inl, inr, min, max, List, [], ◌∷◌, ◌++◌, map, take, Bool, true, false, refl, ap, if◌then◌else◌, arith}
 use Rattle.std.specs.List.{AllByRecursion}
 use Rattle.serde_json.specs.Data.{Data}
-use Rattle.definitions.specs.History.{Entries}
-use Rattle.definitions.specs.Keys.{Key, is_same_key}
-use Rattle.controllers.specs.Commands.{Command, create, update, update_status, delete}
-use Rattle.plans.specs.Counts.{replicas}
-use Rattle.plans.specs.Deployments.{asked_by, tally}
-use Rattle.plans.specs.Rollouts.{total}
-use Rattle.plans.specs.declared.rollouts.Tally.{Tally}
-use Rattle.plan_laws.specs.DeploymentLaws.{lost}
-use Rattle.plan_laws.specs.ReplicaSetLaws.{created}
-use Rattle.plan_laws.specs.RolloutLaws.{asked_after, asked_by_made, taken}
-use Rattle.plan_laws.proofs.AskedNumbers.{Gives}
-use Rattle.plan_laws.proofs.DeploymentPlans.{all_implied}
+use Rattle.spec_api.specs.History.{Entries}
+use Rattle.spec_api.specs.Keys.{Key, is_same_key}
+use Rattle.spec_client_go.specs.Commands.{Command, create, update, update_status, delete}
+use Rattle.spec_reconcile.specs.Counts.{replicas}
+use Rattle.spec_reconcile.specs.Deployments.{asked_by, tally}
+use Rattle.spec_reconcile.specs.Rollouts.{total}
+use Rattle.spec_reconcile.specs.declared.rollouts.Tally.{Tally}
+use Rattle.reconcile_laws.specs.DeploymentLaws.{lost}
+use Rattle.reconcile_laws.specs.ReplicaSetLaws.{created}
+use Rattle.reconcile_laws.specs.RolloutLaws.{asked_after, asked_by_made, taken}
+use Rattle.reconcile_laws.proofs.AskedNumbers.{Gives}
+use Rattle.reconcile_laws.proofs.DeploymentPlans.{all_implied}
 
 -- ---- numbers
 

@@ -5,17 +5,17 @@ use Rattle.std.proofs.lemmas.List.Sorted.{length_permutation}
 use Rattle.std.specs.List.Sorted.{IsPermutation}
 use Rattle.std.specs.Ordering.{on}
 use Rattle.serde_json.specs.Data.{Data}
-use Rattle.definitions.specs.declared.kinds.Kind.TheVariants.{Pod}
-use Rattle.definitions.specs.History.{Entries}
-use Rattle.definitions.specs.Keys.{Key}
-use Rattle.definitions.specs.Metadata.{is_being_deleted}
-use Rattle.controllers.specs.Commands.{Command, create, update, update_status, delete}
-use Rattle.plans.specs.NewPods.{new_pod}
-use Rattle.plans.specs.PodClaims.{adopted, claim, claims, is_adoptable, is_released, own_pods, released}
-use Rattle.plans.specs.PodRanks.{missing, rank, rank_cmp, ranked, surplus, victims}
-use Rattle.plans.specs.ReplicaSets.{delete_pod, plan_with, replicas, report, scale, scale_if}
-use Rattle.plan_laws.specs.ReplicaSetLaws.{created, deleted}
-use Rattle.plan_laws.proofs.Permuted.{in_order_permutes}
+use Rattle.spec_api.specs.declared.kinds.Kind.TheVariants.{Pod}
+use Rattle.spec_api.specs.History.{Entries}
+use Rattle.spec_api.specs.Keys.{Key}
+use Rattle.spec_api.specs.Metadata.{is_being_deleted}
+use Rattle.spec_client_go.specs.Commands.{Command, create, update, update_status, delete}
+use Rattle.spec_reconcile.specs.NewPods.{new_pod}
+use Rattle.spec_reconcile.specs.PodClaims.{adopted, claim, claims, is_adoptable, is_released, own_pods, released}
+use Rattle.spec_reconcile.specs.PodRanks.{missing, rank, rank_cmp, ranked, surplus, victims}
+use Rattle.spec_reconcile.specs.ReplicaSets.{delete_pod, plan_with, replicas, report, scale, scale_if}
+use Rattle.reconcile_laws.specs.ReplicaSetLaws.{created, deleted}
+use Rattle.reconcile_laws.proofs.Permuted.{in_order_permutes}
 
 pub created-append : (xs ys : List Command) → created (xs ++ ys) ≡ created xs + created ys
 created-append [] ys = omega arith

@@ -7,27 +7,27 @@ use Rattle.std.specs.Cmp.{nat_cmp_total, on_total}
 use Rattle.std.specs.List.{AllByRecursion, Contains, filter, list_any}
 use Rattle.std.specs.Ordering.{is_le, is_lt, nat_cmp, on}
 use Rattle.serde_json.specs.Data.{Data, object, put}
-use Rattle.definitions.specs.Checks.{in_spec}
-use Rattle.definitions.specs.Defaults.{is_rolling_update, unsigned_value}
-use Rattle.definitions.specs.History.{Entries, found}
-use Rattle.definitions.specs.Keys.{Key}
-use Rattle.definitions.specs.Metadata.{is_being_deleted}
-use Rattle.definitions.specs.Replacements.{generation, says_the_same}
-use Rattle.definitions.specs.SelectorValues.{is_some_and}
-use Rattle.controllers.specs.Commands.{Command, update, update_status}
-use Rattle.controllers.specs.Hands.{Hand}
-use Rattle.controllers.specs.Informers.{Looks}
-use Rattle.plans.specs.Counts.{count_in_status, replicas}
-use Rattle.plans.specs.Deployments.{Rollout, all_but_last, clean_up, count_collision, delete_set, due, first_of, forget, go_on, has_running_pods, history, is_complete, is_going_on, is_name_taken, is_spent, make, pace_of, plan, plan_for, plan_of, recreate, renew, renew_whole, report, roll, roll_with, rollout, scale, scale_each, summary, tally, asked_by, with_replicas, with_summary}
-use Rattle.plans.specs.Orders.{placed, in_order}
-use Rattle.plans.specs.Revisions.{raised, revision}
-use Rattle.plans.specs.Rollouts.{growth, resized, shrunk}
-use Rattle.plans.specs.Statuses.{status, with_status}
-use Rattle.plans.specs.declared.rollouts.Pace.{Pace}
-use Rattle.plan_laws.specs.ReplicaSetLaws.{created}
-use Rattle.plan_laws.specs.DeploymentLaws.{AtMostOneSetIsMade, IsAtMostStatus, WaitingOnesReport, DeletesSpent, OnlySpentSetsAreDeleted, LatestRevisionsStay, latest, limit_of, old_of}
-use Rattle.plan_laws.proofs.Counted.{created-append}
-use Rattle.plan_laws.proofs.Permuted.{all_taken, all_joined, all_contained, lowest_first}
+use Rattle.spec_api.specs.Checks.{in_spec}
+use Rattle.spec_api.specs.Defaults.{is_rolling_update, unsigned_value}
+use Rattle.spec_api.specs.History.{Entries, found}
+use Rattle.spec_api.specs.Keys.{Key}
+use Rattle.spec_api.specs.Metadata.{is_being_deleted}
+use Rattle.spec_api.specs.Replacements.{generation, says_the_same}
+use Rattle.spec_api.specs.SelectorValues.{is_some_and}
+use Rattle.spec_client_go.specs.Commands.{Command, update, update_status}
+use Rattle.spec_client_go.specs.Hands.{Hand}
+use Rattle.spec_client_go.specs.Informers.{Looks}
+use Rattle.spec_reconcile.specs.Counts.{count_in_status, replicas}
+use Rattle.spec_reconcile.specs.Deployments.{Rollout, all_but_last, clean_up, count_collision, delete_set, due, first_of, forget, go_on, has_running_pods, history, is_complete, is_going_on, is_name_taken, is_spent, make, pace_of, plan, plan_for, plan_of, recreate, renew, renew_whole, report, roll, roll_with, rollout, scale, scale_each, summary, tally, asked_by, with_replicas, with_summary}
+use Rattle.spec_reconcile.specs.Orders.{placed, in_order}
+use Rattle.spec_reconcile.specs.Revisions.{raised, revision}
+use Rattle.spec_reconcile.specs.Rollouts.{growth, resized, shrunk}
+use Rattle.spec_reconcile.specs.Statuses.{status, with_status}
+use Rattle.spec_reconcile.specs.declared.rollouts.Pace.{Pace}
+use Rattle.reconcile_laws.specs.ReplicaSetLaws.{created}
+use Rattle.reconcile_laws.specs.DeploymentLaws.{AtMostOneSetIsMade, IsAtMostStatus, WaitingOnesReport, DeletesSpent, OnlySpentSetsAreDeleted, LatestRevisionsStay, latest, limit_of, old_of}
+use Rattle.reconcile_laws.proofs.Counted.{created-append}
+use Rattle.reconcile_laws.proofs.Permuted.{all_taken, all_joined, all_contained, lowest_first}
 
 -- ---- what holds of the parts of a plan holds of it
 

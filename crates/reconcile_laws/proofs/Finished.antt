@@ -1,16 +1,16 @@
 -- What the collector's updates remove.
 use Rattle.std.proofs.Common.{◌≡◌, List, [], ◌∷◌, Option, Some, None, IfSome, refl}
 use Rattle.serde_json.specs.Data.{Data}
-use Rattle.definitions.specs.History.{History, Write, present, state}
-use Rattle.definitions.specs.Keys.{Key}
-use Rattle.definitions.specs.ObjectRequests.{update_object}
-use Rattle.definitions.specs.Verbs.{Outcome, accept, write_of}
-use Rattle.laws.specs.IdentityLaws.{Each}
-use Rattle.laws.specs.LifecycleLaws.{OfRemoved, IfRemoved}
-use Rattle.laws.proofs.Removals.{last_removes}
-use Rattle.controllers.specs.Commands.{Command, create, update, update_status, delete}
-use Rattle.plans.specs.GarbageCollection.{plan}
-use Rattle.plan_laws.specs.CollectorLaws.{Finishes, CollectorUpdatesOnlyFinish}
+use Rattle.spec_api.specs.History.{History, Write, present, state}
+use Rattle.spec_api.specs.Keys.{Key}
+use Rattle.spec_api.specs.ObjectRequests.{update_object}
+use Rattle.spec_api.specs.Verbs.{Outcome, accept, write_of}
+use Rattle.spec_laws.specs.IdentityLaws.{Each}
+use Rattle.spec_laws.specs.LifecycleLaws.{OfRemoved, IfRemoved}
+use Rattle.spec_laws.proofs.Removals.{last_removes}
+use Rattle.spec_client_go.specs.Commands.{Command, create, update, update_status, delete}
+use Rattle.spec_reconcile.specs.GarbageCollection.{plan}
+use Rattle.reconcile_laws.specs.CollectorLaws.{Finishes, CollectorUpdatesOnlyFinish}
 
 weaker : (h : History) (o : Outcome) (P Q : Key → Data → Type 0) → ((k : Key) (d : Data) → P k d → Q k d) → OfRemoved h o P → OfRemoved h o Q
 weaker h o P Q f = by_write (write_of o)

@@ -1,23 +1,23 @@
 -- What the collector plans to delete.
 use Rattle.std.proofs.Common.{◌≡◌, inl, inr, ℕ, List, [], ◌∷◌, ◌++◌, Bool, true, false, true≢false, cond, not, ◌&&◌, Option, Some, None, map, refl, sym, ap, subst, ◌∙◌}
 use Rattle.std.specs.List.{list_all, list_any}
-use Rattle.definitions.proofs.Truths.{left_true, both_false}
+use Rattle.spec_api.proofs.Truths.{left_true, both_false}
 use Rattle.serde_json.specs.Data.{Data}
-use Rattle.definitions.specs.declared.policies.Policy.TheVariants.{Foreground}
-use Rattle.definitions.specs.Checks.{finalizers, has_text}
-use Rattle.definitions.specs.Deletion.{orphan, foreground}
-use Rattle.definitions.specs.History.{Entries}
-use Rattle.definitions.specs.Keys.{Key}
-use Rattle.definitions.specs.Metadata.{Owner, owners, uid, is_being_deleted}
-use Rattle.laws.specs.IdentityLaws.{Each}
-use Rattle.controllers.specs.Commands.{Command, update, delete, answered}
-use Rattle.controllers.specs.Hands.{Hand, Read, live}
-use Rattle.controllers.specs.OwnerReferences.{owner_key, namespace_of}
-use Rattle.plans.specs.declared.standing.Standing.TheVariants.{Solid, Waiting, Dangling}
-use Rattle.plans.specs.GarbageCollection.{plan_for, finish, collect, orphaned, is_blocked, remove, remove_after, own_policy, is_between}
-use Rattle.plans.specs.MetadataEdits.{without_finalizer, keeping_owners, blocking_nobody}
-use Rattle.plans.specs.Standings.{is_to, standing, standing_of, standing_at, standings, is_solid, waits_for_dependents, dependents}
-use Rattle.plan_laws.specs.CollectorLaws.{IsGone, WasGone, IsOfGarbage, PlansDeleteGarbage}
+use Rattle.spec_api.specs.declared.policies.Policy.TheVariants.{Foreground}
+use Rattle.spec_api.specs.Checks.{finalizers, has_text}
+use Rattle.spec_api.specs.Deletion.{orphan, foreground}
+use Rattle.spec_api.specs.History.{Entries}
+use Rattle.spec_api.specs.Keys.{Key}
+use Rattle.spec_api.specs.Metadata.{Owner, owners, uid, is_being_deleted}
+use Rattle.spec_laws.specs.IdentityLaws.{Each}
+use Rattle.spec_client_go.specs.Commands.{Command, update, delete, answered}
+use Rattle.spec_client_go.specs.Hands.{Hand, Read, live}
+use Rattle.spec_client_go.specs.OwnerReferences.{owner_key, namespace_of}
+use Rattle.spec_reconcile.specs.declared.standing.Standing.TheVariants.{Solid, Waiting, Dangling}
+use Rattle.spec_reconcile.specs.GarbageCollection.{plan_for, finish, collect, orphaned, is_blocked, remove, remove_after, own_policy, is_between}
+use Rattle.spec_reconcile.specs.MetadataEdits.{without_finalizer, keeping_owners, blocking_nobody}
+use Rattle.spec_reconcile.specs.Standings.{is_to, standing, standing_of, standing_at, standings, is_solid, waits_for_dependents, dependents}
+use Rattle.reconcile_laws.specs.CollectorLaws.{IsGone, WasGone, IsOfGarbage, PlansDeleteGarbage}
 
 -- ---- owners of which none is solid
 

@@ -4,27 +4,27 @@ use Rattle.std.specs.Prelude.{option_and_then, unwrap_or}
 use Rattle.serde_json.specs.Data.{Data, null, boolean, number, string, array, object, Items, no_items, item, Members, put}
 use Rattle.serde_json.specs.Find.{get_member, as_array}
 use Rattle.serde_json.proofs.Views.{get_member-put_other}
-use Rattle.definitions.proofs.VerbSteps.{with_defaults}
-use Rattle.definitions.proofs.JsonMembers.{apart, get_member-without_other, metadata_of-with}
-use Rattle.definitions.specs.declared.kinds.Kind.{Kind}
-use Rattle.definitions.specs.Defaults.{defaulted}
-use Rattle.definitions.specs.History.{entries_at, present}
-use Rattle.definitions.specs.Metadata.{Owner, owners, owners_in, metadata, metadata_of, with_metadata}
-use Rattle.definitions.specs.Reading.{reading}
-use Rattle.definitions.specs.Replacements.{as_stored, keeping, unchanged_metadata, unchanged_members, in_place, updated}
-use Rattle.definitions.specs.SelectorValues.{items_in}
-use Rattle.definitions.specs.Values.{members_of}
-use Rattle.definitions.specs.Verbs.{object_in}
-use Rattle.laws.specs.HistoryLaws.{OfStored}
-use Rattle.laws.specs.IdentityLaws.{Each}
-use Rattle.laws.specs.ParsedLaws.{AreEdited, none, set}
-use Rattle.laws.proofs.Cases.{of_update}
-use Rattle.laws.proofs.EditedReferences.{read_again}
-use Rattle.laws.proofs.Removals.{member-updated}
-use Rattle.laws.proofs.VerbLaws.{one_object, metadata_of-defaulted}
-use Rattle.plans.specs.MetadataEdits.{references, unblocked, all_unblocked, blocking_nobody}
-use Rattle.plan_laws.specs.CollectorLaws.{EachAlike, CutsKeepOwners}
-use Rattle.plan_laws.proofs.LikeOwners.{nobody_keeps}
+use Rattle.spec_api.proofs.VerbSteps.{with_defaults}
+use Rattle.spec_api.proofs.JsonMembers.{apart, get_member-without_other, metadata_of-with}
+use Rattle.spec_api.specs.declared.kinds.Kind.{Kind}
+use Rattle.spec_api.specs.Defaults.{defaulted}
+use Rattle.spec_api.specs.History.{entries_at, present}
+use Rattle.spec_api.specs.Metadata.{Owner, owners, owners_in, metadata, metadata_of, with_metadata}
+use Rattle.spec_api.specs.Reading.{reading}
+use Rattle.spec_api.specs.Replacements.{as_stored, keeping, unchanged_metadata, unchanged_members, in_place, updated}
+use Rattle.spec_api.specs.SelectorValues.{items_in}
+use Rattle.spec_api.specs.Values.{members_of}
+use Rattle.spec_api.specs.Verbs.{object_in}
+use Rattle.spec_laws.specs.HistoryLaws.{OfStored}
+use Rattle.spec_laws.specs.IdentityLaws.{Each}
+use Rattle.spec_laws.specs.ParsedLaws.{AreEdited, none, set}
+use Rattle.spec_laws.proofs.Cases.{of_update}
+use Rattle.spec_laws.proofs.EditedReferences.{read_again}
+use Rattle.spec_laws.proofs.Removals.{member-updated}
+use Rattle.spec_laws.proofs.VerbLaws.{one_object, metadata_of-defaulted}
+use Rattle.spec_reconcile.specs.MetadataEdits.{references, unblocked, all_unblocked, blocking_nobody}
+use Rattle.reconcile_laws.specs.CollectorLaws.{EachAlike, CutsKeepOwners}
+use Rattle.reconcile_laws.proofs.LikeOwners.{nobody_keeps}
 
 abbrev refs : List ℕ
 refs = codes "ownerReferences"

@@ -4,13 +4,13 @@ use Rattle.std.specs.Prelude.{option_and_then, unwrap_or}
 use Rattle.serde_json.specs.Data.{Data, null, boolean, number, string, array, object, Items, no_items, item, put}
 use Rattle.serde_json.specs.Find.{get, get_member, as_str, as_bool, as_array}
 use Rattle.serde_json.proofs.Views.{get_member-put, get_member-put_other}
-use Rattle.definitions.proofs.JsonMembers.{apart, metadata_of-with}
-use Rattle.definitions.specs.Metadata.{Owner, owner, owners, owners_in, metadata, metadata_of, with_metadata}
-use Rattle.definitions.specs.SelectorValues.{items_in}
-use Rattle.definitions.specs.Values.{members_of}
-use Rattle.controllers.specs.OwnerReferences.{owner_key}
-use Rattle.plans.specs.MetadataEdits.{references, unblocked, all_unblocked, blocking_nobody}
-use Rattle.plan_laws.specs.CollectorLaws.{IsGone, AreAlike, EachAlike, BlockingNobodyKeepsOwners}
+use Rattle.spec_api.proofs.JsonMembers.{apart, metadata_of-with}
+use Rattle.spec_api.specs.Metadata.{Owner, owner, owners, owners_in, metadata, metadata_of, with_metadata}
+use Rattle.spec_api.specs.SelectorValues.{items_in}
+use Rattle.spec_api.specs.Values.{members_of}
+use Rattle.spec_client_go.specs.OwnerReferences.{owner_key}
+use Rattle.spec_reconcile.specs.MetadataEdits.{references, unblocked, all_unblocked, blocking_nobody}
+use Rattle.reconcile_laws.specs.CollectorLaws.{IsGone, AreAlike, EachAlike, BlockingNobodyKeepsOwners}
 
 -- ---- alike
 

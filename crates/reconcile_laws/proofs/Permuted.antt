@@ -6,8 +6,8 @@ use Rattle.std.specs.List.Sorted.{IsPermutation}
 use Rattle.std.specs.Ordering.{is_le, is_lt}
 use Rattle.std.proofs.lemmas.List.Elements.{Contains-append_left, Contains-append_right, Contains-push}
 use Rattle.std.proofs.lemmas.List.Sorted.{IsPermutation-refl, IsPermutation-sym, IsPermutation-trans, IsPermutation-cons, IsPermutation-middle}
-use Rattle.plans.specs.Orders.{placed, in_order}
-use Rattle.plans.proofs.InOrder.{Ascends, in_order_ascends}
+use Rattle.spec_reconcile.specs.Orders.{placed, in_order}
+use Rattle.spec_reconcile.proofs.InOrder.{Ascends, in_order_ascends}
 
 -- ---- all of a list
 

@@ -7,20 +7,20 @@ use Rattle.std.specs.Cmp.{on_total}
 use Rattle.std.specs.List.{AllByRecursion, Contains}
 use Rattle.std.specs.List.Sorted.{IsPermutation}
 use Rattle.serde_json.specs.Data.{Data}
-use Rattle.definitions.specs.declared.kinds.Kind.TheVariants.{Pod}
-use Rattle.definitions.specs.History.{Entries}
-use Rattle.definitions.specs.Keys.{Key}
-use Rattle.definitions.specs.Metadata.{is_being_deleted}
-use Rattle.controllers.specs.Commands.{Command, create, update, update_status}
-use Rattle.controllers.specs.Hands.{Hand, live}
-use Rattle.plans.specs.NewPods.{new_pod}
-use Rattle.plans.specs.PodClaims.{adopted, claim, claims, is_adoptable, is_released, may_adopt, own_pods, released}
-use Rattle.plans.specs.PodRanks.{missing, rank, ranked, surplus, victims}
-use Rattle.plans.specs.ReplicaSets.{delete_pod, plan, plan_of, plan_with, pods_looked_at, replicas, report, scale, scale_if, set_looked_at}
-use Rattle.plans.proofs.RankOrder.{rank_total, rank_tells}
-use Rattle.plan_laws.specs.ReplicaSetLaws.{created, deleted, own, DeletesOwn, OnlyOwnPodsAreDeleted, OnlyMissingPodsAreCreated, OnlySurplusPodsAreDeleted, NeverBoth, TurnsAreBounded, ExpectedPodsAreAwaited, LowestGo, PodsGoOrStay, RanksAreTotal}
-use Rattle.plan_laws.proofs.Counted.{Harmless, AtMost, plan_at_most, awaited_harmless, ranked_permutes, length_victims}
-use Rattle.plan_laws.proofs.Permuted.{all_taken, all_joined, all_contained, lowest_first}
+use Rattle.spec_api.specs.declared.kinds.Kind.TheVariants.{Pod}
+use Rattle.spec_api.specs.History.{Entries}
+use Rattle.spec_api.specs.Keys.{Key}
+use Rattle.spec_api.specs.Metadata.{is_being_deleted}
+use Rattle.spec_client_go.specs.Commands.{Command, create, update, update_status}
+use Rattle.spec_client_go.specs.Hands.{Hand, live}
+use Rattle.spec_reconcile.specs.NewPods.{new_pod}
+use Rattle.spec_reconcile.specs.PodClaims.{adopted, claim, claims, is_adoptable, is_released, may_adopt, own_pods, released}
+use Rattle.spec_reconcile.specs.PodRanks.{missing, rank, ranked, surplus, victims}
+use Rattle.spec_reconcile.specs.ReplicaSets.{delete_pod, plan, plan_of, plan_with, pods_looked_at, replicas, report, scale, scale_if, set_looked_at}
+use Rattle.spec_reconcile.proofs.RankOrder.{rank_total, rank_tells}
+use Rattle.reconcile_laws.specs.ReplicaSetLaws.{created, deleted, own, DeletesOwn, OnlyOwnPodsAreDeleted, OnlyMissingPodsAreCreated, OnlySurplusPodsAreDeleted, NeverBoth, TurnsAreBounded, ExpectedPodsAreAwaited, LowestGo, PodsGoOrStay, RanksAreTotal}
+use Rattle.reconcile_laws.proofs.Counted.{Harmless, AtMost, plan_at_most, awaited_harmless, ranked_permutes, length_victims}
+use Rattle.reconcile_laws.proofs.Permuted.{all_taken, all_joined, all_contained, lowest_first}
 
 -- ---- the plan, where the set is there and where it is not
 

@@ -5,9 +5,9 @@ use Rattle.std.specs.Cmp.{nat_cmp_is}
 use Rattle.std.specs.Cmp.Lexicographic.{slice_cmp}
 use Rattle.std.specs.Ordering.{nat_cmp, is_le, ordering_then}
 use Rattle.std.proofs.lemmas.Bool.{ltb-true, cases_lt}
-use Rattle.plans.specs.Rollouts.{total, asked, available, most, fewest, cuts, less, missing, room, without_missing}
-use Rattle.plans.specs.declared.rollouts.Tally.{Tally}
-use Rattle.plan_laws.specs.DeploymentLaws.{SurgeIsLeast, UnavailableIsGreatest, GrowthIsGreatest, Bounded, CutsAreGreatest, ResizesStayBelow, MadeStayBelow, OldSetsOnlyShrink, lost, AvailablePodsStay, FewestStay, OldSetsStandIn}
+use Rattle.spec_reconcile.specs.Rollouts.{total, asked, available, most, fewest, cuts, less, missing, room, without_missing}
+use Rattle.spec_reconcile.specs.declared.rollouts.Tally.{Tally}
+use Rattle.reconcile_laws.specs.DeploymentLaws.{SurgeIsLeast, UnavailableIsGreatest, GrowthIsGreatest, Bounded, CutsAreGreatest, ResizesStayBelow, MadeStayBelow, OldSetsOnlyShrink, lost, AvailablePodsStay, FewestStay, OldSetsStandIn}
 
 pub surge : SurgeIsLeast
 surge p r = (omega arith, λ s h. omega arith)

@@ -5,27 +5,27 @@ use Rattle.std.specs.List.{AllByRecursion, filter, list_any}
 use Rattle.std.specs.Ordering.{nat_cmp, on}
 use Rattle.std.specs.Str.{bytes_eq}
 use Rattle.serde_json.specs.Data.{Data}
-use Rattle.definitions.specs.declared.kinds.Kind.TheVariants.{ReplicaSet}
-use Rattle.definitions.specs.History.{Entries}
-use Rattle.definitions.specs.Keys.{Key, is_same_key}
-use Rattle.definitions.specs.Metadata.{is_being_deleted}
-use Rattle.controllers.specs.Commands.{Command, create, update, update_status}
-use Rattle.controllers.specs.Hands.{Hand}
-use Rattle.controllers.specs.Informers.{Looks, of_namespace}
-use Rattle.plans.specs.Counts.{replicas}
-use Rattle.plans.specs.Deployments.{Rollout, all_but_last, and_old, asked_by, clean_up, delete_set, due, first_of, forget, go_on, has_running_pods, history, is_complete, is_managed_by, is_spent, make, new_object, pace_of, plan, plan_for, recreate, renew, renew_whole, roll, roll_with, rollout, scale, scale_each, sets, summary, tally, with_replicas}
-use Rattle.plans.specs.Revisions.{raised, revision}
-use Rattle.plans.specs.Rollouts.{asked, fewest, growth, most, resized, shrunk, total}
-use Rattle.plans.specs.declared.rollouts.Pace.{Pace}
-use Rattle.plans.specs.declared.rollouts.Tally.{Tally}
-use Rattle.plan_laws.specs.DeploymentLaws.{Bounded, limit_of, lost}
-use Rattle.plan_laws.specs.RolloutLaws.{AreNumbers, FewestStayAvailable, Looked, SurgeIsNeverPassed, TakenLeaveFewest, asked_after, asked_by_made, asked_in_all, available_of, is_rolled, kept_after, kept_of, sets_looked_at, taken}
-use Rattle.plan_laws.proofs.AskedNumbers.{made_gives, scaled_gives}
-use Rattle.plan_laws.proofs.AskedSets.{Brings, Pairs, Small, Tells, asked_at_most, fused, higher, higher_none, lost_none, made_joined, made_of_first, none_made, taken_at_most}
-use Rattle.plan_laws.proofs.DeploymentPlans.{all_both, all_implied, all_ordered, all_kept, deletes_make_none, either, first, kept, plan_is, planned, reported, scales_make_none, spent}
-use Rattle.plan_laws.proofs.Permuted.{all_joined, all_taken}
-use Rattle.plan_laws.proofs.RolloutNumbers.{fewest_stay, made_below, only_shrink, stays_below}
-use Rattle.plan_laws.proofs.SetLists.{Apart, Differs, all_sets, apart_kept, apart_sets, apart_sorted, same_back, sum_sets}
+use Rattle.spec_api.specs.declared.kinds.Kind.TheVariants.{ReplicaSet}
+use Rattle.spec_api.specs.History.{Entries}
+use Rattle.spec_api.specs.Keys.{Key, is_same_key}
+use Rattle.spec_api.specs.Metadata.{is_being_deleted}
+use Rattle.spec_client_go.specs.Commands.{Command, create, update, update_status}
+use Rattle.spec_client_go.specs.Hands.{Hand}
+use Rattle.spec_client_go.specs.Informers.{Looks, of_namespace}
+use Rattle.spec_reconcile.specs.Counts.{replicas}
+use Rattle.spec_reconcile.specs.Deployments.{Rollout, all_but_last, and_old, asked_by, clean_up, delete_set, due, first_of, forget, go_on, has_running_pods, history, is_complete, is_managed_by, is_spent, make, new_object, pace_of, plan, plan_for, recreate, renew, renew_whole, roll, roll_with, rollout, scale, scale_each, sets, summary, tally, with_replicas}
+use Rattle.spec_reconcile.specs.Revisions.{raised, revision}
+use Rattle.spec_reconcile.specs.Rollouts.{asked, fewest, growth, most, resized, shrunk, total}
+use Rattle.spec_reconcile.specs.declared.rollouts.Pace.{Pace}
+use Rattle.spec_reconcile.specs.declared.rollouts.Tally.{Tally}
+use Rattle.reconcile_laws.specs.DeploymentLaws.{Bounded, limit_of, lost}
+use Rattle.reconcile_laws.specs.RolloutLaws.{AreNumbers, FewestStayAvailable, Looked, SurgeIsNeverPassed, TakenLeaveFewest, asked_after, asked_by_made, asked_in_all, available_of, is_rolled, kept_after, kept_of, sets_looked_at, taken}
+use Rattle.reconcile_laws.proofs.AskedNumbers.{made_gives, scaled_gives}
+use Rattle.reconcile_laws.proofs.AskedSets.{Brings, Pairs, Small, Tells, asked_at_most, fused, higher, higher_none, lost_none, made_joined, made_of_first, none_made, taken_at_most}
+use Rattle.reconcile_laws.proofs.DeploymentPlans.{all_both, all_implied, all_ordered, all_kept, deletes_make_none, either, first, kept, plan_is, planned, reported, scales_make_none, spent}
+use Rattle.reconcile_laws.proofs.Permuted.{all_joined, all_taken}
+use Rattle.reconcile_laws.proofs.RolloutNumbers.{fewest_stay, made_below, only_shrink, stays_below}
+use Rattle.reconcile_laws.proofs.SetLists.{Apart, Differs, all_sets, apart_kept, apart_sets, apart_sorted, same_back, sum_sets}
 
 -- ---- commands that keep to what is wanted
 

@@ -5,13 +5,13 @@ use Rattle.std.specs.List.Sorted.{IsStrictlySortedBy}
 use Rattle.std.specs.Map.{keys_of}
 use Rattle.std.specs.Ordering.{is_eq, is_le, ordering_reverse}
 use Rattle.serde_json.specs.Data.{Data}
-use Rattle.definitions.proofs.PutLaws.{name_cmp_total}
-use Rattle.definitions.specs.History.{Entries}
-use Rattle.definitions.specs.Keys.{Key, key_cmp, is_same_key}
-use Rattle.plans.specs.Deployments.{and_old, has_its_template, managed, age_cmp, rollout, sets, sets_of, without_first}
-use Rattle.plans.specs.Orders.{placed, in_order}
-use Rattle.plans.specs.Rollouts.{total}
-use Rattle.plan_laws.proofs.DeploymentPlans.{all_kept, all_ordered, all_placed}
+use Rattle.spec_api.proofs.PutLaws.{name_cmp_total}
+use Rattle.spec_api.specs.History.{Entries}
+use Rattle.spec_api.specs.Keys.{Key, key_cmp, is_same_key}
+use Rattle.spec_reconcile.specs.Deployments.{and_old, has_its_template, managed, age_cmp, rollout, sets, sets_of, without_first}
+use Rattle.spec_reconcile.specs.Orders.{placed, in_order}
+use Rattle.spec_reconcile.specs.Rollouts.{total}
+use Rattle.reconcile_laws.proofs.DeploymentPlans.{all_kept, all_ordered, all_placed}
 
 -- ---- keys that differ
 

@@ -5,34 +5,34 @@ use Rattle.std.specs.Prelude.{filter}
 use Rattle.std.proofs.lemmas.Bool.{leb-true, leb-false}
 use Rattle.std.proofs.lemmas.Slice.Eq.{bytes_eq-Decides}
 use Rattle.serde_json.specs.Data.{Data}
-use Rattle.definitions.specs.Checks.{is_of_the_future}
-use Rattle.definitions.specs.DeleteOptions.{Options}
-use Rattle.definitions.specs.History.{History, Write, present, state, up_to}
-use Rattle.definitions.specs.Keys.{Key, is_same_key}
-use Rattle.definitions.specs.Metadata.{Owner, owners, uid, version, is_being_deleted, metadata_text}
-use Rattle.definitions.specs.ObjectRequests.{delete_object}
-use Rattle.definitions.specs.Reached.{IsReached}
-use Rattle.definitions.specs.SelectorValues.{is_some_and}
-use Rattle.definitions.specs.Uids.{uid_text, cluster_word}
-use Rattle.definitions.specs.Verbs.{accept, write_of}
-use Rattle.definitions.proofs.PutLaws.{same_name}
-use Rattle.laws.specs.IdentityLaws.{Each, IsKnown, Stood}
-use Rattle.laws.proofs.FutureUids.{future_uids}
-use Rattle.laws.proofs.KnownOwners.{known}
-use Rattle.laws.proofs.Limited.{limited}
-use Rattle.laws.proofs.NamedVersions.{deletes_version}
-use Rattle.laws.proofs.SentObjects.{IsHeld}
-use Rattle.laws.proofs.Stored.{AreStored-up_to, last_held, all_stored}
-use Rattle.laws.proofs.Traced.{traced}
-use Rattle.laws.proofs.Versions.{tells, names_one}
-use Rattle.controllers.specs.Commands.{Command, create, update, update_status, delete, Version, seen, answered, version_named}
-use Rattle.controllers.specs.Hands.{Hand, Read, live, is_read, each_once, unread}
-use Rattle.controllers.specs.OwnerReferences.{is_text, owner_key, owner_keys, namespace_of}
-use Rattle.plans.specs.GarbageCollection.{plan, owner_keys_if}
-use Rattle.plans.specs.Standings.{is_to}
-use Rattle.plan_laws.specs.CollectorLaws.{IsGone, WasGone, IsOfGarbage, EachAlike, IsReadSince, OwnerIsGone, HasNoLiveOwner, Spares, IsLaterVersion, CollectorSparesLiveOwners}
-use Rattle.plan_laws.proofs.Garbage.{garbage}
-use Rattle.plan_laws.proofs.LikeOwners.{same_owners, same_key, same_gone, some_alike}
+use Rattle.spec_api.specs.Checks.{is_of_the_future}
+use Rattle.spec_api.specs.DeleteOptions.{Options}
+use Rattle.spec_api.specs.History.{History, Write, present, state, up_to}
+use Rattle.spec_api.specs.Keys.{Key, is_same_key}
+use Rattle.spec_api.specs.Metadata.{Owner, owners, uid, version, is_being_deleted, metadata_text}
+use Rattle.spec_api.specs.ObjectRequests.{delete_object}
+use Rattle.spec_api.specs.Reached.{IsReached}
+use Rattle.spec_api.specs.SelectorValues.{is_some_and}
+use Rattle.spec_api.specs.Uids.{uid_text, cluster_word}
+use Rattle.spec_api.specs.Verbs.{accept, write_of}
+use Rattle.spec_api.proofs.PutLaws.{same_name}
+use Rattle.spec_laws.specs.IdentityLaws.{Each, IsKnown, Stood}
+use Rattle.spec_laws.proofs.FutureUids.{future_uids}
+use Rattle.spec_laws.proofs.KnownOwners.{known}
+use Rattle.spec_laws.proofs.Limited.{limited}
+use Rattle.spec_laws.proofs.NamedVersions.{deletes_version}
+use Rattle.spec_laws.proofs.SentObjects.{IsHeld}
+use Rattle.spec_laws.proofs.Stored.{AreStored-up_to, last_held, all_stored}
+use Rattle.spec_laws.proofs.Traced.{traced}
+use Rattle.spec_laws.proofs.Versions.{tells, names_one}
+use Rattle.spec_client_go.specs.Commands.{Command, create, update, update_status, delete, Version, seen, answered, version_named}
+use Rattle.spec_client_go.specs.Hands.{Hand, Read, live, is_read, each_once, unread}
+use Rattle.spec_client_go.specs.OwnerReferences.{is_text, owner_key, owner_keys, namespace_of}
+use Rattle.spec_reconcile.specs.GarbageCollection.{plan, owner_keys_if}
+use Rattle.spec_reconcile.specs.Standings.{is_to}
+use Rattle.reconcile_laws.specs.CollectorLaws.{IsGone, WasGone, IsOfGarbage, EachAlike, IsReadSince, OwnerIsGone, HasNoLiveOwner, Spares, IsLaterVersion, CollectorSparesLiveOwners}
+use Rattle.reconcile_laws.proofs.Garbage.{garbage}
+use Rattle.reconcile_laws.proofs.LikeOwners.{same_owners, same_key, same_gone, some_alike}
 
 -- ---- where nothing is asked, all was read
 

@@ -2,14 +2,14 @@
 use Rattle.std.specs.Prelude.{◌≡◌, ◌<◌, ◌^◌, List, length, true, IfSome}
 use Rattle.std.specs.List.{AllByRecursion}
 use Rattle.serde_json.specs.Data.{Data}
-use Rattle.definitions.specs.History.{Entries}
-use Rattle.definitions.specs.Keys.{Key, is_namespace, is_subdomain}
-use Rattle.definitions.specs.Reached.{IsParsed}
-use Rattle.controllers.specs.Commands.{Command, create, update, update_status, delete}
-use Rattle.controllers.specs.Hands.{Hand, Read}
-use Rattle.plans.specs.Deployments as deployments
-use Rattle.plans.specs.GarbageCollection as garbage_collection
-use Rattle.plans.specs.ReplicaSets as replica_sets
+use Rattle.spec_api.specs.History.{Entries}
+use Rattle.spec_api.specs.Keys.{Key, is_namespace, is_subdomain}
+use Rattle.spec_api.specs.Reached.{IsParsed}
+use Rattle.spec_client_go.specs.Commands.{Command, create, update, update_status, delete}
+use Rattle.spec_client_go.specs.Hands.{Hand, Read}
+use Rattle.spec_reconcile.specs.Deployments as deployments
+use Rattle.spec_reconcile.specs.GarbageCollection as garbage_collection
+use Rattle.spec_reconcile.specs.ReplicaSets as replica_sets
 
 -- ---- what is looked at
 

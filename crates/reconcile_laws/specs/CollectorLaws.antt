@@ -1,22 +1,22 @@
 -- What the garbage collector never does (Kubernetes, Garbage Collection).
 use Rattle.std.specs.Prelude.{◌≡◌, ◌≤◌, ◌⊎◌, ℕ, List, [], ◌∷◌, true, is_some, Option, Some, IfSome, option_map, Ok}
 use Rattle.serde_json.specs.Data.{Data}
-use Rattle.definitions.specs.History.{History, present, state}
-use Rattle.definitions.specs.Keys.{Key}
-use Rattle.definitions.specs.Metadata.{Owner, owners, uid, version, is_being_deleted}
-use Rattle.definitions.specs.ObjectRequests.{update_object}
-use Rattle.definitions.specs.Reached.{IsReached}
-use Rattle.definitions.specs.Reading.{reading}
-use Rattle.definitions.specs.Verbs.{accept, write_of}
-use Rattle.laws.specs.HistoryLaws.{OfStored}
-use Rattle.laws.specs.IdentityLaws.{Each}
-use Rattle.laws.specs.LifecycleLaws.{OfRemoved}
-use Rattle.controllers.specs.Commands.{Command, update, delete, seen, answered, version_named, request_of}
-use Rattle.controllers.specs.Hands.{Hand, Read, live}
-use Rattle.controllers.specs.OwnerReferences.{owner_key, namespace_of}
-use Rattle.plans.specs.GarbageCollection.{asks, plan}
-use Rattle.plans.specs.MetadataEdits.{blocking_nobody}
-use Rattle.plans.specs.Standings.{is_to}
+use Rattle.spec_api.specs.History.{History, present, state}
+use Rattle.spec_api.specs.Keys.{Key}
+use Rattle.spec_api.specs.Metadata.{Owner, owners, uid, version, is_being_deleted}
+use Rattle.spec_api.specs.ObjectRequests.{update_object}
+use Rattle.spec_api.specs.Reached.{IsReached}
+use Rattle.spec_api.specs.Reading.{reading}
+use Rattle.spec_api.specs.Verbs.{accept, write_of}
+use Rattle.spec_laws.specs.HistoryLaws.{OfStored}
+use Rattle.spec_laws.specs.IdentityLaws.{Each}
+use Rattle.spec_laws.specs.LifecycleLaws.{OfRemoved}
+use Rattle.spec_client_go.specs.Commands.{Command, update, delete, seen, answered, version_named, request_of}
+use Rattle.spec_client_go.specs.Hands.{Hand, Read, live}
+use Rattle.spec_client_go.specs.OwnerReferences.{owner_key, namespace_of}
+use Rattle.spec_reconcile.specs.GarbageCollection.{asks, plan}
+use Rattle.spec_reconcile.specs.MetadataEdits.{blocking_nobody}
+use Rattle.spec_reconcile.specs.Standings.{is_to}
 
 -- what was found under an owner's key is not this owner, or it is being deleted
 abbrev pub IsGone : Owner → Option Data → Type 0

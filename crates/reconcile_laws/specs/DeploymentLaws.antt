@@ -4,19 +4,19 @@ use Rattle.std.specs.Cmp.Lexicographic.{slice_cmp}
 use Rattle.std.specs.List.{AllByRecursion, Contains}
 use Rattle.std.specs.Ordering.{nat_cmp, is_le}
 use Rattle.serde_json.specs.Data.{Data}
-use Rattle.definitions.specs.declared.amounts.Amount.TheVariants.{Percent}
-use Rattle.definitions.specs.History.{Entries, found}
-use Rattle.definitions.specs.Keys.{Key}
-use Rattle.definitions.specs.Metadata.{uid, version}
-use Rattle.controllers.specs.Commands.{Command, update_status, delete}
-use Rattle.controllers.specs.Hands.{Hand}
-use Rattle.plans.specs.Counts.{count_in_spec, count_in_status, replicas}
-use Rattle.plans.specs.Deployments.{Rollout, all_but_last, history, is_going_on, new_object, plan, rollout, with_replicas}
-use Rattle.plans.specs.Revisions.{raised, revision}
-use Rattle.plans.specs.Rollouts.{rounded_up, rounded_down, total, asked, available, most, fewest, growth, resized, cuts, shrunk}
-use Rattle.plans.specs.declared.rollouts.Pace.{Pace}
-use Rattle.plans.specs.declared.rollouts.Tally.{Tally}
-use Rattle.plan_laws.specs.ReplicaSetLaws.{created}
+use Rattle.spec_api.specs.declared.amounts.Amount.TheVariants.{Percent}
+use Rattle.spec_api.specs.History.{Entries, found}
+use Rattle.spec_api.specs.Keys.{Key}
+use Rattle.spec_api.specs.Metadata.{uid, version}
+use Rattle.spec_client_go.specs.Commands.{Command, update_status, delete}
+use Rattle.spec_client_go.specs.Hands.{Hand}
+use Rattle.spec_reconcile.specs.Counts.{count_in_spec, count_in_status, replicas}
+use Rattle.spec_reconcile.specs.Deployments.{Rollout, all_but_last, history, is_going_on, new_object, plan, rollout, with_replicas}
+use Rattle.spec_reconcile.specs.Revisions.{raised, revision}
+use Rattle.spec_reconcile.specs.Rollouts.{rounded_up, rounded_down, total, asked, available, most, fewest, growth, resized, cuts, shrunk}
+use Rattle.spec_reconcile.specs.declared.rollouts.Pace.{Pace}
+use Rattle.spec_reconcile.specs.declared.rollouts.Tally.{Tally}
+use Rattle.reconcile_laws.specs.ReplicaSetLaws.{created}
 
 -- ---- percentages
 

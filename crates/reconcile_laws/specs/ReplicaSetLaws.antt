@@ -6,13 +6,13 @@ use Rattle.std.specs.List.Sorted.{IsPermutation}
 use Rattle.std.specs.Ordering.{is_lt}
 use Rattle.std.specs.declared.cmp.Ordering.TheVariants.{Equal}
 use Rattle.serde_json.specs.Data.{Data}
-use Rattle.definitions.specs.History.{Entries}
-use Rattle.definitions.specs.Metadata.{uid}
-use Rattle.controllers.specs.Commands.{Command, create, delete}
-use Rattle.controllers.specs.Hands.{Hand, live}
-use Rattle.plans.specs.PodClaims.{may_adopt, own_pods}
-use Rattle.plans.specs.PodRanks.{Rank, rank, rank_cmp, ranked, surplus, victims}
-use Rattle.plans.specs.ReplicaSets.{plan, pods_looked_at, replicas, set_looked_at}
+use Rattle.spec_api.specs.History.{Entries}
+use Rattle.spec_api.specs.Metadata.{uid}
+use Rattle.spec_client_go.specs.Commands.{Command, create, delete}
+use Rattle.spec_client_go.specs.Hands.{Hand, live}
+use Rattle.spec_reconcile.specs.PodClaims.{may_adopt, own_pods}
+use Rattle.spec_reconcile.specs.PodRanks.{Rank, rank, rank_cmp, ranked, surplus, victims}
+use Rattle.spec_reconcile.specs.ReplicaSets.{plan, pods_looked_at, replicas, set_looked_at}
 
 -- ---- what commands do
 

@@ -4,16 +4,16 @@ use Rattle.std.specs.List.{AllByRecursion}
 use Rattle.std.specs.List.Sorted.{IsStrictlySortedBy}
 use Rattle.std.specs.Map.{keys_of}
 use Rattle.serde_json.specs.Data.{Data}
-use Rattle.definitions.specs.Checks.{in_spec}
-use Rattle.definitions.specs.Defaults.{is_rolling_update}
-use Rattle.definitions.specs.History.{Entries, found}
-use Rattle.definitions.specs.Keys.{Key, key_cmp, is_same_key}
-use Rattle.definitions.specs.SelectorValues.{is_some_and}
-use Rattle.controllers.specs.Commands.{Command, create, update, delete}
-use Rattle.controllers.specs.Hands.{Hand}
-use Rattle.plans.specs.Counts.{replicas}
-use Rattle.plans.specs.Deployments.{asked_by, managed, pace_of, plan, tally}
-use Rattle.plans.specs.Rollouts.{available, fewest, most, total}
+use Rattle.spec_api.specs.Checks.{in_spec}
+use Rattle.spec_api.specs.Defaults.{is_rolling_update}
+use Rattle.spec_api.specs.History.{Entries, found}
+use Rattle.spec_api.specs.Keys.{Key, key_cmp, is_same_key}
+use Rattle.spec_api.specs.SelectorValues.{is_some_and}
+use Rattle.spec_client_go.specs.Commands.{Command, create, update, delete}
+use Rattle.spec_client_go.specs.Hands.{Hand}
+use Rattle.spec_reconcile.specs.Counts.{replicas}
+use Rattle.spec_reconcile.specs.Deployments.{asked_by, managed, pace_of, plan, tally}
+use Rattle.spec_reconcile.specs.Rollouts.{available, fewest, most, total}
 
 -- ---- sets, as commands are accepted
 

@@ -2,9 +2,9 @@
 use Rattle.std.proofs.Common.{◌≡◌, ◌∙◌, ◌<◌, ℕ, zero, suc, List, [], ◌∷◌, length, get_or, map, drop, Option, Some, option_map, Bool, true, refl, ap}
 use Rattle.std.proofs.lemmas.Option.{slice_get_read}
 use Rattle.std.specs.List.{slice_get}
-use Rattle.reconciling.specs.NextSteps.{first, issuing}
-use Rattle.turns.specs.Commands.{command_of}
-use Rattle.turns.specs.declared.commands.Command.{Command}
+use Rattle.spec_sim_control_plane.specs.NextSteps.{first, issuing}
+use Rattle.reconcile_types.specs.Commands.{command_of}
+use Rattle.reconcile_types.specs.declared.commands.Command.{Command}
 
 pub first_left : {A B : Type 0} (f : A → B) (xs : List A) (n : ℕ) → first (drop n (map f xs)) ≡ option_map f (slice_get xs n)
 first_left f [] zero = refl

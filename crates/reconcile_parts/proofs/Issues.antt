@@ -7,13 +7,13 @@ use Rattle.std.specs.Arc.{arc_value}
 use Rattle.std.specs.Global.{Global}
 use Rattle.std.specs.List.{slice_get}
 use Rattle.std.specs.declared.sync.Arc.{Arc}
-use Rattle.controllers.specs.Commands.{Command}
-use Rattle.reconciling.specs.NextSteps.{first}
-use Rattle.reconciling.specs.Turns.{Answer, Issue, is_accepted, is_refused, all_accepted, version_answered, version_in}
-use Rattle.turn_parts.specs.Answers.{answers_of, is_undone, last_version, undone_of}
-use Rattle.turn_parts.specs.Seen.{answer_of}
-use Rattle.turn_parts.specs.Stages.{issued}
-use Rattle.turn_parts.specs.declared.answers.Answer.{Answer as Shared}
+use Rattle.spec_client_go.specs.Commands.{Command}
+use Rattle.spec_sim_control_plane.specs.NextSteps.{first}
+use Rattle.spec_sim_control_plane.specs.Turns.{Answer, Issue, is_accepted, is_refused, all_accepted, version_answered, version_in}
+use Rattle.reconcile_parts.specs.Answers.{answers_of, is_undone, last_version, undone_of}
+use Rattle.reconcile_parts.specs.Seen.{answer_of}
+use Rattle.reconcile_parts.specs.Stages.{issued}
+use Rattle.reconcile_parts.specs.declared.answers.CommandAnswer.{CommandAnswer as Shared}
 
 -- an answer to the first command that has none is one more issue
 pub issued_more : (cs : List Command) (as' : List Answer) (a : Answer) (c : Command) → first (drop (length as') cs) ≡ Some c

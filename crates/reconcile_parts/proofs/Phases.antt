@@ -1,35 +1,35 @@
 -- What is known of a turn by where it is.
 use Rattle.std.proofs.Common.{◌≡◌, ◌∙◌, ◌≤◌, ◌<◌, ◌^◌, ◌&&◌, ℕ, List, [], ◌∷◌, length, map, filter, drop, Option, Some, None, option_map, is_some, not, Bool, true, false, refl, sym, ap, subst, arith}
 use Rattle.std.specs.List.{slice_get}
-use Rattle.controllers.specs.declared.controller.Controller.{Controller}
-use Rattle.controllers.specs.declared.controller.Controller.TheVariants.{ReplicaSet, Deployment, Collector}
-use Rattle.controllers.specs.Commands.{Command}
-use Rattle.controllers.specs.Expectations.{Owner}
-use Rattle.controllers.specs.Hands.{Hand, Read}
-use Rattle.controllers.specs.Informers.{Looks}
-use Rattle.controllers.specs.WorkQueues.{WorkKey}
-use Rattle.definitions.specs.Keys.{Key as Name}
-use Rattle.keys.specs.Keys.{key_of}
-use Rattle.keys.specs.declared.key.Key.{Key}
-use Rattle.plan_laws.proofs.PlanLaws.{turns_are_bounded}
-use Rattle.plan_laws.specs.ReplicaSetLaws.{created}
-use Rattle.plans.specs.ReplicaSets as replica_sets
-use Rattle.reconciling.specs.NextSteps as steps
-use Rattle.reconciling.specs.NextSteps.{NextStep, Sighting, of_kind, of_expectations, next, seeing, expect, issue, finish, look, ask_satisfied, first, unseen, expecting, issuing}
-use Rattle.reconciling.specs.Turns.{Turn, Sight, Answer, Issue, Expected, asks, asks_by, plan_by, commands, creates_pod, expected, expected_by, hand, owner, owner_by, looks, was_satisfied, all_accepted, left}
-use Rattle.turn_parts.specs.NextCommands.{IsCommandNext}
-use Rattle.turn_parts.specs.Pods.{makes_pods}
-use Rattle.turn_parts.specs.Seen.{IsNext}
-use Rattle.turn_parts.specs.Sightings.{sighting_of}
-use Rattle.turn_parts.specs.Stages as phase
-use Rattle.turn_parts.specs.Stages.{Phase, IsPlanned, IsIn, IsTurn, commands_in, issued, turn_of}
-use Rattle.turn_parts.specs.declared.sightings.Sighting.{Sighting as Seen}
-use Rattle.turn_parts.specs.declared.next_steps.NextStep.{NextStep as Step}
-use Rattle.turn_parts.specs.declared.next_steps.NextStep.TheVariants as step
-use Rattle.turn_parts.proofs.Firsts.{first_left_as}
-use Rattle.turn_parts.proofs.Issues.{length-issued}
-use Rattle.turn_parts.proofs.PodCounts.{expects, creates_fewer}
-use Rattle.turn_parts.proofs.Steps.{next_planned, step_by}
+use Rattle.spec_client_go.specs.declared.controller.Controller.{Controller}
+use Rattle.spec_client_go.specs.declared.controller.Controller.TheVariants.{ReplicaSet, Deployment, Collector}
+use Rattle.spec_client_go.specs.Commands.{Command}
+use Rattle.spec_client_go.specs.Expectations.{Owner}
+use Rattle.spec_client_go.specs.Hands.{Hand, Read}
+use Rattle.spec_client_go.specs.Informers.{Looks}
+use Rattle.spec_client_go.specs.WorkQueues.{WorkKey}
+use Rattle.spec_api.specs.Keys.{Key as Name}
+use Rattle.object_keys.specs.Keys.{key_of}
+use Rattle.object_keys.specs.declared.key.Key.{Key}
+use Rattle.reconcile_laws.proofs.PlanLaws.{turns_are_bounded}
+use Rattle.reconcile_laws.specs.ReplicaSetLaws.{created}
+use Rattle.spec_reconcile.specs.ReplicaSets as replica_sets
+use Rattle.spec_sim_control_plane.specs.NextSteps as steps
+use Rattle.spec_sim_control_plane.specs.NextSteps.{NextStep, Sighting, of_kind, of_expectations, next, seeing, expect, issue, finish, look, ask_satisfied, first, unseen, expecting, issuing}
+use Rattle.spec_sim_control_plane.specs.Turns.{Turn, Sight, Answer, Issue, Expected, asks, asks_by, plan_by, commands, creates_pod, expected, expected_by, hand, owner, owner_by, looks, was_satisfied, all_accepted, left}
+use Rattle.reconcile_parts.specs.NextCommands.{IsCommandNext}
+use Rattle.reconcile_parts.specs.Pods.{makes_pods}
+use Rattle.reconcile_parts.specs.Seen.{IsNext}
+use Rattle.reconcile_parts.specs.Sightings.{sighting_of}
+use Rattle.reconcile_parts.specs.Stages as phase
+use Rattle.reconcile_parts.specs.Stages.{Phase, IsPlanned, IsIn, IsTurn, commands_in, issued, turn_of}
+use Rattle.reconcile_parts.specs.declared.sightings.Sighting.{Sighting as Seen}
+use Rattle.reconcile_parts.specs.declared.next_steps.NextStep.{NextStep as Step}
+use Rattle.reconcile_parts.specs.declared.next_steps.NextStep.TheVariants as step
+use Rattle.reconcile_parts.proofs.Firsts.{first_left_as}
+use Rattle.reconcile_parts.proofs.Issues.{length-issued}
+use Rattle.reconcile_parts.proofs.PodCounts.{expects, creates_fewer}
+use Rattle.reconcile_parts.proofs.Steps.{next_planned, step_by}
 
 -- ---- all that is to be seen
 

@@ -1,10 +1,10 @@
 -- How many pods commands create and delete.
 use Rattle.std.proofs.Common.{◌≡◌, ◌≤◌, List, [], ◌∷◌, length, filter, is_some, Some, refl, arith}
-use Rattle.controllers.specs.Commands.{Command, create, update, update_status, delete}
-use Rattle.controllers.specs.Expectations.{Owner}
-use Rattle.plan_laws.specs.ReplicaSetLaws.{created}
-use Rattle.reconciling.specs.Turns.{creates_pod, expected_by}
-use Rattle.turn_parts.specs.Pods.{makes_pods}
+use Rattle.spec_client_go.specs.Commands.{Command, create, update, update_status, delete}
+use Rattle.spec_client_go.specs.Expectations.{Owner}
+use Rattle.reconcile_laws.specs.ReplicaSetLaws.{created}
+use Rattle.spec_sim_control_plane.specs.Turns.{creates_pod, expected_by}
+use Rattle.reconcile_parts.specs.Pods.{makes_pods}
 
 -- pods are expected just where some are created or deleted
 pub expects : (o : Owner) (cs : List Command) → is_some (expected_by (Some o) cs) ≡ makes_pods cs

@@ -3,13 +3,13 @@ use Rattle.std.specs.Prelude.{ℕ, List, [], ◌∷◌, map, Bool, true, Option,
 use Rattle.std.specs.Arc.{arc_value}
 use Rattle.std.specs.declared.sync.Arc.{Arc}
 use Rattle.std.specs.Global.{Global}
-use Rattle.controllers.specs.Commands.{Command}
-use Rattle.reconciling.specs.Turns as turns
-use Rattle.reconciling.specs.Turns.{is_refused, version_in}
-use Rattle.turn_parts.specs.Seen.{answer_of}
-use Rattle.turn_parts.specs.declared.answers.Answer.{Answer}
+use Rattle.spec_client_go.specs.Commands.{Command}
+use Rattle.spec_sim_control_plane.specs.Turns as turns
+use Rattle.spec_sim_control_plane.specs.Turns.{is_refused, version_in}
+use Rattle.reconcile_parts.specs.Seen.{answer_of}
+use Rattle.reconcile_parts.specs.declared.answers.CommandAnswer.{CommandAnswer}
 
-abbrev pub answers_of : List (Arc Answer Global) → List turns.Answer
+abbrev pub answers_of : List (Arc CommandAnswer Global) → List turns.Answer
 answers_of as' = map (λ a. answer_of (arc_value a)) as'
 
 -- the version of the last answer

@@ -1,10 +1,10 @@
 -- What commands make of pods.
 use Rattle.std.specs.Prelude.{◌||◌, List, [], ◌∷◌, map, Bool, false, is_some}
 use Rattle.std.specs.Borrow.{Bor}
-use Rattle.controllers.specs.Commands as commands
-use Rattle.reconciling.specs.Turns.{creates_pod, pod_deleted}
-use Rattle.turns.specs.Commands.{command_of}
-use Rattle.turns.specs.declared.commands.Command.{Command}
+use Rattle.spec_client_go.specs.Commands as commands
+use Rattle.spec_sim_control_plane.specs.Turns.{creates_pod, pod_deleted}
+use Rattle.reconcile_types.specs.Commands.{command_of}
+use Rattle.reconcile_types.specs.declared.commands.Command.{Command}
 
 -- references to commands, as the definitions have them
 abbrev pub commands_lent : List (Bor Command) → List commands.Command

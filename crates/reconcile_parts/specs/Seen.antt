@@ -2,22 +2,22 @@
 use Rattle.std.specs.Prelude.{◌≡◌, ℕ, List, map, unwrap_or, string_bytes, Option, Some, None}
 use Rattle.serde_json.specs.Data.{Data, null}
 use Rattle.serde_json.specs.Read.{read}
-use Rattle.definitions.specs.Keys.{Key}
-use Rattle.controllers.specs.Commands.{Command}
-use Rattle.control_desk.specs.Seen.{owner_of}
-use Rattle.keys.specs.Keys.{key_of}
-use Rattle.reconciling.specs.NextSteps as steps
-use Rattle.reconciling.specs.NextSteps.{next, look, ask_satisfied, expect, issue, finish}
-use Rattle.reconciling.specs.Turns as turns
-use Rattle.reconciling.specs.Turns.{Turn, looked, satisfied, accepted, refused, lost, with_read, with_issue}
-use Rattle.turns.specs.Commands.{command_of}
-use Rattle.turn_parts.specs.declared.answers.Answer.{Answer}
-use Rattle.turn_parts.specs.declared.answers.Answer.TheVariants as answer
-use Rattle.turn_parts.specs.declared.expected.Expected.{Expected}
-use Rattle.turn_parts.specs.declared.next_steps.NextStep.{NextStep}
-use Rattle.turn_parts.specs.declared.next_steps.NextStep.TheVariants.{Look, AskSatisfied, Read, Expect, Issue, Finish}
-use Rattle.turn_parts.specs.declared.sights.Sight.{Sight}
-use Rattle.turn_parts.specs.declared.sights.Sight.TheVariants.{Looked, Satisfied}
+use Rattle.spec_api.specs.Keys.{Key}
+use Rattle.spec_client_go.specs.Commands.{Command}
+use Rattle.work_board.specs.Seen.{owner_of}
+use Rattle.object_keys.specs.Keys.{key_of}
+use Rattle.spec_sim_control_plane.specs.NextSteps as steps
+use Rattle.spec_sim_control_plane.specs.NextSteps.{next, look, ask_satisfied, expect, issue, finish}
+use Rattle.spec_sim_control_plane.specs.Turns as turns
+use Rattle.spec_sim_control_plane.specs.Turns.{Turn, looked, satisfied, accepted, refused, lost, with_read, with_issue}
+use Rattle.reconcile_types.specs.Commands.{command_of}
+use Rattle.reconcile_parts.specs.declared.answers.CommandAnswer.{CommandAnswer}
+use Rattle.reconcile_parts.specs.declared.answers.CommandAnswer.TheVariants as answer
+use Rattle.reconcile_parts.specs.declared.expected.Expected.{Expected}
+use Rattle.reconcile_parts.specs.declared.next_steps.NextStep.{NextStep}
+use Rattle.reconcile_parts.specs.declared.next_steps.NextStep.TheVariants.{Look, AskSatisfied, Read, Expect, Issue, Finish}
+use Rattle.reconcile_parts.specs.declared.sights.Sight.{Sight}
+use Rattle.reconcile_parts.specs.declared.sights.Sight.TheVariants.{Looked, Satisfied}
 
 -- ---- what is seen and learnt
 
@@ -29,7 +29,7 @@ sight_of (Satisfied b) = satisfied b
 abbrev pub data_of : List ℕ → Data
 data_of text = unwrap_or (read text) null
 
-abbrev pub answer_of : Answer → turns.Answer
+abbrev pub answer_of : CommandAnswer → turns.Answer
 answer_of (answer.Accepted code text) = accepted code (data_of (string_bytes text))
 answer_of (answer.Refused code) = refused code
 answer_of answer.Lost = lost

@@ -1,16 +1,16 @@
 -- Where a turn is, and what of it is issued.
 use Rattle.std.specs.Prelude.{◌≡◌, ◌≤◌, List, [], ◌∷◌, length, Bool, true, false, is_some, Some}
 use Rattle.std.specs.Arc.{arc_value}
-use Rattle.controllers.specs.Commands.{Command}
-use Rattle.controllers.specs.Hands.{Read}
-use Rattle.controllers.specs.WorkQueues.{WorkKey}
-use Rattle.definitions.specs.Keys.{Key}
-use Rattle.keys.specs.Keys.{key_of}
-use Rattle.reconciling.specs.NextSteps.{first, unseen}
-use Rattle.reconciling.specs.Turns.{Sight, Answer, Issue, Turn, all_accepted, asks, commands, expected}
-use Rattle.turns.specs.Commands.{commands_of}
-use Rattle.turn_parts.specs.declared.stages.Stage.{Stage}
-use Rattle.turn_parts.specs.declared.stages.Stage.TheVariants.{Seeing, Reading, Planned}
+use Rattle.spec_client_go.specs.Commands.{Command}
+use Rattle.spec_client_go.specs.Hands.{Read}
+use Rattle.spec_client_go.specs.WorkQueues.{WorkKey}
+use Rattle.spec_api.specs.Keys.{Key}
+use Rattle.object_keys.specs.Keys.{key_of}
+use Rattle.spec_sim_control_plane.specs.NextSteps.{first, unseen}
+use Rattle.spec_sim_control_plane.specs.Turns.{Sight, Answer, Issue, Turn, all_accepted, asks, commands, expected}
+use Rattle.reconcile_types.specs.Commands.{commands_of}
+use Rattle.reconcile_parts.specs.declared.stages.Stage.{Stage}
+use Rattle.reconcile_parts.specs.declared.stages.Stage.TheVariants.{Seeing, Reading, Planned}
 
 -- something is still to be seen; all was seen, and a key is to be read live; or these are the commands, of which pods are expected or are not
 pub data Phase : Type 0 where

@@ -1,15 +1,15 @@
 //! Answers to commands.
 ghost use Rattle.std.specs.Prelude.{◌≡◌, IfOk};
-ghost use Rattle.turn_parts.specs.Answers.{answers_of};
-ghost use Rattle.reconciling.specs.Turns.{is_accepted, is_refused};
-ghost use Rattle.turn_parts.specs.Seen.{answer_of};
+ghost use Rattle.reconcile_parts.specs.Answers.{answers_of};
+ghost use Rattle.spec_sim_control_plane.specs.Turns.{is_accepted, is_refused};
+ghost use Rattle.reconcile_parts.specs.Seen.{answer_of};
 
 use std::alloc::{AllocError, Global};
 use std::sync::Arc;
 
 /// What is known of a command that was issued.
 #[derive(Drop)]
-pub enum Answer {
+pub enum CommandAnswer {
     /// It was accepted, with this status code and this body (RFC 9110, Status Codes).
     Accepted { code: u16, text: String },
     /// It was refused, with this status code.
@@ -18,15 +18,15 @@ pub enum Answer {
     Lost,
 }
 
-impl Answer {
+impl CommandAnswer {
     /// Returns whether the command was accepted. It takes no memory.
     pub fn is_accepted(&self) -> bool
         ensures { result ≡ is_accepted (answer_of self.now) }
     {
         match self {
-            Answer::Accepted { .. } => true,
-            Answer::Refused { .. } => false,
-            Answer::Lost => false,
+            CommandAnswer::Accepted { .. } => true,
+            CommandAnswer::Refused { .. } => false,
+            CommandAnswer::Lost => false,
         }
     }
 
@@ -35,9 +35,9 @@ impl Answer {
         ensures { result ≡ is_refused (answer_of self.now) }
     {
         match self {
-            Answer::Accepted { .. } => false,
-            Answer::Refused { .. } => true,
-            Answer::Lost => false,
+            CommandAnswer::Accepted { .. } => false,
+            CommandAnswer::Refused { .. } => true,
+            CommandAnswer::Lost => false,
         }
     }
 }
@@ -45,8 +45,8 @@ impl Answer {
 /// Returns copies of answers, which share them. The error is running out of memory.
 pub fn copies_of_answers(
     alloc: Global,
-    answers: &[Arc<Answer, Global>],
-) -> Result<Vec<Arc<Answer, Global>>, AllocError>
+    answers: &[Arc<CommandAnswer, Global>],
+) -> Result<Vec<Arc<CommandAnswer, Global>>, AllocError>
     ensures { IfOk result (λ v. answers_of v.items ≡ answers_of answers.now) }
 {
     let mut made = Vec::with_capacity(alloc, answers.len())?;

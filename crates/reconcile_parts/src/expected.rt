@@ -1,5 +1,5 @@
 //! What is expected of pods.
-use control_desk::Owner;
+use work_board::Owner;
 
 /// What the commands of a turn make of a ReplicaSet's pods: how many they create, and the uids of those that they delete.
 #[derive(Drop)]

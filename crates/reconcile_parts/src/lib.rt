@@ -13,7 +13,7 @@ pub mod sightings;
 pub mod sights;
 pub mod stages;
 
-pub use answers::Answer;
+pub use answers::CommandAnswer;
 pub use expected::Expected;
 pub use next_steps::NextStep;
 pub use sights::Sight;

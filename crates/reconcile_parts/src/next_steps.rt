@@ -1,12 +1,12 @@
 //! What a worker does next in its turn.
 ghost use Rattle.std.specs.Prelude.{◌≡◌, drop, map, option_map};
-ghost use Rattle.reconciling.specs.NextSteps.{issuing};
-ghost use Rattle.turns.specs.Commands.{command_of, commands_of};
-ghost use Rattle.turn_parts.specs.NextCommands.{IsCommandNext};
+ghost use Rattle.spec_sim_control_plane.specs.NextSteps.{issuing};
+ghost use Rattle.reconcile_types.specs.Commands.{command_of, commands_of};
+ghost use Rattle.reconcile_parts.specs.NextCommands.{IsCommandNext};
 
-use definitions::kinds::Kind;
-use keys::Key;
-use turns::{Command, Plan};
+use object_keys::Key;
+use reconcile_types::{Command, Plan};
+use spec_api::kinds::Kind;
 
 /// What a worker does next in its turn.
 #[derive(Clone, Copy)]

@@ -1,24 +1,24 @@
 //! What is expected of a turn's pods, and what is expected no longer.
 ghost use Rattle.std.specs.Prelude.{◌≡◌, ◌++◌, ◌<◌, ◌^◌, IfOk, OnOk, length, map, filter, filter_map, replicate, slice_get, string_bytes};
-ghost use Rattle.control.specs.Boards.{creation_observed, deletion_observed};
-ghost use Rattle.control_desk.specs.Seen.{owner_of, observation_of};
-ghost use Rattle.reconciling.specs.Turns.{as_observed, creates_pod, expected_of, pod_deleted};
-ghost use Rattle.turns.specs.Commands.{command_of};
-ghost use Rattle.turn_parts.specs.Answers.{answers_of, is_undone, undone_of};
-ghost use Rattle.turn_parts.specs.Pods.{commands_lent};
-ghost use Rattle.turn_parts.specs.Seen.{expected_of as expected_seen};
+ghost use Rattle.spec_work_board.specs.Boards.{creation_observed, deletion_observed};
+ghost use Rattle.work_board.specs.Seen.{owner_of, observation_of};
+ghost use Rattle.spec_sim_control_plane.specs.Turns.{as_observed, creates_pod, expected_of, pod_deleted};
+ghost use Rattle.reconcile_types.specs.Commands.{command_of};
+ghost use Rattle.reconcile_parts.specs.Answers.{answers_of, is_undone, undone_of};
+ghost use Rattle.reconcile_parts.specs.Pods.{commands_lent};
+ghost use Rattle.reconcile_parts.specs.Seen.{expected_of as expected_seen};
 
-use crate::answers::Answer;
+use crate::answers::CommandAnswer;
 use crate::expected::Expected;
 use crate::pods::{creations, deletions};
-use control_desk::{Observation, Owner};
+use reconcile_types::Command;
 use std::alloc::{AllocError, Global};
 use std::sync::Arc;
-use turns::Command;
+use work_board::{Observation, Owner};
 
 /// Returns whether the command at a place is not done: it was refused, or has no answer. Of a lost one it is not known. It takes
 /// no memory.
-fn is_undone(answers: &[Arc<Answer, Global>], place: usize) -> bool
+fn is_undone(answers: &[Arc<CommandAnswer, Global>], place: usize) -> bool
     ensures { result ≡ is_undone (slice_get (answers_of answers.now) place) }
 {
     match answers.get(place) {
@@ -31,7 +31,7 @@ fn is_undone(answers: &[Arc<Answer, Global>], place: usize) -> bool
 pub fn undone<'a>(
     alloc: Global,
     commands: &'a [Command],
-    answers: &[Arc<Answer, Global>],
+    answers: &[Arc<CommandAnswer, Global>],
 ) -> Result<Vec<&'a Command>, AllocError>
     ensures { IfOk result (λ v. commands_lent v.items ≡ undone_of (map command_of commands.now) (answers_of answers.now)) }
 {

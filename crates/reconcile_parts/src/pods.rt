@@ -1,12 +1,12 @@
 //! What commands make of pods.
 ghost use Rattle.std.specs.Prelude.{◌≡◌, IfOk, length, map, filter, filter_map, option_map, string_bytes};
-ghost use Rattle.reconciling.specs.Turns.{creates_pod, pod_deleted};
-ghost use Rattle.turns.specs.Commands.{command_of};
-ghost use Rattle.turn_parts.specs.Pods.{commands_lent, makes_pods};
+ghost use Rattle.spec_sim_control_plane.specs.Turns.{creates_pod, pod_deleted};
+ghost use Rattle.reconcile_types.specs.Commands.{command_of};
+ghost use Rattle.reconcile_parts.specs.Pods.{commands_lent, makes_pods};
 
 use meta::Kind;
+use reconcile_types::Command;
 use std::alloc::{AllocError, Global};
-use turns::Command;
 
 /// Returns whether a command creates a pod. It takes no memory.
 fn creates_pod(command: &Command) -> bool

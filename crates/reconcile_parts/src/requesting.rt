@@ -1,22 +1,22 @@
 //! The requests of commands.
 ghost use Rattle.std.specs.Prelude.{◌≡◌, IfOk, option_map, string_bytes};
-ghost use Rattle.controllers.specs.Commands as commands;
-ghost use Rattle.controllers.specs.Commands.{version_named};
-ghost use Rattle.definitions.specs.Metadata.{version};
-ghost use Rattle.requests.specs.Requests.{request_of};
+ghost use Rattle.spec_client_go.specs.Commands as commands;
+ghost use Rattle.spec_client_go.specs.Commands.{version_named};
+ghost use Rattle.spec_api.specs.Metadata.{version};
+ghost use Rattle.request_parts.specs.Requests.{request_of};
 ghost use Rattle.serde_json.specs.View.{view};
-ghost use Rattle.turns.specs.Commands.{command_of, version_of};
-ghost use Rattle.turn_parts.specs.Answers.{answers_of, last_version};
-ghost use Rattle.turn_parts.specs.Seen.{data_of};
+ghost use Rattle.reconcile_types.specs.Commands.{command_of, version_of};
+ghost use Rattle.reconcile_parts.specs.Answers.{answers_of, last_version};
+ghost use Rattle.reconcile_parts.specs.Seen.{data_of};
 
-use crate::answers::Answer;
+use crate::answers::CommandAnswer;
 use lifecycle::DeleteOptions;
 use meta::Object;
-use requests::Request;
+use reconcile_types::{Command, Version};
+use request_parts::Request;
 use serde_json::Value;
 use std::alloc::{AllocError, Global};
 use std::sync::Arc;
-use turns::{Command, Version};
 
 /// Returns the `resourceVersion` of the object that a text is, if it is one that has it. The error is running out of memory.
 fn version_in_text(alloc: Global, text: &str) -> Result<Option<String>, AllocError>
@@ -42,7 +42,7 @@ fn version_in_text(alloc: Global, text: &str) -> Result<Option<String>, AllocErr
 /// Returns the version of the last answer, if it has one. The error is running out of memory.
 fn last_version(
     alloc: Global,
-    answers: &[Arc<Answer, Global>],
+    answers: &[Arc<CommandAnswer, Global>],
 ) -> Result<Option<String>, AllocError>
     ensures { IfOk result (λ v. option_map string_bytes v ≡ last_version (answers_of answers.now)) }
 {
@@ -50,16 +50,16 @@ fn last_version(
         return Ok(None);
     };
     match &**last {
-        Answer::Accepted { text, .. } => version_in_text(alloc, text.as_str()),
-        Answer::Refused { .. } => Ok(None),
-        Answer::Lost => Ok(None),
+        CommandAnswer::Accepted { text, .. } => version_in_text(alloc, text.as_str()),
+        CommandAnswer::Refused { .. } => Ok(None),
+        CommandAnswer::Lost => Ok(None),
     }
 }
 
 /// Returns the version that a command names, after these answers. The error is running out of memory.
 fn version_named(
     alloc: Global,
-    answers: &[Arc<Answer, Global>],
+    answers: &[Arc<CommandAnswer, Global>],
     version: &Option<Version>,
 ) -> Result<Option<String>, AllocError>
     ensures { IfOk result (λ v. option_map string_bytes v
@@ -95,7 +95,7 @@ fn body_of(object: &Object) -> Result<Value, AllocError>
 pub fn request_of(
     alloc: Global,
     command: &Command,
-    answers: &[Arc<Answer, Global>],
+    answers: &[Arc<CommandAnswer, Global>],
 ) -> Result<Request, AllocError>
     ensures { IfOk result (λ q. request_of q
         ≡ commands.request_of (last_version (answers_of answers.now)) (command_of command.now)) }

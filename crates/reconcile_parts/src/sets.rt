@@ -1,21 +1,21 @@
 //! The ReplicaSet of a turn.
 ghost use Rattle.std.specs.Prelude.{◌≡◌, [], IfOk, is_some, map, option_map};
-ghost use Rattle.control_desk.specs.Seen.{owner_of};
-ghost use Rattle.definitions.specs.History.{found};
-ghost use Rattle.definitions.specs.declared.kinds.Kind.TheVariants as kind;
-ghost use Rattle.keys.specs.Keys.{key_of};
-ghost use Rattle.readings.specs.Lent.{data_of};
-ghost use Rattle.reconciling.specs.Turns.{owner, shown};
+ghost use Rattle.work_board.specs.Seen.{owner_of};
+ghost use Rattle.spec_api.specs.History.{found};
+ghost use Rattle.spec_api.specs.declared.kinds.Kind.TheVariants as kind;
+ghost use Rattle.object_keys.specs.Keys.{key_of};
+ghost use Rattle.object_fields.specs.Lent.{data_of};
+ghost use Rattle.spec_sim_control_plane.specs.Turns.{owner, shown};
 ghost use Rattle.work_keys.specs.WorkKeys.{work_key_of};
-ghost use Rattle.turn_parts.specs.Seen.{sight_of};
-ghost use Rattle.turn_parts.specs.Stages.{turn_of};
+ghost use Rattle.reconcile_parts.specs.Seen.{sight_of};
+ghost use Rattle.reconcile_parts.specs.Stages.{turn_of};
 
 use crate::sights::{Sight, look_at};
-use control_desk::Owner;
-use controllers::controller::Controller;
-use keys::Key;
 use meta::{Kind, Object};
+use object_keys::Key;
+use spec_client_go::controller::Controller;
 use std::alloc::{AllocError, Global};
+use work_board::Owner;
 use work_keys::WorkKey;
 
 /// Returns the ReplicaSet under a key, where it was there when ReplicaSets were looked at. It takes no memory.

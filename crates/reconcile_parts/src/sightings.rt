@@ -1,10 +1,10 @@
 //! What is to be seen in a turn.
 ghost use Rattle.std.specs.Prelude.{◌≡◌, drop, option_map};
-ghost use Rattle.reconciling.specs.NextSteps.{first, order};
-ghost use Rattle.turn_parts.specs.Sightings.{sighting_of};
+ghost use Rattle.spec_sim_control_plane.specs.NextSteps.{first, order};
+ghost use Rattle.reconcile_parts.specs.Sightings.{sighting_of};
 
-use controllers::controller::Controller;
-use definitions::kinds::Kind;
+use spec_api::kinds::Kind;
+use spec_client_go::controller::Controller;
 
 /// What is to be seen.
 #[derive(Clone, Copy)]

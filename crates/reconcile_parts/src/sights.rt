@@ -1,14 +1,14 @@
 //! What a worker has seen.
 ghost use Rattle.std.specs.Prelude.{◌≡◌, IfOk, map};
-ghost use Rattle.reconciling.specs.Turns.{shown, was_satisfied, looks};
-ghost use Rattle.turns.specs.Hands.{looks_by, members_of};
-ghost use Rattle.turn_parts.specs.Seen.{sight_of};
-ghost use Rattle.turn_parts.specs.Looked.{shown_by};
+ghost use Rattle.spec_sim_control_plane.specs.Turns.{shown, was_satisfied, looks};
+ghost use Rattle.reconcile_types.specs.Hands.{looks_by, members_of};
+ghost use Rattle.reconcile_parts.specs.Seen.{sight_of};
+ghost use Rattle.reconcile_parts.specs.Looked.{shown_by};
 
-use definitions::kinds::Kind;
 use indexer::Indexed;
+use reconcile_types::Looks;
+use spec_api::kinds::Kind;
 use std::alloc::{AllocError, Global};
-use turns::Looks;
 
 /// What a worker has seen.
 #[derive(Drop)]

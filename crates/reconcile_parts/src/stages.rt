@@ -1,11 +1,11 @@
 //! Where a turn is.
 ghost use Rattle.std.specs.Prelude.{◌≡◌, IfOk};
-ghost use Rattle.turn_parts.specs.Stages.{phase_of};
+ghost use Rattle.reconcile_parts.specs.Stages.{phase_of};
 
-use keys::Key;
+use object_keys::Key;
+use reconcile_types::Plan;
 use std::alloc::{AllocError, Global};
 use std::sync::Arc;
-use turns::Plan;
 
 /// Where a turn is.
 #[derive(Drop)]

@@ -1,10 +1,10 @@
 //! The counts that objects say (Kubernetes API reference, ReplicaSetSpec, ReplicaSetStatus, DeploymentSpec and DeploymentStatus).
 ghost use Rattle.std.specs.Prelude.{◌≡◌};
-ghost use Rattle.plans.specs.Counts.{count, count_in_spec, count_in_status, not_below_0};
-ghost use Rattle.readings.specs.Lent.{value_of};
+ghost use Rattle.spec_reconcile.specs.Counts.{count, count_in_spec, count_in_status, not_below_0};
+ghost use Rattle.object_fields.specs.Lent.{value_of};
 
 use meta::Object;
-use readings::{in_spec, in_status};
+use object_fields::{in_spec, in_status};
 use serde_json::Value;
 
 /// Returns a number, or 0 for one below 0. It takes no memory.

@@ -1,20 +1,20 @@
 //! The status of an object, as its controller updates it (Kubernetes API Conventions, Spec and Status).
 ghost use Rattle.std.specs.Prelude.{◌≡◌, ◌++◌, ◌∷◌, [], IfOk, OnOk, map};
 ghost use Rattle.serde_json.specs.Data.{object, put};
-ghost use Rattle.definitions.specs.Defaults.{unsigned_value};
-ghost use Rattle.definitions.specs.Replacements.{says_the_same};
-ghost use Rattle.definitions.specs.Values.{members_of};
-ghost use Rattle.controllers.specs.Commands.{update_status};
-ghost use Rattle.keys.specs.Keys.{key_of};
-ghost use Rattle.plans.specs.Statuses.{report_status, status, with_status};
-ghost use Rattle.turns.specs.Commands.{command_of};
+ghost use Rattle.spec_api.specs.Defaults.{unsigned_value};
+ghost use Rattle.spec_api.specs.Replacements.{says_the_same};
+ghost use Rattle.spec_api.specs.Values.{members_of};
+ghost use Rattle.spec_client_go.specs.Commands.{update_status};
+ghost use Rattle.object_keys.specs.Keys.{key_of};
+ghost use Rattle.spec_reconcile.specs.Statuses.{report_status, status, with_status};
+ghost use Rattle.reconcile_types.specs.Commands.{command_of};
 
 use json_values::values::whole_number;
-use keys::Key;
 use meta::Object;
-use readings::{inner, says_the_same};
+use object_fields::{inner, says_the_same};
+use object_keys::Key;
+use reconcile_types::Command;
 use std::alloc::{AllocError, Global};
-use turns::Command;
 
 /// Returns a copy of an object's status, as an object; one that says nothing where it has none. The error is running out of
 /// memory.

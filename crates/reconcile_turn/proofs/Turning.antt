@@ -4,28 +4,28 @@ use Rattle.std.proofs.lemmas.List.{map-append}
 use Rattle.std.specs.Arc.{arc_value}
 use Rattle.std.specs.Global.{Global}
 use Rattle.std.specs.declared.sync.Arc.{Arc}
-use Rattle.controllers.specs.Commands.{Command}
-use Rattle.controllers.specs.Hands.{Read}
-use Rattle.controllers.specs.WorkQueues.{WorkKey}
-use Rattle.reconciling.specs.NextSteps as steps
-use Rattle.reconciling.specs.NextSteps.{NextStep, Sighting, of_kind, of_expectations, next, seeing, expect, issue, finish, look, ask_satisfied, first, unseen, expecting, issuing}
-use Rattle.reconciling.specs.Turns.{Turn, Sight, Answer, Issue, Expected, expected, is_accepted, is_refused, all_accepted, left, undone, version_answered, with_issue}
-use Rattle.turns.specs.Commands.{commands_of}
-use Rattle.turns.specs.Hands.{reads_of}
-use Rattle.turns.specs.declared.commands.Plan.{Plan}
+use Rattle.spec_client_go.specs.Commands.{Command}
+use Rattle.spec_client_go.specs.Hands.{Read}
+use Rattle.spec_client_go.specs.WorkQueues.{WorkKey}
+use Rattle.spec_sim_control_plane.specs.NextSteps as steps
+use Rattle.spec_sim_control_plane.specs.NextSteps.{NextStep, Sighting, of_kind, of_expectations, next, seeing, expect, issue, finish, look, ask_satisfied, first, unseen, expecting, issuing}
+use Rattle.spec_sim_control_plane.specs.Turns.{Turn, Sight, Answer, Issue, Expected, expected, is_accepted, is_refused, all_accepted, left, undone, version_answered, with_issue}
+use Rattle.reconcile_types.specs.Commands.{commands_of}
+use Rattle.reconcile_types.specs.Hands.{reads_of}
+use Rattle.reconcile_types.specs.declared.commands.Plan.{Plan}
 use Rattle.work_keys.specs.WorkKeys.{work_key_of}
-use Rattle.turn_parts.specs.Answers.{answers_of, last_version, undone_of}
-use Rattle.turn_parts.specs.Seen.{answer_of, sight_of, key_read, command_issued, answered_to}
-use Rattle.turn_parts.specs.Stages as phase
-use Rattle.turn_parts.specs.Stages.{Phase, IsPlanned, IsIn, IsTurn, commands_in, issued, phase_of, turn_of}
-use Rattle.workers.specs.contracts.turn.Turn.{the_view, the_invariant}
-use Rattle.turn_parts.specs.declared.answers.Answer.{Answer as Shared}
-use Rattle.turn_parts.specs.declared.stages.Stage.{Stage}
-use Rattle.turn_parts.specs.declared.stages.Stage.TheVariants.{Planned}
-use Rattle.workers.specs.declared.turn.Turn.TheInside.{Inside}
-use Rattle.turn_parts.proofs.Issues.{issued_more, fits_more, accepted_more, last_version_issued, undone-issued}
-use Rattle.turn_parts.proofs.Phases.{left_of}
-use Rattle.turn_parts.proofs.Steps.{next_seeing, next_reading, next_planned, step_by}
+use Rattle.reconcile_parts.specs.Answers.{answers_of, last_version, undone_of}
+use Rattle.reconcile_parts.specs.Seen.{answer_of, sight_of, key_read, command_issued, answered_to}
+use Rattle.reconcile_parts.specs.Stages as phase
+use Rattle.reconcile_parts.specs.Stages.{Phase, IsPlanned, IsIn, IsTurn, commands_in, issued, phase_of, turn_of}
+use Rattle.reconcile_turn.specs.contracts.turn.Turn.{the_view, the_invariant}
+use Rattle.reconcile_parts.specs.declared.answers.CommandAnswer.{CommandAnswer as Shared}
+use Rattle.reconcile_parts.specs.declared.stages.Stage.{Stage}
+use Rattle.reconcile_parts.specs.declared.stages.Stage.TheVariants.{Planned}
+use Rattle.reconcile_turn.specs.declared.turn.Turn.TheInside.{Inside}
+use Rattle.reconcile_parts.proofs.Issues.{issued_more, fits_more, accepted_more, last_version_issued, undone-issued}
+use Rattle.reconcile_parts.proofs.Phases.{left_of}
+use Rattle.reconcile_parts.proofs.Steps.{next_seeing, next_reading, next_planned, step_by}
 
 -- a turn in this phase, with what is issued of its plan
 pub record IsAt (p : Phase) (t : Turn) (as' : List Answer) (acc : Bool) : Type 0 where

@@ -1,1 +1,1 @@
-pub use Rattle.turn_parts.specs.Seen
+pub use Rattle.reconcile_parts.specs.Seen

@@ -5,5 +5,5 @@
 pub(crate) mod planning;
 pub(crate) mod turn;
 
+pub use reconcile_parts::{CommandAnswer, Expected, NextStep, Sight};
 pub use turn::Turn;
-pub use turn_parts::{Answer, Expected, NextStep, Sight};

@@ -1,25 +1,25 @@
 //! The plan of a turn.
 ghost use Rattle.std.specs.Prelude.{◌≡◌, ◌&&◌, [], IfOk, is_some, map};
-ghost use Rattle.reconciling.specs.Turns.{hand, asks_by, owner, plan_by};
-ghost use Rattle.turns.specs.Commands.{commands_of};
-ghost use Rattle.turns.specs.Hands.{hand_of, reads_of, read_of};
-ghost use Rattle.keys.specs.Keys.{key_of};
+ghost use Rattle.spec_sim_control_plane.specs.Turns.{hand, asks_by, owner, plan_by};
+ghost use Rattle.reconcile_types.specs.Commands.{commands_of};
+ghost use Rattle.reconcile_types.specs.Hands.{hand_of, reads_of, read_of};
+ghost use Rattle.object_keys.specs.Keys.{key_of};
 ghost use Rattle.work_keys.specs.WorkKeys.{work_key_of};
-ghost use Rattle.turn_parts.specs.Pods.{makes_pods};
-ghost use Rattle.turn_parts.specs.Seen.{sight_of};
-ghost use Rattle.turn_parts.specs.Stages.{IsIn, phase_of, turn_of};
+ghost use Rattle.reconcile_parts.specs.Pods.{makes_pods};
+ghost use Rattle.reconcile_parts.specs.Seen.{sight_of};
+ghost use Rattle.reconcile_parts.specs.Stages.{IsIn, phase_of, turn_of};
 
-use controllers::controller::Controller;
 use indexer::Indexed;
-use keys::Key;
+use object_keys::Key;
+use reconcile_parts::pods::makes_pods;
+use reconcile_parts::sets::has_owner;
+use reconcile_parts::sightings::next_sighting;
+use reconcile_parts::sights::{Sight, looks, was_satisfied};
+use reconcile_parts::stages::Stage;
+use reconcile_types::{Hand, Plan, Read};
+use spec_client_go::controller::Controller;
 use std::alloc::{AllocError, Global};
 use std::sync::Arc;
-use turn_parts::pods::makes_pods;
-use turn_parts::sets::has_owner;
-use turn_parts::sightings::next_sighting;
-use turn_parts::sights::{Sight, looks, was_satisfied};
-use turn_parts::stages::Stage;
-use turns::{Hand, Plan, Read};
 use work_keys::WorkKey;
 
 /// Returns a copy of a live read. The error is running out of memory.

@@ -1,21 +1,21 @@
 //! A worker's turn.
 use crate::planning::{copies_of_reads, stage_of};
-use control_desk::{Observation, Owner};
 use meta::Object;
-use requests::Request;
+use reconcile_parts::answers::{CommandAnswer, copies_of_answers};
+use reconcile_parts::expected::Expected;
+use reconcile_parts::next_steps::{NextStep, next_command};
+use reconcile_parts::observing::{expected_of, taken_back_of, undone};
+use reconcile_parts::requesting::request_of;
+use reconcile_parts::sets::owner_of;
+use reconcile_parts::sightings::{Sighting, next_sighting};
+use reconcile_parts::sights::{Sight, copies};
+use reconcile_parts::stages::Stage;
+use reconcile_types::Read;
+use request_parts::Request;
 use std::alloc::{AllocError, Global};
 use std::marker::Model;
 use std::sync::Arc;
-use turn_parts::answers::{Answer, copies_of_answers};
-use turn_parts::expected::Expected;
-use turn_parts::next_steps::{NextStep, next_command};
-use turn_parts::observing::{expected_of, taken_back_of, undone};
-use turn_parts::requesting::request_of;
-use turn_parts::sets::owner_of;
-use turn_parts::sightings::{Sighting, next_sighting};
-use turn_parts::sights::{Sight, copies};
-use turn_parts::stages::Stage;
-use turns::Read;
+use work_board::{Observation, Owner};
 use work_keys::WorkKey;
 
 /// A worker's turn: the key in its hands, what it has seen and read live, and what it has issued of its plan. It is seen as the
@@ -27,20 +27,20 @@ pub struct Turn {
     reads: Vec<Read>,
     stage: Stage,
     has_expected: bool,
-    answers: Vec<Arc<Answer, Global>>,
+    answers: Vec<Arc<CommandAnswer, Global>>,
     is_accepted: bool,
     alloc: Global,
 }
 
 impl Model for Turn {
     ghost use Rattle.std.specs.Prelude.{map};
-    ghost use Rattle.reconciling.specs.Codes.{coded_turn};
-    ghost use Rattle.reconciling.specs.Turns as turns;
-    ghost use Rattle.turns.specs.Hands.{reads_of};
+    ghost use Rattle.spec_sim_control_plane.specs.Codes.{coded_turn};
+    ghost use Rattle.spec_sim_control_plane.specs.Turns as turns;
+    ghost use Rattle.reconcile_types.specs.Hands.{reads_of};
     ghost use Rattle.work_keys.specs.WorkKeys.{work_key_of};
-    ghost use Rattle.turn_parts.specs.Answers.{answers_of};
-    ghost use Rattle.turn_parts.specs.Seen.{sight_of};
-    ghost use Rattle.turn_parts.specs.Stages.{IsTurn, turn_of, issued, phase_of, commands_in};
+    ghost use Rattle.reconcile_parts.specs.Answers.{answers_of};
+    ghost use Rattle.reconcile_parts.specs.Seen.{sight_of};
+    ghost use Rattle.reconcile_parts.specs.Stages.{IsTurn, turn_of, issued, phase_of, commands_in};
 
     ghost Value = { turns.Turn };
 
@@ -60,13 +60,13 @@ impl Model for Turn {
 
 impl Turn {
     ghost use Rattle.std.specs.Prelude.{◌≡◌, true, IfOk, OnOk, OnErr, is_some, map, option_map};
-    ghost use Rattle.control_desk.specs.Seen.{owner_of, observation_of};
-    ghost use Rattle.reconciling.specs.Managers.{requested};
-    ghost use Rattle.reconciling.specs.NextSteps.{next, finish};
-    ghost use Rattle.reconciling.specs.Turns.{begun, with_sight, with_expected, owner, taken_back, all_accepted};
-    ghost use Rattle.requests.specs.Requests.{request_of};
+    ghost use Rattle.work_board.specs.Seen.{owner_of, observation_of};
+    ghost use Rattle.spec_sim_control_plane.specs.Managers.{requested};
+    ghost use Rattle.spec_sim_control_plane.specs.NextSteps.{next, finish};
+    ghost use Rattle.spec_sim_control_plane.specs.Turns.{begun, with_sight, with_expected, owner, taken_back, all_accepted};
+    ghost use Rattle.request_parts.specs.Requests.{request_of};
     ghost use Rattle.work_keys.specs.WorkKeys.{work_key_of};
-    ghost use Rattle.turn_parts.specs.Seen.{sight_of, answer_of, expected_of, IsNext, step_of, key_read, expectation, command_issued, found_under, answered_to};
+    ghost use Rattle.reconcile_parts.specs.Seen.{sight_of, answer_of, expected_of, IsNext, step_of, key_read, expectation, command_issued, found_under, answered_to};
 
     /// Returns the turn of a key that was taken: nothing is seen. It takes no memory.
     pub fn begin(alloc: Global, key: WorkKey) -> Turn
@@ -175,7 +175,7 @@ impl Turn {
     }
 
     /// Adds the answer to the command that is issued next. The error is running out of memory, and then nothing has changed.
-    pub fn answer(&mut self, answer: Answer) -> Result<(), AllocError>
+    pub fn answer(&mut self, answer: CommandAnswer) -> Result<(), AllocError>
         requires { is_some (command_issued (next self.old)) ≡ true }
         ensures ok { OnOk result (self.new ≡ answered_to (command_issued (next self.old)) (answer_of answer) self.old) }
         ensures err { OnErr result (self.new ≡ self.old) }

@@ -1,12 +1,12 @@
 -- Commands, as definitions have them.
 use Rattle.std.specs.Prelude.{string_bytes, option_map, map, List}
-use Rattle.controllers.specs.Commands as commands
-use Rattle.keys.specs.Keys.{key_of}
-use Rattle.turns.specs.declared.commands.Command.{Command}
-use Rattle.turns.specs.declared.commands.Command.TheVariants.{Create, Update, UpdateStatus, Delete}
-use Rattle.turns.specs.declared.commands.Plan.{Plan}
-use Rattle.turns.specs.declared.commands.Version.{Version}
-use Rattle.turns.specs.declared.commands.Version.TheVariants.{Seen, Answered}
+use Rattle.spec_client_go.specs.Commands as commands
+use Rattle.object_keys.specs.Keys.{key_of}
+use Rattle.reconcile_types.specs.declared.commands.Command.{Command}
+use Rattle.reconcile_types.specs.declared.commands.Command.TheVariants.{Create, Update, UpdateStatus, Delete}
+use Rattle.reconcile_types.specs.declared.commands.Plan.{Plan}
+use Rattle.reconcile_types.specs.declared.commands.Version.{Version}
+use Rattle.reconcile_types.specs.declared.commands.Version.TheVariants.{Seen, Answered}
 
 abbrev pub version_of : Version → commands.Version
 version_of (Seen t) = commands.seen (string_bytes t)

@@ -1,8 +1,8 @@
 -- An object with its key, as definitions have it.
 use Rattle.serde_json.specs.Data.{Data}
-use Rattle.definitions.specs.Keys.{Key}
-use Rattle.keys.specs.Keys.{key_of}
-use Rattle.turns.specs.declared.entries.Entry.{Entry}
+use Rattle.spec_api.specs.Keys.{Key}
+use Rattle.object_keys.specs.Keys.{key_of}
+use Rattle.reconcile_types.specs.declared.entries.Entry.{Entry}
 
 abbrev pub entry_of : Entry → Key × Data
 entry_of e = (key_of e.key.now, e.object.now.value)

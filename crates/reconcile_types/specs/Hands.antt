@@ -1,13 +1,13 @@
 -- What was looked at and read, as definitions have it.
 use Rattle.std.specs.Prelude.{List, [], map, Option, Some, None, option_map}
-use Rattle.definitions.specs.History.{Entries}
-use Rattle.server_state.specs.Snapshots.{Snapshot}
-use Rattle.controllers.specs.Hands as hands
-use Rattle.controllers.specs.Informers as informers
-use Rattle.keys.specs.Keys.{key_of}
-use Rattle.turns.specs.declared.hands.Hand.{Hand}
-use Rattle.turns.specs.declared.hands.Read.{Read}
-use Rattle.turns.specs.declared.looks.Looks.{Looks}
+use Rattle.spec_api.specs.History.{Entries}
+use Rattle.spec_server.specs.Snapshots.{Snapshot}
+use Rattle.spec_client_go.specs.Hands as hands
+use Rattle.spec_client_go.specs.Informers as informers
+use Rattle.object_keys.specs.Keys.{key_of}
+use Rattle.reconcile_types.specs.declared.hands.Hand.{Hand}
+use Rattle.reconcile_types.specs.declared.hands.Read.{Read}
+use Rattle.reconcile_types.specs.declared.looks.Looks.{Looks}
 
 -- what looks show, each map by its members
 abbrev pub looks_by : {S : Type 0} → (S → Entries) → Looks S → informers.Looks

@@ -1,8 +1,8 @@
 //! Commands of controllers.
 
-use definitions::policies::Policy;
-use keys::Key;
 use meta::Object;
+use object_keys::Key;
+use spec_api::policies::Policy;
 
 /// The version that an object is to have where a command is served.
 #[derive(Drop)]

@@ -1,7 +1,7 @@
 //! References to objects with their keys.
 
-use keys::Key;
 use meta::Object;
+use object_keys::Key;
 
 /// A reference to an object, with its key.
 #[derive(Clone, Copy)]

@@ -1,12 +1,12 @@
 //! What a worker has read in its turn.
 ghost use Rattle.std.specs.Prelude.{◌≡◌, option_map};
-ghost use Rattle.controllers.specs.Hands.{live, is_read};
-ghost use Rattle.keys.specs.Keys.{key_of};
-ghost use Rattle.turns.specs.Hands.{reads_of};
+ghost use Rattle.spec_client_go.specs.Hands.{live, is_read};
+ghost use Rattle.object_keys.specs.Keys.{key_of};
+ghost use Rattle.reconcile_types.specs.Hands.{reads_of};
 
 use crate::looks::Looks;
-use keys::Key;
 use meta::Object;
+use object_keys::Key;
 
 /// A live read, and what it found.
 #[derive(Drop)]

@@ -2,16 +2,16 @@
 ghost use Rattle.std.specs.Prelude.{◌≡◌, IfOk, map, option_map};
 ghost use Rattle.std.specs.List.Sorted.{IsStrictlySortedBy};
 ghost use Rattle.std.specs.Map.{keys_of};
-ghost use Rattle.definitions.specs.History.{found};
-ghost use Rattle.definitions.specs.Keys.{key_cmp};
-ghost use Rattle.server_state.specs.Snapshots.{Snapshot};
-ghost use Rattle.keys.specs.Keys.{key_of};
-ghost use Rattle.controllers.specs.Informers.{of_namespace, of_owner};
-ghost use Rattle.turns.specs.Entries.{entry_of};
+ghost use Rattle.spec_api.specs.History.{found};
+ghost use Rattle.spec_api.specs.Keys.{key_cmp};
+ghost use Rattle.spec_server.specs.Snapshots.{Snapshot};
+ghost use Rattle.object_keys.specs.Keys.{key_of};
+ghost use Rattle.spec_client_go.specs.Informers.{of_namespace, of_owner};
+ghost use Rattle.reconcile_types.specs.Entries.{entry_of};
 
 use crate::entries::Entry;
-use keys::Key;
 use meta::Object;
+use object_keys::Key;
 use std::alloc::{AllocError, Global};
 
 /// A map of objects of one kind, with the revision at which they are the server's.

@@ -1,11 +1,11 @@
 -- Where the whole map comes from, at first and again.
 use Rattle.std.proofs.Common.{◌≡◌, ℕ, List, [], ◌++◌, Bool, true, false, cond, is_some, Option, Some, None, refl}
-use Rattle.controllers.specs.declared.reflectors.End.{End}
-use Rattle.controllers.specs.declared.reflectors.Ask.TheVariants as ask
-use Rattle.controllers.specs.declared.reflectors.Phase.{Phase}
-use Rattle.controllers.specs.declared.reflectors.Phase.TheVariants.{Listing, Streaming, Watching}
-use Rattle.controllers.specs.ReadFrames.{Read, reading}
-use Rattle.controllers.specs.Reflectors.{Initial, none_yet, Course, course, Reflector, ran, fed, fed_in, end_of, asks, first_phase, phase_after, initial_after, held_after}
+use Rattle.spec_client_go.specs.declared.reflectors.End.{End}
+use Rattle.spec_client_go.specs.declared.reflectors.Ask.TheVariants as ask
+use Rattle.spec_client_go.specs.declared.reflectors.Phase.{Phase}
+use Rattle.spec_client_go.specs.declared.reflectors.Phase.TheVariants.{Listing, Streaming, Watching}
+use Rattle.spec_client_go.specs.ReadFrames.{Read, reading}
+use Rattle.spec_client_go.specs.Reflectors.{Initial, none_yet, Course, course, Reflector, ran, fed, fed_in, end_of, asks, first_phase, phase_after, initial_after, held_after}
 use Rattle.reflector.specs.Laws.{IsAtStart, EndsOpenAgain, RefusalsStand, ListersWatch}
 
 -- ---- ends

@@ -1,11 +1,11 @@
 -- Frames one after another, where a reflector is so far.
 use Rattle.std.proofs.Common.{◌≡◌, ℕ, List, [], ◌∷◌, ◌++◌, Option, Some, None, Result, Ok, Err, refl, sym, ap, ◌∙◌, append_assoc, append-nil}
-use Rattle.definitions.specs.declared.kinds.Kind.{Kind}
-use Rattle.controllers.specs.declared.reflectors.End.{End}
-use Rattle.definitions.specs.Frames.{Frame}
-use Rattle.controllers.specs.Reflectors.{Delta, Step, run, step, going_on, Initial, Opening, under_way, closed, opening_step, opens_on, open_run, Course, course}
-use Rattle.controllers.specs.declared.reflectors.Phase.{Phase}
-use Rattle.controllers.specs.declared.reflectors.Phase.TheVariants.{Listing, Streaming, Watching}
+use Rattle.spec_api.specs.declared.kinds.Kind.{Kind}
+use Rattle.spec_client_go.specs.declared.reflectors.End.{End}
+use Rattle.spec_api.specs.Frames.{Frame}
+use Rattle.spec_client_go.specs.Reflectors.{Delta, Step, run, step, going_on, Initial, Opening, under_way, closed, opening_step, opens_on, open_run, Course, course}
+use Rattle.spec_client_go.specs.declared.reflectors.Phase.{Phase}
+use Rattle.spec_client_go.specs.declared.reflectors.Phase.TheVariants.{Listing, Streaming, Watching}
 use Rattle.reflector.specs.Courses.{Place, Advance, advance, by_opening, by_step}
 use Rattle.reflector.proofs.Runs.{after_deltas}
 

@@ -5,31 +5,31 @@ use Rattle.std.proofs.lemmas.List.{length-take}
 use Rattle.std.specs.List.{AllByRecursion}
 use Rattle.serde_json.specs.Data.{Data, object, null, boolean, number, string, array}
 use Rattle.serde_json.specs.Find.{as_object}
-use Rattle.definitions.specs.declared.kinds.Kind.{Kind}
-use Rattle.definitions.specs.declared.frames.FrameKind.TheVariants.{Added}
-use Rattle.definitions.specs.Keys.{Key, key_cmp}
-use Rattle.definitions.specs.History.{History, Write, Entries, list, up_to, writes, after_all, put_or_remove, in_view, viewed, present}
-use Rattle.definitions.specs.Reading.{is_body}
-use Rattle.definitions.specs.Reached.{IsReached}
-use Rattle.definitions.specs.Events.{events}
-use Rattle.definitions.specs.Frames.{Frame, bookmark_frame}
-use Rattle.definitions.specs.Streams.{Line, initial, initial_end, IsStream, added_lines, frame_of, text_of_lines}
-use Rattle.definitions.proofs.PutLaws.{IsAscending}
-use Rattle.controllers.specs.ReadFrames.{Read, reading}
-use Rattle.controllers.specs.Reflectors.{Shown, replace, name_in, run, apply_deltas, put_all, Initial, none_yet, objects_of, under_way, opening, opening_step, opens_on, open_run, stays, closes, Course, Reflector, Fed, ran, fed, all_fed}
-use Rattle.laws.specs.SentLaws.{whole, objects_in}
-use Rattle.laws.proofs.EachWrite.{AllPut, held_all}
-use Rattle.laws.proofs.Limited.{limited}
-use Rattle.laws.proofs.SentChanges.{shown_is, name_is, same_kind, read_body, nests, changes_told}
-use Rattle.laws.proofs.SentLists.{lists_put}
-use Rattle.laws.proofs.SentObjects.{IsStored}
-use Rattle.laws.proofs.Stored.{AreStored, AreStored-up_to, all_stored}
-use Rattle.laws.proofs.Streamed.{put_last, list_ascending}
+use Rattle.spec_api.specs.declared.kinds.Kind.{Kind}
+use Rattle.spec_api.specs.declared.frames.FrameKind.TheVariants.{Added}
+use Rattle.spec_api.specs.Keys.{Key, key_cmp}
+use Rattle.spec_api.specs.History.{History, Write, Entries, list, up_to, writes, after_all, put_or_remove, in_view, viewed, present}
+use Rattle.spec_api.specs.Reading.{is_body}
+use Rattle.spec_api.specs.Reached.{IsReached}
+use Rattle.spec_api.specs.Events.{events}
+use Rattle.spec_api.specs.Frames.{Frame, bookmark_frame}
+use Rattle.spec_api.specs.Streams.{Line, initial, initial_end, IsStream, added_lines, frame_of, text_of_lines}
+use Rattle.spec_api.proofs.PutLaws.{IsAscending}
+use Rattle.spec_client_go.specs.ReadFrames.{Read, reading}
+use Rattle.spec_client_go.specs.Reflectors.{Shown, replace, name_in, run, apply_deltas, put_all, Initial, none_yet, objects_of, under_way, opening, opening_step, opens_on, open_run, stays, closes, Course, Reflector, Fed, ran, fed, all_fed}
+use Rattle.spec_laws.specs.SentLaws.{whole, objects_in}
+use Rattle.spec_laws.proofs.EachWrite.{AllPut, held_all}
+use Rattle.spec_laws.proofs.Limited.{limited}
+use Rattle.spec_laws.proofs.SentChanges.{shown_is, name_is, same_kind, read_body, nests, changes_told}
+use Rattle.spec_laws.proofs.SentLists.{lists_put}
+use Rattle.spec_laws.proofs.SentObjects.{IsStored}
+use Rattle.spec_laws.proofs.Stored.{AreStored, AreStored-up_to, all_stored}
+use Rattle.spec_laws.proofs.Streamed.{put_last, list_ascending}
 use Rattle.framing.specs.Texts.{IsWithin}
 use Rattle.framing.proofs.Bookmarks.{IsWithin-bookmark}
 use Rattle.framing.proofs.FrameTexts.{frame_bytes}
 use Rattle.serde_json.specs.Written.{compact_text}
-use Rattle.controllers.specs.declared.reflectors.Phase.TheVariants.{Streaming}
+use Rattle.spec_client_go.specs.declared.reflectors.Phase.TheVariants.{Streaming}
 use Rattle.reflector.specs.Laws.{IsReadBack, IsReadWithin, IsAtStart, Waits, Replaces, whole_lines, InitialStreamsAreFollowed, WholeInitialStreamsAreFollowed, CutsOpenAgain}
 use Rattle.reflector.proofs.Cutting.{flat, no_cutting_at, at_place}
 use Rattle.reflector.proofs.Followed.{follows}

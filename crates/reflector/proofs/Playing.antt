@@ -1,17 +1,17 @@
 -- Frames that are taken in one after another, and initial events that are played.
 use Rattle.std.proofs.Common.{◌≡◌, List, [], ◌∷◌, ◌++◌, Option, None, option_map, Result, Ok, refl, sym, ap, ◌∙◌, subst}
-use Rattle.definitions.specs.declared.kinds.Kind.{Kind}
-use Rattle.controllers.specs.declared.reflectors.End.{End}
-use Rattle.definitions.specs.Frames.{Frame}
-use Rattle.definitions.specs.Keys.{key_cmp as name_cmp}
-use Rattle.definitions.specs.History.{put_or_remove}
-use Rattle.definitions.specs.Objects.{Object}
+use Rattle.spec_api.specs.declared.kinds.Kind.{Kind}
+use Rattle.spec_client_go.specs.declared.reflectors.End.{End}
+use Rattle.spec_api.specs.Frames.{Frame}
+use Rattle.spec_api.specs.Keys.{key_cmp as name_cmp}
+use Rattle.spec_api.specs.History.{put_or_remove}
+use Rattle.spec_api.specs.Objects.{Object}
 use Rattle.std.specs.BTreeMap.{insert_entry, is_at}
 use Rattle.std.specs.Map.{remove_entry}
-use Rattle.controllers.specs.Reflectors as reflectors
-use Rattle.controllers.specs.Reflectors.{name_in, put_in, Course}
-use Rattle.keys.specs.Keys.{key_of}
-use Rattle.keys.specs.declared.key.Key.{Key}
+use Rattle.spec_client_go.specs.Reflectors as reflectors
+use Rattle.spec_client_go.specs.Reflectors.{name_in, put_in, Course}
+use Rattle.object_keys.specs.Keys.{key_of}
+use Rattle.object_keys.specs.declared.key.Key.{Key}
 use Rattle.shared_map.specs.Entries.{put_entry}
 use Rattle.reflector.specs.declared.deltas.Delta.{Delta}
 use Rattle.reflector.specs.declared.shared_objects.SharedObject.{SharedObject}

@@ -2,19 +2,19 @@
 use Rattle.std.proofs.Common.{◌≡◌, ◌∙◌, List, [], ◌∷◌, length, map, Bool, true, false, cond, Ordering, Less, Equal, Greater, refl, sym, ap}
 use Rattle.std.specs.Map.{remove_entry}
 use Rattle.std.specs.Ordering.{match_ordering}
-use Rattle.controllers.proofs.WorkKeyOrder.{name_tells}
+use Rattle.spec_client_go.proofs.WorkKeyOrder.{name_tells}
 use Rattle.shared_map.specs.Entries.{put_entry}
 use Rattle.std.specs.BTreeMap.{insert_entry, is_at}
 use Rattle.serde_json.specs.Data.{Data}
-use Rattle.keys.specs.contracts.key.KeyOrd.TheImpl as key_ord
-use Rattle.keys.specs.Keys.{key_of}
-use Rattle.keys.specs.declared.key.Key.{Key}
-use Rattle.keys.proofs.KeyOrder.{key_cmp-name_cmp}
-use Rattle.keys.proofs.MapViews.{map-remove_entry_by}
-use Rattle.definitions.specs.Keys.{key_cmp as name_cmp}
-use Rattle.definitions.specs.Objects.{Object}
+use Rattle.object_keys.specs.contracts.key.KeyOrd.TheImpl as key_ord
+use Rattle.object_keys.specs.Keys.{key_of}
+use Rattle.object_keys.specs.declared.key.Key.{Key}
+use Rattle.object_keys.proofs.KeyOrder.{key_cmp-name_cmp}
+use Rattle.object_keys.proofs.MapViews.{map-remove_entry_by}
+use Rattle.spec_api.specs.Keys.{key_cmp as name_cmp}
+use Rattle.spec_api.specs.Objects.{Object}
 use Rattle.reflector.specs.Seen.{members_seen, HaveKinds}
-use Rattle.controllers.specs.Reflectors.{objects_of}
+use Rattle.spec_client_go.specs.Reflectors.{objects_of}
 use Rattle.reflector.specs.declared.shared_objects.SharedObject.{SharedObject}
 
 abbrev pub key_cmp : Key → Key → Ordering

@@ -1,12 +1,12 @@
 -- What frames do, one after another, where a reflector is so far.
 use Rattle.std.specs.Prelude.{◌≡◌, ℕ, Option, Some, None, Result, Ok, Err, option_map}
-use Rattle.definitions.specs.declared.kinds.Kind.{Kind}
-use Rattle.definitions.specs.Frames.{Frame}
-use Rattle.controllers.specs.declared.reflectors.End.{End}
-use Rattle.controllers.specs.Reflectors as reflectors
-use Rattle.controllers.specs.Reflectors.{Run, step, replace, Initial, none_yet, Opening, under_way, closed, objects_of, opening_step, Course}
-use Rattle.controllers.specs.declared.reflectors.Phase.{Phase}
-use Rattle.controllers.specs.declared.reflectors.Phase.TheVariants.{Listing, Streaming, Watching}
+use Rattle.spec_api.specs.declared.kinds.Kind.{Kind}
+use Rattle.spec_api.specs.Frames.{Frame}
+use Rattle.spec_client_go.specs.declared.reflectors.End.{End}
+use Rattle.spec_client_go.specs.Reflectors as reflectors
+use Rattle.spec_client_go.specs.Reflectors.{Run, step, replace, Initial, none_yet, Opening, under_way, closed, objects_of, opening_step, Course}
+use Rattle.spec_client_go.specs.declared.reflectors.Phase.{Phase}
+use Rattle.spec_client_go.specs.declared.reflectors.Phase.TheVariants.{Listing, Streaming, Watching}
 use Rattle.reflector.specs.declared.deltas.Delta.{Delta}
 use Rattle.reflector.specs.declared.openings.Place as declared
 use Rattle.reflector.specs.declared.openings.Course as course

@@ -1,9 +1,9 @@
 -- A map of objects as its members.
 use Rattle.std.specs.Prelude.{◌≡◌, List, map}
 use Rattle.std.specs.List.{AllByRecursion}
-use Rattle.definitions.specs.History.{Entries}
-use Rattle.keys.specs.Keys.{key_of}
-use Rattle.keys.specs.declared.key.Key.{Key}
+use Rattle.spec_api.specs.History.{Entries}
+use Rattle.object_keys.specs.Keys.{key_of}
+use Rattle.object_keys.specs.declared.key.Key.{Key}
 use Rattle.reflector.specs.declared.shared_objects.SharedObject.{SharedObject}
 
 -- keys and objects as names and data

@@ -6,10 +6,10 @@ use crate::initials::Initial;
 use crate::lists::{Listed, read_list};
 use crate::openings::Place;
 use crate::pieces::{first_phase, take_in};
-use controllers::reflectors::{Ask, Phase};
 use framing::Want;
 use framing::lines::keep_last;
 use meta::Kind;
+use spec_client_go::reflectors::{Ask, Phase};
 use std::alloc::{AllocError, Global};
 use std::marker::Model;
 
@@ -29,9 +29,9 @@ pub struct Reflector {
 impl Model for Reflector {
     ghost use Rattle.std.specs.Prelude.{◌<◌, length};
     ghost use Rattle.framing.specs.Lines.{IsPartial};
-    ghost use Rattle.controllers.specs.ReadFrames.{longest_frame};
-    ghost use Rattle.controllers.specs.Reflectors as reflectors;
-    ghost use Rattle.controllers.specs.Codes.{coded_reflector};
+    ghost use Rattle.spec_client_go.specs.ReadFrames.{longest_frame};
+    ghost use Rattle.spec_client_go.specs.Reflectors as reflectors;
+    ghost use Rattle.spec_client_go.specs.Codes.{coded_reflector};
 
     ghost Value = { reflectors.Reflector };
 
@@ -44,9 +44,9 @@ impl Model for Reflector {
 
 impl Reflector {
     ghost use Rattle.std.specs.Prelude.{◌≡◌, ◌≢◌, ◌<◌, length, Some, IfOk, IfErr, OnOk, OnErr, IsSome, option_map};
-    ghost use Rattle.controllers.specs.ReadFrames.{longest_frame};
-    ghost use Rattle.controllers.specs.Reflectors.{list_of, list_delta, begun, begun_streaming, begun_by, asks, with_list, cut, expired, refused, anew, turned, fed, fed_in};
-    ghost use Rattle.controllers.specs.declared.reflectors.Phase.TheVariants.{Listing};
+    ghost use Rattle.spec_client_go.specs.ReadFrames.{longest_frame};
+    ghost use Rattle.spec_client_go.specs.Reflectors.{list_of, list_delta, begun, begun_streaming, begun_by, asks, with_list, cut, expired, refused, anew, turned, fed, fed_in};
+    ghost use Rattle.spec_client_go.specs.declared.reflectors.Phase.TheVariants.{Listing};
     ghost use Rattle.reflector.specs.Deltas.{delta_of, deltas_of, RefusesList};
 
     /// Returns a reflector that took nothing in yet: it wants a list, and its revision is 0.

@@ -3,10 +3,10 @@ use Rattle.std.proofs.Common.{◌≡◌, ℕ, ◌<◌, ◌^◌, List, length, dr
 use Rattle.std.proofs.lemmas.Bool.Decides.{nat_tests}
 use Rattle.std.specs.List.{list_all}
 use Rattle.std.specs.Str.Parse.{IsNumeral, starts_with_minus, without_leading_plus, without_leading_sign}
-use Rattle.definitions.proofs.Truths.{both_true}
-use Rattle.definitions.specs.Moments.{is_digit}
-use Rattle.plans.specs.PodRanks.{is_decimal, is_of_32_bits}
-use Rattle.stamps.proofs.Digits.{all-digits, no-plus}
+use Rattle.spec_api.proofs.Truths.{both_true}
+use Rattle.spec_api.specs.Moments.{is_digit}
+use Rattle.spec_reconcile.specs.PodRanks.{is_decimal, is_of_32_bits}
+use Rattle.metadata_values.proofs.Digits.{all-digits, no-plus}
 
 numeral : (t : List ℕ) → (nat_lt 0 (length t) && list_all is_digit t) ≡ true → IsNumeral 10 t
 numeral t h =

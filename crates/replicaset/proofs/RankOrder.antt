@@ -6,13 +6,13 @@ use denote.Param.Members.{Mut}
 use Rattle.std.specs.List.Sorted.{IsSorted, IsStable, IsSortedByKeyClosure, IsStableByKeyClosure}
 use Rattle.std.specs.Ordering.{on}
 use Rattle.serde_json.specs.Data.{Data}
-use Rattle.definitions.specs.Keys.{Key}
-use Rattle.keys.proofs.KeyOrder.{key_cmp-name_cmp}
-use Rattle.plans.specs.Orders.{in_order}
-use Rattle.plans.specs.PodRanks as plans
-use Rattle.plans.specs.PodRanks.{rank_cmp}
-use Rattle.plans.proofs.InOrder.{stable_is_in_order, in_order_map}
-use Rattle.plans.proofs.RankOrder.{rank_total}
+use Rattle.spec_api.specs.Keys.{Key}
+use Rattle.object_keys.proofs.KeyOrder.{key_cmp-name_cmp}
+use Rattle.spec_reconcile.specs.Orders.{in_order}
+use Rattle.spec_reconcile.specs.PodRanks as plans
+use Rattle.spec_reconcile.specs.PodRanks.{rank_cmp}
+use Rattle.spec_reconcile.proofs.InOrder.{stable_is_in_order, in_order_map}
+use Rattle.spec_reconcile.proofs.RankOrder.{rank_total}
 use Rattle.replicaset.specs.contracts.ranks.PhaseOrd.TheImpl as phase_ord
 use Rattle.replicaset.specs.contracts.ranks.RankOrd.TheImpl as rank_ord
 use Rattle.replicaset.specs.declared.ranks.Phase.{Phase}

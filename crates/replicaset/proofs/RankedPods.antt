@@ -3,15 +3,15 @@ use Rattle.std.proofs.Common.{◌≡◌, ℕ, suc, List, [], ◌∷◌, ◌++◌
 use Rattle.std.specs.Prelude.{filter}
 use Rattle.std.specs.Ordering.{on}
 use Rattle.serde_json.specs.Data.{Data}
-use Rattle.definitions.specs.History.{Entries}
-use Rattle.definitions.specs.Keys.{Key}
-use Rattle.plans.specs.Orders.{in_order}
-use Rattle.plans.specs.PodRanks.{Rank, node, pods_on, rank, rank_beside, rank_cmp, ranked}
-use Rattle.plans.specs.ReplicaSets.{ready_pods}
-use Rattle.plans.proofs.InOrder.{in_order_map}
+use Rattle.spec_api.specs.History.{Entries}
+use Rattle.spec_api.specs.Keys.{Key}
+use Rattle.spec_reconcile.specs.Orders.{in_order}
+use Rattle.spec_reconcile.specs.PodRanks.{Rank, node, pods_on, rank, rank_beside, rank_cmp, ranked}
+use Rattle.spec_reconcile.specs.ReplicaSets.{ready_pods}
+use Rattle.spec_reconcile.proofs.InOrder.{in_order_map}
 use Rattle.replicaset.specs.declared.ranks.Ranked.{Ranked}
 use Rattle.replicaset.specs.Ranks.{AreRead, on_node_among, pods_of, rank_of, ranked_of, read, read_of, ready_among, with_on_node}
-use Rattle.turns.specs.Entries.{entry_of}
+use Rattle.reconcile_types.specs.Entries.{entry_of}
 
 -- by what was counted
 abbrev pub beside : (List ℕ → ℕ) → Key × Data → Rank × (Key × Data)

@@ -3,19 +3,19 @@ use Rattle.std.proofs.Common.{◌≡◌, ℕ, ◌<◌, ◌+◌, length, map, dro
 use Rattle.std.proofs.lemmas.List.{at_drop_more}
 use Rattle.std.specs.List.{list_any}
 use Rattle.serde_json.specs.Data.{Data}
-use Rattle.definitions.specs.History.{Entries}
-use Rattle.definitions.specs.Keys.{Key}
-use Rattle.definitions.specs.Metadata.{Owner, owners, uid, is_being_deleted}
-use Rattle.definitions.specs.SelectorValues.{is_some_and}
-use Rattle.controllers.specs.Commands.{Command, update}
-use Rattle.controllers.specs.OwnerReferences.{has_controller, is_controlled_by, is_text}
-use Rattle.plans.specs.PodClaims.{adopted, claim, claims, is_adoptable, is_own, own_pods, released}
-use Rattle.plans.specs.Pods.{is_active, is_owned, matches}
+use Rattle.spec_api.specs.History.{Entries}
+use Rattle.spec_api.specs.Keys.{Key}
+use Rattle.spec_api.specs.Metadata.{Owner, owners, uid, is_being_deleted}
+use Rattle.spec_api.specs.SelectorValues.{is_some_and}
+use Rattle.spec_client_go.specs.Commands.{Command, update}
+use Rattle.spec_client_go.specs.OwnerReferences.{has_controller, is_controlled_by, is_text}
+use Rattle.spec_reconcile.specs.PodClaims.{adopted, claim, claims, is_adoptable, is_own, own_pods, released}
+use Rattle.spec_reconcile.specs.Pods.{is_active, is_owned, matches}
 use Rattle.replicaset.specs.Relations.{claim_as, is_own_as, own_as, relation}
 use Rattle.replicaset.specs.declared.relations.Relation.{Relation}
 use Rattle.replicaset.specs.declared.relations.Relation.TheVariants.{Own, Released, Adoptable, Other}
-use Rattle.turns.specs.Entries.{entry_of}
-use Rattle.turns.specs.declared.entries.Entry.{Entry}
+use Rattle.reconcile_types.specs.Entries.{entry_of}
+use Rattle.reconcile_types.specs.declared.entries.Entry.{Entry}
 
 -- what an owner controls has a controller
 controller_among : (t : Owner → Bool) (os : List Owner) → list_any (λ o. o.is_controller && t o) os ≡ true → list_any (λ o. o.is_controller) os ≡ true

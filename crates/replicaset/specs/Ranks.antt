@@ -2,15 +2,15 @@
 use Rattle.std.specs.Prelude.{ℕ, List, ◌≡◌, map, length, filter}
 use Rattle.std.specs.Str.{bytes_eq}
 use Rattle.serde_json.specs.Data.{Data}
-use Rattle.definitions.specs.History.{Entries}
-use Rattle.definitions.specs.Keys.{Key}
-use Rattle.keys.specs.Keys.{key_of}
-use Rattle.plans.specs.PodRanks as plans
+use Rattle.spec_api.specs.History.{Entries}
+use Rattle.spec_api.specs.Keys.{Key}
+use Rattle.object_keys.specs.Keys.{key_of}
+use Rattle.spec_reconcile.specs.PodRanks as plans
 use Rattle.replicaset.specs.declared.ranks.Phase.{Phase}
 use Rattle.replicaset.specs.declared.ranks.Phase.TheVariants.{Pending, Unknown, Running}
 use Rattle.replicaset.specs.declared.ranks.Rank.{Rank}
 use Rattle.replicaset.specs.declared.ranks.Ranked.{Ranked}
-use Rattle.turns.specs.Entries.{entry_of}
+use Rattle.reconcile_types.specs.Entries.{entry_of}
 
 abbrev pub phase_of : Phase → ℕ
 phase_of Pending = 0

@@ -1,12 +1,12 @@
 -- What a pod is to a ReplicaSet, and what the set does with it.
 use Rattle.std.specs.Prelude.{List, [], ◌∷◌, Bool, true, false, if◌then◌else◌}
 use Rattle.serde_json.specs.Data.{Data}
-use Rattle.definitions.specs.History.{Entries}
-use Rattle.definitions.specs.Keys.{Key}
-use Rattle.definitions.specs.Metadata.{is_being_deleted}
-use Rattle.controllers.specs.Commands.{Command, update}
-use Rattle.plans.specs.PodClaims as claims
-use Rattle.plans.specs.Pods.{is_owned, matches}
+use Rattle.spec_api.specs.History.{Entries}
+use Rattle.spec_api.specs.Keys.{Key}
+use Rattle.spec_api.specs.Metadata.{is_being_deleted}
+use Rattle.spec_client_go.specs.Commands.{Command, update}
+use Rattle.spec_reconcile.specs.PodClaims as claims
+use Rattle.spec_reconcile.specs.Pods.{is_owned, matches}
 use Rattle.replicaset.specs.declared.relations.Relation.{Relation}
 use Rattle.replicaset.specs.declared.relations.Relation.TheVariants.{Own, Released, Adoptable, Other}
 

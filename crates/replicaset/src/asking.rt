@@ -1,19 +1,19 @@
 //! What has to be read live before a ReplicaSet adopts pods.
 ghost use Rattle.std.specs.Prelude.{◌≡◌, IfOk, map};
-ghost use Rattle.definitions.specs.Checks.{requirements};
-ghost use Rattle.keys.specs.Keys.{key_of};
-ghost use Rattle.plans.specs.ReplicaSets.{asks, has_adoptable};
-ghost use Rattle.turns.specs.Entries.{entry_of};
-ghost use Rattle.turns.specs.Hands.{hand_of};
+ghost use Rattle.spec_api.specs.Checks.{requirements};
+ghost use Rattle.object_keys.specs.Keys.{key_of};
+ghost use Rattle.spec_reconcile.specs.ReplicaSets.{asks, has_adoptable};
+ghost use Rattle.reconcile_types.specs.Entries.{entry_of};
+ghost use Rattle.reconcile_types.specs.Hands.{hand_of};
 
 use crate::claims::{is_adoptable, selector_of};
 use crate::looked_at::{pods_looked_at, set_looked_at};
-use keys::Key;
 use meta::Object;
+use object_keys::Key;
+use reconcile_types::hands::is_read;
+use reconcile_types::{Entry, Hand, Seen};
 use selector::Selector;
 use std::alloc::{AllocError, Global};
-use turns::hands::is_read;
-use turns::{Entry, Hand, Seen};
 
 /// Returns whether there is a pod that the set adopts, if it may.
 fn has_adoptable(set: &Object, selector: &Option<Selector>, pods: &[Entry<'_>]) -> bool

@@ -1,23 +1,23 @@
 //! The commands by which a ReplicaSet releases and adopts pods, and the pods that are then its own.
 ghost use Rattle.std.specs.Prelude.{◌≡◌, ◌++◌, IfOk, OnOk, map, option_map};
 ghost use Rattle.std.specs.Option.{option_to_list};
-ghost use Rattle.definitions.specs.Checks.{requirements};
-ghost use Rattle.keys.specs.Keys.{key_of};
-ghost use Rattle.plans.specs.PodClaims.{claims, own_pods};
+ghost use Rattle.spec_api.specs.Checks.{requirements};
+ghost use Rattle.object_keys.specs.Keys.{key_of};
+ghost use Rattle.spec_reconcile.specs.PodClaims.{claims, own_pods};
 ghost use Rattle.replicaset.specs.Ranks.{AreRead, pods_of};
 ghost use Rattle.replicaset.specs.Relations.{claim_as, own_as};
-ghost use Rattle.turns.specs.Commands.{command_of};
-ghost use Rattle.turns.specs.Entries.{entry_of};
+ghost use Rattle.reconcile_types.specs.Commands.{command_of};
+ghost use Rattle.reconcile_types.specs.Entries.{entry_of};
 
 use crate::ranks::{Ranked, read};
 use crate::references::released;
 use crate::relations::Relation;
-use keys::Key;
 use meta::Object;
-use owners::edits::with_controller;
+use object_keys::Key;
+use owner_references::edits::with_controller;
+use reconcile_types::{Command, Entry};
 use selector::Selector;
 use std::alloc::{AllocError, Global};
-use turns::{Command, Entry};
 
 /// Returns the command that releases or adopts a pod, where the set does. The error is running out of memory.
 fn claim(

@@ -1,18 +1,18 @@
 //! What pods are to a ReplicaSet: which it owns, releases and adopts.
 ghost use Rattle.std.specs.Prelude.{◌≡◌, IfOk};
 ghost use Rattle.serde_json.specs.View.{view};
-ghost use Rattle.definitions.specs.Checks.{requirements};
-ghost use Rattle.definitions.specs.Metadata.{owner};
-ghost use Rattle.plans.specs.PodClaims.{is_to_controller, is_adoptable, may_adopt, have_one_uid};
-ghost use Rattle.plans.specs.Pods.{is_owned, is_orphan, matches};
-ghost use Rattle.readings.specs.Lent.{data_of};
+ghost use Rattle.spec_api.specs.Checks.{requirements};
+ghost use Rattle.spec_api.specs.Metadata.{owner};
+ghost use Rattle.spec_reconcile.specs.PodClaims.{is_to_controller, is_adoptable, may_adopt, have_one_uid};
+ghost use Rattle.spec_reconcile.specs.Pods.{is_owned, is_orphan, matches};
+ghost use Rattle.object_fields.specs.Lent.{data_of};
 
 use crate::pods::is_active;
 use meta::Object;
-use owners::controlled_by::{controls_with, has_controller, is_controlled_by};
-use owners::owned_by::is_text;
-use readings::in_spec;
-use selector::{Fault, Selector};
+use object_fields::in_spec;
+use owner_references::controlled_by::{controls_with, has_controller, is_controlled_by};
+use owner_references::owned_by::is_text;
+use selector::{Selector, SelectorFault};
 use serde_json::Value;
 use std::alloc::{AllocError, Global};
 
@@ -23,7 +23,7 @@ pub(crate) fn selector_of(alloc: Global, set: &Object) -> Result<Option<Selector
     match in_spec(set, "selector") {
         Some(value) => match Selector::of_value(alloc, value) {
             Ok(selector) => Ok(Some(selector)),
-            Err(Fault::NoMemory) => Err(AllocError),
+            Err(SelectorFault::NoMemory) => Err(AllocError),
             Err(_) => Ok(None),
         },
         None => Ok(None),

@@ -2,11 +2,11 @@
 ghost use Rattle.std.specs.Prelude.{◌≡◌, true, pos, if◌then◌else◌};
 ghost use Rattle.std.specs.List.{list_all};
 ghost use Rattle.std.specs.Str.Parse.{signed_digits_value};
-ghost use Rattle.definitions.specs.Moments.{is_digit};
-ghost use Rattle.plans.specs.PodRanks.{after_minus, cost, deletion_cost, is_decimal, is_of_32_bits};
+ghost use Rattle.spec_api.specs.Moments.{is_digit};
+ghost use Rattle.spec_reconcile.specs.PodRanks.{after_minus, cost, deletion_cost, is_decimal, is_of_32_bits};
 
 use meta::Object;
-use readings::text_in;
+use object_fields::text_in;
 
 /// Returns whether each byte is a decimal digit.
 fn are_digits(bytes: &[u8]) -> bool

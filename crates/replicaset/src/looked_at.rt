@@ -1,13 +1,13 @@
 //! What a worker looks at for a ReplicaSet.
 ghost use Rattle.std.specs.Prelude.{◌≡◌, IfOk, map};
-ghost use Rattle.plans.specs.ReplicaSets.{set_looked_at, pods_looked_at};
-ghost use Rattle.readings.specs.Lent.{data_of};
-ghost use Rattle.turns.specs.Entries.{entry_of};
-ghost use Rattle.turns.specs.Hands.{hand_of};
+ghost use Rattle.spec_reconcile.specs.ReplicaSets.{set_looked_at, pods_looked_at};
+ghost use Rattle.object_fields.specs.Lent.{data_of};
+ghost use Rattle.reconcile_types.specs.Entries.{entry_of};
+ghost use Rattle.reconcile_types.specs.Hands.{hand_of};
 
 use meta::Object;
+use reconcile_types::{Entry, Hand, Seen};
 use std::alloc::{AllocError, Global};
-use turns::{Entry, Hand, Seen};
 
 /// Returns the ReplicaSet of the turn, where it is there.
 pub(crate) fn set_looked_at<S: Seen>(hand: &Hand<S>) -> Option<&Object>

@@ -3,18 +3,18 @@ ghost use Rattle.std.specs.Prelude.{◌≡◌, ◌++◌, ◌∷◌, [], IfOk, On
 ghost use Rattle.serde_json.specs.Data.{object, put, no_members, no_items, item, array};
 ghost use Rattle.serde_json.specs.View.{view, items_view};
 ghost use Rattle.serde_json.specs.Written.{has_float, items_have_float};
-ghost use Rattle.definitions.specs.declared.kinds.Kind.TheVariants as kind;
-ghost use Rattle.definitions.specs.Metadata.{metadata_of};
-ghost use Rattle.definitions.specs.Replacements.{keeping};
-ghost use Rattle.keys.specs.Keys.{key_of};
-ghost use Rattle.plans.specs.NewPods.{template, copied, new_metadata, new_pod};
-ghost use Rattle.plans.specs.MetadataEdits.{controller_reference};
+ghost use Rattle.spec_api.specs.declared.kinds.Kind.TheVariants as kind;
+ghost use Rattle.spec_api.specs.Metadata.{metadata_of};
+ghost use Rattle.spec_api.specs.Replacements.{keeping};
+ghost use Rattle.object_keys.specs.Keys.{key_of};
+ghost use Rattle.spec_reconcile.specs.NewPods.{template, copied, new_metadata, new_pod};
+ghost use Rattle.spec_reconcile.specs.MetadataEdits.{controller_reference};
 
-use drafts::Draft;
-use keys::Key;
 use meta::{Kind, Object};
-use owners::edits::controller_reference;
-use readings::{blank, in_spec, inner};
+use metadata_editor::Draft;
+use object_fields::{blank, in_spec, inner};
+use object_keys::Key;
+use owner_references::edits::controller_reference;
 use serde_json::Value;
 use std::alloc::{AllocError, Global};
 

@@ -1,13 +1,13 @@
 //! The plan of a ReplicaSet.
 ghost use Rattle.std.specs.Prelude.{◌≡◌, ◌++◌, IfOk, OnOk, map};
-ghost use Rattle.keys.specs.Keys.{key_of};
-ghost use Rattle.plans.specs.PodClaims.{claims, own_pods};
-ghost use Rattle.plans.specs.ReplicaSets.{plan, plan_of, plan_with, report, scale_if};
-ghost use Rattle.readings.specs.Lent.{data_of};
+ghost use Rattle.object_keys.specs.Keys.{key_of};
+ghost use Rattle.spec_reconcile.specs.PodClaims.{claims, own_pods};
+ghost use Rattle.spec_reconcile.specs.ReplicaSets.{plan, plan_of, plan_with, report, scale_if};
+ghost use Rattle.object_fields.specs.Lent.{data_of};
 ghost use Rattle.replicaset.specs.Ranks.{AreRead, pods_of};
-ghost use Rattle.turns.specs.Commands.{command_of, commands_of};
-ghost use Rattle.turns.specs.Entries.{entry_of};
-ghost use Rattle.turns.specs.Hands.{hand_of};
+ghost use Rattle.reconcile_types.specs.Commands.{command_of, commands_of};
+ghost use Rattle.reconcile_types.specs.Entries.{entry_of};
+ghost use Rattle.reconcile_types.specs.Hands.{hand_of};
 
 use crate::claiming::claim_pods;
 use crate::claims::{may_adopt, selector_of};
@@ -15,11 +15,11 @@ use crate::looked_at::{pods_looked_at, set_looked_at};
 use crate::ranks::Ranked;
 use crate::scaling::add_scale;
 use crate::statuses::add_report;
-use keys::Key;
 use meta::Object;
+use object_keys::Key;
+use reconcile_types::hands::live;
+use reconcile_types::{Command, Entry, Hand, Plan, Seen};
 use std::alloc::{AllocError, Global};
-use turns::hands::live;
-use turns::{Command, Entry, Hand, Plan, Seen};
 
 /// Adds the commands that create pods or delete them, where all that was expected has been seen and the set is not being
 /// deleted. The error is running out of memory.

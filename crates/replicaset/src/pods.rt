@@ -1,12 +1,12 @@
 //! What a pod says.
 ghost use Rattle.std.specs.Prelude.{◌≡◌};
 ghost use Rattle.serde_json.specs.View.{view, items_view};
-ghost use Rattle.plans.specs.Pods.{phase, is_active, is_ready_condition, any_item, is_ready};
-ghost use Rattle.plans.specs.PodRanks.{node, creation};
+ghost use Rattle.spec_reconcile.specs.Pods.{phase, is_active, is_ready_condition, any_item, is_ready};
+ghost use Rattle.spec_reconcile.specs.PodRanks.{node, creation};
 
 use meta::Object;
-use owners::owned_by::is_text;
-use readings::{in_spec, in_status, text_at, text_in};
+use object_fields::{in_spec, in_status, text_at, text_in};
+use owner_references::owned_by::is_text;
 use serde_json::Value;
 
 /// Returns the pod's phase; the empty text where it has none.

@@ -1,19 +1,19 @@
 //! The ranks of a ReplicaSet's pods: which are deleted first.
 ghost use Rattle.std.specs.Prelude.{◌≡◌, OnOk, map};
 ghost use Rattle.std.specs.Ordering.{on};
-ghost use Rattle.plans.specs.Orders.{in_order};
-ghost use Rattle.plans.specs.PodRanks.{phase_rank, rank_cmp};
-ghost use Rattle.plans.specs.Pods.{phase};
+ghost use Rattle.spec_reconcile.specs.Orders.{in_order};
+ghost use Rattle.spec_reconcile.specs.PodRanks.{phase_rank, rank_cmp};
+ghost use Rattle.spec_reconcile.specs.Pods.{phase};
 ghost use Rattle.replicaset.specs.Ranks.{phase_of, rank_of, ranked_of, read, read_of, with_on_node};
-ghost use Rattle.turns.specs.Entries.{entry_of};
+ghost use Rattle.reconcile_types.specs.Entries.{entry_of};
 
 use crate::costs::deletion_cost;
 use crate::pods::{creation, is_ready, node, phase};
-use keys::Key;
 use meta::Object;
+use object_keys::Key;
+use reconcile_types::Entry;
 use std::alloc::AllocError;
 use std::cmp::Reverse;
-use turns::Entry;
 
 /// A pod's phase, as far as ranks go by it.
 #[derive(Clone, Copy, PartialEq, Eq, PartialOrd, Ord)]

@@ -1,12 +1,12 @@
 //! The owner references of pods that a ReplicaSet releases.
 ghost use Rattle.std.specs.Prelude.{◌≡◌, not, filter, map, IfOk};
 ghost use Rattle.serde_json.specs.View.{view};
-ghost use Rattle.definitions.specs.Metadata.{owner};
-ghost use Rattle.plans.specs.PodClaims.{is_to_controller, released};
+ghost use Rattle.spec_api.specs.Metadata.{owner};
+ghost use Rattle.spec_reconcile.specs.PodClaims.{is_to_controller, released};
 
 use crate::claims::is_to_controller;
 use meta::Object;
-use owners::edits::{references, with_list};
+use owner_references::edits::{references, with_list};
 use serde_json::Value;
 use std::alloc::{AllocError, Global};
 

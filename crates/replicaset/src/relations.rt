@@ -1,6 +1,6 @@
 //! What pods are to a ReplicaSet: which it owns, releases and adopts.
 ghost use Rattle.std.specs.Prelude.{◌≡◌};
-ghost use Rattle.definitions.specs.Checks.{requirements};
+ghost use Rattle.spec_api.specs.Checks.{requirements};
 ghost use Rattle.replicaset.specs.Relations.{is_own_as, relation};
 
 use crate::claims::{is_adoptable, is_owned, matches};

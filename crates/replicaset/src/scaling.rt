@@ -1,21 +1,21 @@
 //! The commands that create the pods that a ReplicaSet lacks, and delete those that are too many.
 ghost use Rattle.std.specs.Prelude.{◌≡◌, ◌++◌, OnOk, map, replicate};
-ghost use Rattle.definitions.specs.declared.kinds.Kind.TheVariants.{Pod};
-ghost use Rattle.controllers.specs.Commands.{create};
-ghost use Rattle.keys.specs.Keys.{key_of};
-ghost use Rattle.plans.specs.NewPods.{new_pod};
-ghost use Rattle.plans.specs.ReplicaSets.{scale};
+ghost use Rattle.spec_api.specs.declared.kinds.Kind.TheVariants.{Pod};
+ghost use Rattle.spec_client_go.specs.Commands.{create};
+ghost use Rattle.object_keys.specs.Keys.{key_of};
+ghost use Rattle.spec_reconcile.specs.NewPods.{new_pod};
+ghost use Rattle.spec_reconcile.specs.ReplicaSets.{scale};
 ghost use Rattle.replicaset.specs.Ranks.{AreRead, pods_of};
-ghost use Rattle.turns.specs.Commands.{command_of};
+ghost use Rattle.reconcile_types.specs.Commands.{command_of};
 
 use crate::new_pods::new_pod;
 use crate::ranks::Ranked;
 use crate::victims::delete_lowest;
-use keys::Key;
 use meta::Object;
-use reports::count_in_spec;
+use object_keys::Key;
+use reconcile_status::count_in_spec;
+use reconcile_types::Command;
 use std::alloc::{AllocError, Global};
-use turns::Command;
 
 /// At most so many pods are created or deleted in one turn.
 const MOST: u64 = 500;

@@ -1,21 +1,21 @@
 //! The command by which a ReplicaSet's status is updated.
 ghost use Rattle.std.specs.Prelude.{◌≡◌, ◌++◌, IfOk, OnOk, map, length};
 ghost use Rattle.serde_json.specs.Data.{object, put};
-ghost use Rattle.definitions.specs.Defaults.{unsigned_value};
-ghost use Rattle.definitions.specs.Replacements.{generation, says_the_same};
-ghost use Rattle.definitions.specs.Values.{members_of};
-ghost use Rattle.keys.specs.Keys.{key_of};
-ghost use Rattle.plans.specs.ReplicaSets.{new_status, report, status, with_counts, with_status};
+ghost use Rattle.spec_api.specs.Defaults.{unsigned_value};
+ghost use Rattle.spec_api.specs.Replacements.{generation, says_the_same};
+ghost use Rattle.spec_api.specs.Values.{members_of};
+ghost use Rattle.object_keys.specs.Keys.{key_of};
+ghost use Rattle.spec_reconcile.specs.ReplicaSets.{new_status, report, status, with_counts, with_status};
 ghost use Rattle.replicaset.specs.Ranks.{AreRead, pods_of};
-ghost use Rattle.turns.specs.Commands.{command_of};
+ghost use Rattle.reconcile_types.specs.Commands.{command_of};
 
 use crate::own_pods::count_ready;
 use crate::ranks::Ranked;
-use keys::Key;
 use meta::Object;
-use reports::{status, with_count};
+use object_keys::Key;
+use reconcile_status::{status, with_count};
+use reconcile_types::Command;
 use std::alloc::{AllocError, Global};
-use turns::Command;
 
 /// Returns the set's status with these counts. The error is running out of memory.
 fn with_counts(alloc: Global, set: &Object, count: u64, ready: u64) -> Result<Object, AllocError>
@@ -51,5 +51,5 @@ pub(crate) fn add_report(
         ≡ map command_of commands.old.items ++ report (key_of key.now) set.now.value (pods_of pods.now)) }
 {
     let new = new_status(alloc, set, pods)?;
-    reports::add_report(alloc, key, set, new, commands)
+    reconcile_status::add_report(alloc, key, set, new, commands)
 }

@@ -1,18 +1,18 @@
 //! The pods that a ReplicaSet deletes where it has too many.
 ghost use Rattle.std.specs.Prelude.{◌≡◌, ◌++◌, IfOk, OnOk, map, take};
-ghost use Rattle.plans.specs.PodRanks.{ranked};
-ghost use Rattle.plans.specs.ReplicaSets.{delete_pod};
+ghost use Rattle.spec_reconcile.specs.PodRanks.{ranked};
+ghost use Rattle.spec_reconcile.specs.ReplicaSets.{delete_pod};
 ghost use Rattle.replicaset.specs.Nodes.{count_at};
 ghost use Rattle.replicaset.specs.Ranks.{AreRead, pods_of, rank_of, ranked_of, with_on_node};
 ghost use Rattle.replicaset.specs.declared.ranks.Ranked.{Ranked};
-ghost use Rattle.turns.specs.Commands.{command_of};
-ghost use Rattle.turns.specs.Entries.{entry_of};
+ghost use Rattle.reconcile_types.specs.Commands.{command_of};
+ghost use Rattle.reconcile_types.specs.Entries.{entry_of};
 
 use crate::nodes::{count_at, count_by_node};
 use crate::ranks::{Ranked, beside, sort};
+use reconcile_types::{Command, Entry};
 use std::alloc::{AllocError, Global};
 use std::collections::BTreeMap;
-use turns::{Command, Entry};
 
 /// Returns the pods with what was counted on their nodes, in the order of the pods. The error is running out of memory.
 fn with_counts<'a>(

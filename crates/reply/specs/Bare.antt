@@ -1,7 +1,7 @@
 -- The body of a refusal before its details are put into it.
 use Rattle.std.specs.Prelude.{codes}
 use Rattle.serde_json.specs.Data.{Data, number, unsigned, string, object, no_members, member}
-use Rattle.definitions.specs.Refusals.{Refusal, code, message, told}
+use Rattle.spec_api.specs.Refusals.{Refusal, code, message, told}
 
 -- the members that each refusal has
 abbrev pub bare_body : Refusal → Data

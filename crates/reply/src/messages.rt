@@ -1,10 +1,10 @@
 //! What people are told of a fault.
 ghost use Rattle.std.specs.Prelude.{◌≡◌, IfOk, string_bytes};
-ghost use Rattle.definitions.specs.Refusals.{message, quoted_name};
-ghost use Rattle.keys.specs.Faults.{refusal_of};
-ghost use Rattle.keys.specs.Keys.{key_of};
+ghost use Rattle.spec_api.specs.Refusals.{message, quoted_name};
+ghost use Rattle.object_keys.specs.Faults.{refusal_of};
+ghost use Rattle.object_keys.specs.Keys.{key_of};
 
-use keys::{Fault, Key};
+use object_keys::{Fault, Key};
 use std::alloc::{AllocError, Global};
 
 /// Returns a resource and a name in quotes, as `configmaps "a"`. The error is running out of memory.

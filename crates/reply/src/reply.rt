@@ -1,7 +1,7 @@
 //! Replies.
 
 use crate::statuses::{code, text};
-use keys::Fault;
+use object_keys::Fault;
 use std::alloc::{AllocError, Global};
 
 /// What a client is sent: an HTTP status code, and a body.
@@ -16,8 +16,8 @@ pub struct Reply {
 impl Reply {
     ghost use Rattle.std.specs.Prelude.{◌≡◌, IfOk, string_bytes};
     ghost use Rattle.serde_json.specs.Written.{compact_text};
-    ghost use Rattle.definitions.specs.Refusals.{code, status_body};
-    ghost use Rattle.keys.specs.Faults.{refusal_of};
+    ghost use Rattle.spec_api.specs.Refusals.{code, status_body};
+    ghost use Rattle.object_keys.specs.Faults.{refusal_of};
 
     /// Returns the reply that refuses a request. The error is running out of memory.
     pub fn refusal(alloc: Global, fault: &Fault) -> Result<Reply, AllocError>

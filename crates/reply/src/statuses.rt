@@ -3,14 +3,14 @@ ghost use Rattle.std.specs.Prelude.{◌≡◌, IfOk, string_bytes, option_map, c
 ghost use Rattle.serde_json.specs.Data.{string, no_members, member};
 ghost use Rattle.serde_json.specs.View.{view};
 ghost use Rattle.serde_json.specs.Written.{compact_text};
-ghost use Rattle.definitions.specs.Refusals.{code, told, details, status_body, success_body};
+ghost use Rattle.spec_api.specs.Refusals.{code, told, details, status_body, success_body};
 ghost use Rattle.reply.specs.Bare.{bare_body};
-ghost use Rattle.keys.specs.Faults.{refusal_of};
-ghost use Rattle.keys.specs.Keys.{key_of};
+ghost use Rattle.object_keys.specs.Faults.{refusal_of};
+ghost use Rattle.object_keys.specs.Keys.{key_of};
 
 use crate::messages::message;
 use json_values::values::with_member;
-use keys::{Fault, Key};
+use object_keys::{Fault, Key};
 use serde_json::{Value, json};
 use std::alloc::{AllocError, Global};
 

@@ -2,37 +2,37 @@
 use Rattle.std.proofs.Common.{◌≡◌, ◌+◌, ◌==◌, ◌&&◌, ◌||◌, ℕ, List, Bool, true, false, cond, not, length, is_some, nat_le, Option, Some, None, IfSome, Result, Ok, Err, refl, subst}
 use Rattle.serde_json.specs.Data.{Data}
 use Rattle.serde_json.specs.Events.{items_len}
-use Rattle.definitions.specs.declared.kinds.Kind.{Kind}
-use Rattle.definitions.specs.declared.refusals.Field.TheVariants as field
-use Rattle.definitions.specs.declared.refusals.Mismatch.TheVariants as mismatch
-use Rattle.definitions.specs.declared.refusals.Part.{Part}
-use Rattle.definitions.specs.declared.refusals.Part.TheVariants as part
-use Rattle.definitions.specs.Checks.{create_fault, update_fault, finalizers, is_status_valid}
-use Rattle.definitions.specs.DeleteOptions.{Options}
-use Rattle.definitions.specs.Deletion.{Fate, remove, mark, keep, decided, fate, kept_code, leaves, left_by, being_deleted, removal_of}
-use Rattle.definitions.specs.History as history
-use Rattle.definitions.specs.History.{History, Write, entries_at, found, present}
-use Rattle.definitions.specs.Keys.{Key}
-use Rattle.definitions.specs.Kinds.{has_status}
-use Rattle.definitions.specs.Metadata.{metadata_of, at_revision, namespace, uid, version, differs, is_being_deleted}
-use Rattle.definitions.specs.Metadata.{is_other}
-use Rattle.definitions.specs.NewObjects.{with_first_status, created}
-use Rattle.definitions.specs.ObjectRequests.{Request, get_object, list_objects, create_object, update_object, update_status, patch_object, delete_object}
-use Rattle.definitions.specs.Reached.{CanBeRead, IsParsed}
-use Rattle.definitions.specs.Reading.{reading, is_body}
-use Rattle.definitions.specs.Refusals.{Refusal, bad_request, not_found, already_exists, conflict, invalid, too_large, storage_full}
-use Rattle.definitions.specs.Replacements.{in_place, updated, with_status_in, is_finalized, says_the_same}
-use Rattle.definitions.specs.Values.{members_of, merged}
-use Rattle.definitions.specs.Verbs.{Outcome, answered, refused, accept, shown, stored, removed, refuse_if, refuse_field, is_too_large, is_past_greatest, most_objects, object_in, create, new_name, names_path, take_out, put_in_place, replace, replace_status, by_decision}
-use Rattle.definitions.proofs.VerbSteps.{by_fate, delete, create_read, update_read, replace_with, replace_changed, status_read, restate, patch, patch_read, status_put}
-use Rattle.laws.proofs.Guards.{guard, guard_field, there, either}
-use Rattle.laws.proofs.Parsed.{parsed_said, parsed_merged}
-use Rattle.laws.proofs.SentObjects.{IsStored, IsHeld, Stores, low_after}
-use Rattle.laws.proofs.SentVerbs.{stores}
-use Rattle.laws.proofs.Stored.{all_stored, found_held}
-use Rattle.laws.proofs.WholeObjects.{AreWhole, whole_said}
-use Rattle.answer_laws.specs.AnswerLaws.{IsReadBack, IsOfObject, AnswersAreReadBack}
-use Rattle.answer_laws.proofs.Removals.{stored_back, updated_back, removal_back}
+use Rattle.spec_api.specs.declared.kinds.Kind.{Kind}
+use Rattle.spec_api.specs.declared.refusals.Field.TheVariants as field
+use Rattle.spec_api.specs.declared.refusals.Mismatch.TheVariants as mismatch
+use Rattle.spec_api.specs.declared.refusals.Part.{Part}
+use Rattle.spec_api.specs.declared.refusals.Part.TheVariants as part
+use Rattle.spec_api.specs.Checks.{create_fault, update_fault, finalizers, is_status_valid}
+use Rattle.spec_api.specs.DeleteOptions.{Options}
+use Rattle.spec_api.specs.Deletion.{Fate, remove, mark, keep, decided, fate, kept_code, leaves, left_by, being_deleted, removal_of}
+use Rattle.spec_api.specs.History as history
+use Rattle.spec_api.specs.History.{History, Write, entries_at, found, present}
+use Rattle.spec_api.specs.Keys.{Key}
+use Rattle.spec_api.specs.Kinds.{has_status}
+use Rattle.spec_api.specs.Metadata.{metadata_of, at_revision, namespace, uid, version, differs, is_being_deleted}
+use Rattle.spec_api.specs.Metadata.{is_other}
+use Rattle.spec_api.specs.NewObjects.{with_first_status, created}
+use Rattle.spec_api.specs.ObjectRequests.{Request, get_object, list_objects, create_object, update_object, update_status, patch_object, delete_object}
+use Rattle.spec_api.specs.Reached.{CanBeRead, IsParsed}
+use Rattle.spec_api.specs.Reading.{reading, is_body}
+use Rattle.spec_api.specs.Refusals.{Refusal, bad_request, not_found, already_exists, conflict, invalid, too_large, storage_full}
+use Rattle.spec_api.specs.Replacements.{in_place, updated, with_status_in, is_finalized, says_the_same}
+use Rattle.spec_api.specs.Values.{members_of, merged}
+use Rattle.spec_api.specs.Verbs.{Outcome, answered, refused, accept, shown, stored, removed, refuse_if, refuse_field, is_too_large, is_past_greatest, most_objects, object_in, create, new_name, names_path, take_out, put_in_place, replace, replace_status, by_decision}
+use Rattle.spec_api.proofs.VerbSteps.{by_fate, delete, create_read, update_read, replace_with, replace_changed, status_read, restate, patch, patch_read, status_put}
+use Rattle.spec_laws.proofs.Guards.{guard, guard_field, there, either}
+use Rattle.spec_laws.proofs.Parsed.{parsed_said, parsed_merged}
+use Rattle.spec_laws.proofs.SentObjects.{IsStored, IsHeld, Stores, low_after}
+use Rattle.spec_laws.proofs.SentVerbs.{stores}
+use Rattle.spec_laws.proofs.Stored.{all_stored, found_held}
+use Rattle.spec_laws.proofs.WholeObjects.{AreWhole, whole_said}
+use Rattle.reply_laws.specs.AnswerLaws.{IsReadBack, IsOfObject, AnswersAreReadBack}
+use Rattle.reply_laws.proofs.Removals.{stored_back, updated_back, removal_back}
 
 -- ---- where an answer comes from
 

@@ -4,28 +4,28 @@ use Rattle.std.specs.Str.{IsUtf8}
 use Rattle.json.proofs.Printed.Utf8.{are_ascii, IsUtf8-are_ascii}
 use Rattle.serde_json.specs.Data.{Data, null, boolean, number, string, array, object, Members}
 use Rattle.serde_json.specs.Find.{as_str, get_member}
-use Rattle.definitions.specs.declared.kinds.Kind.{Kind}
-use Rattle.definitions.specs.declared.kinds.Kind.TheVariants.{ConfigMap, Pod, ReplicaSet, Deployment}
-use Rattle.definitions.specs.declared.schemas.Schema.TheVariants.{Metadata}
-use Rattle.definitions.specs.Deletion.{gone, removal_of}
-use Rattle.definitions.specs.Keys.{Key}
-use Rattle.definitions.specs.Metadata.{metadata_of, at_revision, uid}
-use Rattle.definitions.specs.Reading.{reading}
-use Rattle.definitions.specs.Refusals.{success_body}
-use Rattle.definitions.specs.Reached.{IsParsed, AreInOrder}
-use Rattle.definitions.specs.Replacements.{in_place, updated, is_new_generation, next_generation, generation, with_next_generation}
-use Rattle.definitions.proofs.JsonMembers.{text_in}
-use Rattle.definitions.proofs.NoFloatsRead.{has_float-is_body}
-use Rattle.laws.proofs.NeatMembers.{Neat}
-use Rattle.laws.proofs.Parsed.{Both, found_in}
-use Rattle.laws.proofs.ParsedObjects.{meta as meta_of, at, placed, counted}
-use Rattle.laws.proofs.ReadBack.{read_back}
-use Rattle.laws.proofs.SentChanges.{read_body, nests}
-use Rattle.laws.proofs.SentObjects.{IsStored, filled_decimal, neat_generation, whole_stored}
-use Rattle.laws.proofs.WholeObjects.{AreWhole, neat_metadata, reads_whole, whole_at, whole_in_place}
+use Rattle.spec_api.specs.declared.kinds.Kind.{Kind}
+use Rattle.spec_api.specs.declared.kinds.Kind.TheVariants.{ConfigMap, Pod, ReplicaSet, Deployment}
+use Rattle.spec_api.specs.declared.schemas.Schema.TheVariants.{Metadata}
+use Rattle.spec_api.specs.Deletion.{gone, removal_of}
+use Rattle.spec_api.specs.Keys.{Key}
+use Rattle.spec_api.specs.Metadata.{metadata_of, at_revision, uid}
+use Rattle.spec_api.specs.Reading.{reading}
+use Rattle.spec_api.specs.Refusals.{success_body}
+use Rattle.spec_api.specs.Reached.{IsParsed, AreInOrder}
+use Rattle.spec_api.specs.Replacements.{in_place, updated, is_new_generation, next_generation, generation, with_next_generation}
+use Rattle.spec_api.proofs.JsonMembers.{text_in}
+use Rattle.spec_api.proofs.NoFloatsRead.{has_float-is_body}
+use Rattle.spec_laws.proofs.NeatMembers.{Neat}
+use Rattle.spec_laws.proofs.Parsed.{Both, found_in}
+use Rattle.spec_laws.proofs.ParsedObjects.{meta as meta_of, at, placed, counted}
+use Rattle.spec_laws.proofs.ReadBack.{read_back}
+use Rattle.spec_laws.proofs.SentChanges.{read_body, nests}
+use Rattle.spec_laws.proofs.SentObjects.{IsStored, filled_decimal, neat_generation, whole_stored}
+use Rattle.spec_laws.proofs.WholeObjects.{AreWhole, neat_metadata, reads_whole, whole_at, whole_in_place}
 use Rattle.serde_json.specs.Data.{no_members, member}
-use Rattle.definitions.specs.Values.{members_of}
-use Rattle.answer_laws.specs.AnswerLaws.{IsReadBack}
+use Rattle.spec_api.specs.Values.{members_of}
+use Rattle.reply_laws.specs.AnswerLaws.{IsReadBack}
 
 -- ---- an object
 

@@ -3,10 +3,10 @@ use Rattle.std.specs.Prelude.{◌≡◌, ℕ, List, Some}
 use Rattle.serde_json.specs.Data.{Data}
 use Rattle.serde_json.specs.Read.{read}
 use Rattle.serde_json.specs.Written.{compact_text}
-use Rattle.definitions.specs.History.{History}
-use Rattle.definitions.specs.ObjectRequests.{Request, list_objects}
-use Rattle.definitions.specs.Reached.{CanBeRead, IsTimestamp, IsReached}
-use Rattle.definitions.specs.Verbs.{Answer, accept, answered}
+use Rattle.spec_api.specs.History.{History}
+use Rattle.spec_api.specs.ObjectRequests.{Request, list_objects}
+use Rattle.spec_api.specs.Reached.{CanBeRead, IsTimestamp, IsReached}
+use Rattle.spec_api.specs.Verbs.{Answer, accept, answered}
 
 -- the text of this data is read as it
 abbrev pub IsReadBack : Data → Type 0

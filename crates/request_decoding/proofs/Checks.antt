@@ -1,10 +1,10 @@
 -- Requests, from what their checks say.
 use Rattle.std.proofs.Common.{◌≡◌, ℕ, List, Result, ap, sym, ◌∙◌}
-use Rattle.definitions.specs.declared.methods.Method.{Method}
-use Rattle.definitions.specs.Refusals.{Refusal}
-use Rattle.definitions.specs.Targets.{Route, read_request, decoded}
-use Rattle.requests.proofs.Wholes.{checks_first}
-use Rattle.requests.specs.Checked.{asked_after, checked_at}
+use Rattle.spec_api.specs.declared.methods.Method.{Method}
+use Rattle.spec_api.specs.Refusals.{Refusal}
+use Rattle.spec_api.specs.Targets.{Route, read_request, decoded}
+use Rattle.request_parts.proofs.Wholes.{checks_first}
+use Rattle.request_parts.specs.Checked.{asked_after, checked_at}
 
 -- what is asked is what the checks of its decoded target leave
 pub checked-asks : (method : Method) (target text decoded_text : List ℕ) (checked : Result Route Refusal)

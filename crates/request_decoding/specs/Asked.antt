@@ -3,19 +3,19 @@ use Rattle.std.specs.Prelude.{◌≡◌, ◌⊎◌, Result, Ok, Err}
 use Rattle.serde_json.specs.Data.{Data}
 use Rattle.serde_json.specs.View.{view}
 use Rattle.serde_json.specs.declared.value.Value.{Value}
-use Rattle.definitions.specs.DeleteOptions.{Options}
-use Rattle.definitions.specs.Refusals.{Refusal}
-use Rattle.definitions.specs.Targets as targets
+use Rattle.spec_api.specs.DeleteOptions.{Options}
+use Rattle.spec_api.specs.Refusals.{Refusal}
+use Rattle.spec_api.specs.Targets as targets
 use Rattle.lifecycle.specs.Options.{options_seen}
 use Rattle.lifecycle.specs.declared.options.DeleteOptions.{DeleteOptions}
-use Rattle.keys.specs.Faults.{refusal_of}
-use Rattle.keys.specs.declared.fault.Fault.{Fault}
-use Rattle.keys.specs.declared.fault.Fault.TheVariants as fault
-use Rattle.requests.specs.Requests.{request_of}
-use Rattle.requests.specs.Collected.{list_seen, watch_seen}
+use Rattle.object_keys.specs.Faults.{refusal_of}
+use Rattle.object_keys.specs.declared.fault.Fault.{Fault}
+use Rattle.object_keys.specs.declared.fault.Fault.TheVariants as fault
+use Rattle.request_parts.specs.Requests.{request_of}
+use Rattle.request_parts.specs.Collected.{list_seen, watch_seen}
 use Rattle.selector.specs.Views.{view_of}
-use Rattle.asked.specs.declared.meaning.Asked.{Asked}
-use Rattle.asked.specs.declared.meaning.Asked.TheVariants.{Request, List, Watch}
+use Rattle.request_decoding.specs.declared.meaning.Asked.{Asked}
+use Rattle.request_decoding.specs.declared.meaning.Asked.TheVariants.{Request, List, Watch}
 
 -- what is asked as the definitions say it
 abbrev pub asked_seen : Asked → targets.Asked

@@ -1,28 +1,28 @@
 //! What a method, a target and a body ask for.
 ghost use Rattle.std.specs.Prelude.{◌≡◌, IfOk, option_map, string_bytes};
-ghost use Rattle.definitions.specs.Targets.{asked, read_as, selected, asked_with, body_of, delete_options, query_for, read_request};
-ghost use Rattle.keys.specs.Faults.{refusal_of};
-ghost use Rattle.keys.specs.Keys.{key_of};
-ghost use Rattle.requests.specs.Collected.{collection_seen, read_seen};
-ghost use Rattle.requests.specs.Queried.{query_seen};
-ghost use Rattle.routes.specs.Seen.{now, route_seen};
-ghost use Rattle.asked.specs.Asked.{Asks, ReadsData, ReadsDelete, asked_seen};
+ghost use Rattle.spec_api.specs.Targets.{asked, read_as, selected, asked_with, body_of, delete_options, query_for, read_request};
+ghost use Rattle.object_keys.specs.Faults.{refusal_of};
+ghost use Rattle.object_keys.specs.Keys.{key_of};
+ghost use Rattle.request_parts.specs.Collected.{collection_seen, read_seen};
+ghost use Rattle.request_parts.specs.Queried.{query_seen};
+ghost use Rattle.request_routing.specs.Seen.{now, route_seen};
+ghost use Rattle.request_decoding.specs.Asked.{Asks, ReadsData, ReadsDelete, asked_seen};
 
 use crate::meaning::Asked;
-use definitions::kinds::Kind;
-use definitions::methods::Method;
-use definitions::refusals::Part;
-use keys::{Fault, Key};
 use lifecycle::DeleteOptions;
-use requests::Request;
-use requests::body::{BodyFault, is_too_long, read_body};
-use requests::check::{check_request, decode};
-use requests::collections::{Collection, Read};
-use requests::query::{Query, read_query};
-use routes::table::Routes;
-use routes::targets::Target;
+use object_keys::{Fault, Key};
+use request_parts::Request;
+use request_parts::body::{BodyFault, is_too_long, read_body};
+use request_parts::check::{check_request, decode};
+use request_parts::collections::{Collection, CollectionRead};
+use request_parts::query::{Query, read_query};
+use request_routing::table::Routes;
+use request_routing::targets::Target;
 use selector::View;
 use serde_json::Value;
+use spec_api::kinds::Kind;
+use spec_api::methods::Method;
+use spec_api::refusals::Part;
 use std::alloc::{AllocError, Global};
 
 /// Returns what a method, a target and a body ask. The error is the first refusal: of the path, the method, the query, the
@@ -119,8 +119,8 @@ fn read_as(kind: Kind, namespace: Option<String>, collection: Collection) -> Ask
         fields: collection.fields,
     };
     match collection.read {
-        Read::List(options) => Asked::List { view, options },
-        Read::Watch(options) => Asked::Watch { view, options },
+        CollectionRead::List(options) => Asked::List { view, options },
+        CollectionRead::Watch(options) => Asked::Watch { view, options },
     }
 }
 

@@ -1,7 +1,7 @@
 //! What is asked.
-use requests::Request;
-use requests::list_options::ListOptions;
-use requests::watch_options::WatchOptions;
+use request_parts::Request;
+use request_parts::list_options::ListOptions;
+use request_parts::watch_options::WatchOptions;
 use selector::View;
 
 /// What a method, a target and a body ask: a request, the list of a view, or a watch of it.

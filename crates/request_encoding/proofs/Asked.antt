@@ -6,22 +6,22 @@ use Rattle.form_urlencoded.specs.Form.{raw_pairs}
 use Rattle.form_urlencoded.proofs.FormLemmas.{raw_pairs-nil}
 use Rattle.serde_json.specs.Data.{Data}
 use Rattle.serde_json.specs.Read.{read}
-use Rattle.definitions.proofs.Truths.{left_true}
-use Rattle.definitions.specs.declared.kinds.Kind.{Kind}
-use Rattle.definitions.specs.declared.methods.Method.{Method}
-use Rattle.definitions.specs.declared.methods.Method.TheVariants.{Get, Post, Put, Patch, Delete}
-use Rattle.definitions.specs.declared.policies.StatedPolicy.TheVariants.{Nothing}
-use Rattle.definitions.specs.Keys.{Key, is_namespace}
-use Rattle.definitions.specs.Kinds.{has_status}
-use Rattle.definitions.specs.DeleteOptions.{Options, options_of}
-use Rattle.definitions.specs.ListQueries.{everything}
-use Rattle.definitions.specs.ObjectRequests.{get_object, create_object, update_object, update_status, patch_object, delete_object}
-use Rattle.definitions.specs.Queries.{pairs_of}
-use Rattle.definitions.specs.Refusals.{too_large}
-use Rattle.definitions.specs.Targets.{Query, Route, collection, object_at, status_of, route, path_of, path_text, names_namespace, is_allowed, query_for, is_too_long, asked, asked_with, asked_at, decoded, body_of, delete_options, read_request}
-use Rattle.request_texts.specs.Texts.{is_segment, is_address, taken}
-use Rattle.request_texts.proofs.Segments.{is_path, whole_path, no_query}
-use Rattle.request_texts.proofs.Routed.{collection_routed, object_routed, status_routed, collection_clear, object_clear, status_clear}
+use Rattle.spec_api.proofs.Truths.{left_true}
+use Rattle.spec_api.specs.declared.kinds.Kind.{Kind}
+use Rattle.spec_api.specs.declared.methods.Method.{Method}
+use Rattle.spec_api.specs.declared.methods.Method.TheVariants.{Get, Post, Put, Patch, Delete}
+use Rattle.spec_api.specs.declared.policies.StatedPolicy.TheVariants.{Nothing}
+use Rattle.spec_api.specs.Keys.{Key, is_namespace}
+use Rattle.spec_api.specs.Kinds.{has_status}
+use Rattle.spec_api.specs.DeleteOptions.{Options, options_of}
+use Rattle.spec_api.specs.ListQueries.{everything}
+use Rattle.spec_api.specs.ObjectRequests.{get_object, create_object, update_object, update_status, patch_object, delete_object}
+use Rattle.spec_api.specs.Queries.{pairs_of}
+use Rattle.spec_api.specs.Refusals.{too_large}
+use Rattle.spec_api.specs.Targets.{Query, Route, collection, object_at, status_of, route, path_of, path_text, names_namespace, is_allowed, query_for, is_too_long, asked, asked_with, asked_at, decoded, body_of, delete_options, read_request}
+use Rattle.request_encoding.specs.Texts.{is_segment, is_address, taken}
+use Rattle.request_encoding.proofs.Segments.{is_path, whole_path, no_query}
+use Rattle.request_encoding.proofs.Routed.{collection_routed, object_routed, status_routed, collection_clear, object_clear, status_clear}
 
 -- a query of which nothing counts
 abbrev pub quiet : Query

@@ -2,12 +2,12 @@
 use Rattle.std.proofs.Common.{◌≡◌, ℕ, List, [], ◌∷◌, Bool, true, false, ◌&&◌, ◌==◌, nat_lt, nat_le, length, slice_index, ◌-◌, refl, arith}
 use Rattle.std.proofs.lemmas.Bool.Decides.{nat_tests}
 use Rattle.std.specs.List.{list_all, slice_split, onto_first}
-use Rattle.definitions.proofs.Truths.{and_true, both_true, left_true, right_true}
-use Rattle.definitions.specs.Keys.{is_letter_or_digit, is_label, is_namespace, is_subdomain}
-use Rattle.definitions.specs.Targets.{is_filled}
-use Rattle.request_texts.specs.Texts.{is_of_segment, is_segment}
-use Rattle.request_texts.specs.Laws.{StoredKeysAreAddresses}
-use Rattle.request_texts.proofs.Segments.{is_domain_byte, domain_of_segment}
+use Rattle.spec_api.proofs.Truths.{and_true, both_true, left_true, right_true}
+use Rattle.spec_api.specs.Keys.{is_letter_or_digit, is_label, is_namespace, is_subdomain}
+use Rattle.spec_api.specs.Targets.{is_filled}
+use Rattle.request_encoding.specs.Texts.{is_of_segment, is_segment}
+use Rattle.request_encoding.specs.Laws.{StoredKeysAreAddresses}
+use Rattle.request_encoding.proofs.Segments.{is_domain_byte, domain_of_segment}
 
 abbrev is_dot : ℕ → Bool
 is_dot b = b == 46

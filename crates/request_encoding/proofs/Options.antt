@@ -4,13 +4,13 @@ use Rattle.std.proofs.lemmas.Bool.Decides.{nat_tests}
 use Rattle.serde_json.specs.Data.{depth}
 use Rattle.serde_json.specs.Read.{max_depth}
 use Rattle.serde_json.specs.Written.{compact_text, has_float}
-use Rattle.definitions.proofs.Truths.{both_true}
-use Rattle.definitions.specs.declared.policies.Policy.{Policy}
-use Rattle.definitions.specs.declared.policies.Policy.TheVariants.{Orphan, Foreground, Background}
-use Rattle.definitions.specs.DeleteOptions.{Options, options_of}
-use Rattle.definitions.specs.Targets.{is_filled}
-use Rattle.request_texts.specs.Texts.{is_named, are_named}
-use Rattle.request_texts.specs.Deletes.{options_data}
+use Rattle.spec_api.proofs.Truths.{both_true}
+use Rattle.spec_api.specs.declared.policies.Policy.{Policy}
+use Rattle.spec_api.specs.declared.policies.Policy.TheVariants.{Orphan, Foreground, Background}
+use Rattle.spec_api.specs.DeleteOptions.{Options, options_of}
+use Rattle.spec_api.specs.Targets.{is_filled}
+use Rattle.request_encoding.specs.Texts.{is_named, are_named}
+use Rattle.request_encoding.specs.Deletes.{options_data}
 
 some_byte : (t : List ℕ) → is_filled t ≡ true → (length t == 0) ≡ false
 some_byte t h = grind (arith, nat_tests)

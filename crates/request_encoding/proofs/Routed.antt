@@ -1,16 +1,16 @@
 -- The path of a route is read as that route.
 use Rattle.std.proofs.Common.{◌≡◌, ℕ, List, [], ◌∷◌, ◌++◌, true, Some, codes, append_assoc, refl, ap, ◌∙◌}
 use Rattle.std.specs.List.{list_all}
-use Rattle.definitions.proofs.Truths.{both_true}
-use Rattle.definitions.specs.declared.kinds.Group.{Group}
-use Rattle.definitions.specs.declared.kinds.Group.TheVariants.{Core, Apps}
-use Rattle.definitions.specs.declared.kinds.Kind.{Kind}
-use Rattle.definitions.specs.declared.kinds.Kind.TheVariants.{ConfigMap, Pod, ReplicaSet, Deployment}
-use Rattle.definitions.specs.Keys.{Key, is_namespace}
-use Rattle.definitions.specs.Kinds.{group, plural, has_status}
-use Rattle.definitions.specs.Targets.{collection, object_at, status_of, route, route_of, prefix, collection_text, object_text, segments, is_filled}
-use Rattle.request_texts.specs.Texts.{is_of_segment, is_segment, is_address}
-use Rattle.request_texts.proofs.Segments.{first_segment, last_segment, is_path, segment_is_path, joined_are_path, namespace_segment}
+use Rattle.spec_api.proofs.Truths.{both_true}
+use Rattle.spec_api.specs.declared.kinds.Group.{Group}
+use Rattle.spec_api.specs.declared.kinds.Group.TheVariants.{Core, Apps}
+use Rattle.spec_api.specs.declared.kinds.Kind.{Kind}
+use Rattle.spec_api.specs.declared.kinds.Kind.TheVariants.{ConfigMap, Pod, ReplicaSet, Deployment}
+use Rattle.spec_api.specs.Keys.{Key, is_namespace}
+use Rattle.spec_api.specs.Kinds.{group, plural, has_status}
+use Rattle.spec_api.specs.Targets.{collection, object_at, status_of, route, route_of, prefix, collection_text, object_text, segments, is_filled}
+use Rattle.request_encoding.specs.Texts.{is_of_segment, is_segment, is_address}
+use Rattle.request_encoding.proofs.Segments.{first_segment, last_segment, is_path, segment_is_path, joined_are_path, namespace_segment}
 
 -- ---- segments
 

@@ -2,11 +2,11 @@
 use Rattle.std.proofs.Common.{◌≡◌, ℕ, suc, ◌+◌, List, [], ◌∷◌, ◌++◌, Bool, true, false, not, ◌&&◌, ◌||◌, ◌==◌, nat_lt, nat_le, length, take, drop, slice_index, ◌-◌, refl, ap, ◌∙◌, arith}
 use Rattle.std.proofs.lemmas.Bool.Decides.{nat_tests}
 use Rattle.std.specs.List.{list_all, onto_first, prefix_len}
-use Rattle.definitions.proofs.Truths.{and_true, both_true, left_true, right_true}
-use Rattle.definitions.specs.Keys.{is_letter_or_digit, is_label, is_namespace}
-use Rattle.definitions.specs.Targets.{segments, is_filled, path_of}
-use Rattle.definitions.specs.Queries.{query_of}
-use Rattle.request_texts.specs.Texts.{is_visible, is_of_path, is_of_segment}
+use Rattle.spec_api.proofs.Truths.{and_true, both_true, left_true, right_true}
+use Rattle.spec_api.specs.Keys.{is_letter_or_digit, is_label, is_namespace}
+use Rattle.spec_api.specs.Targets.{segments, is_filled, path_of}
+use Rattle.spec_api.specs.Queries.{query_of}
+use Rattle.request_encoding.specs.Texts.{is_visible, is_of_path, is_of_segment}
 
 no_slash : (b : ℕ) → is_of_segment b ≡ true → (b == 47) ≡ false
 no_slash b h = grind (arith, nat_tests)

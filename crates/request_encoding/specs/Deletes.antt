@@ -1,9 +1,9 @@
 -- The body of a delete.
 use Rattle.std.specs.Prelude.{ℕ, List, Option, Some, None, codes}
 use Rattle.serde_json.specs.Data.{Data, string, object, Members, no_members, member}
-use Rattle.definitions.specs.declared.policies.Policy.{Policy}
-use Rattle.definitions.specs.declared.policies.Policy.TheVariants.{Orphan, Foreground, Background}
-use Rattle.definitions.specs.DeleteOptions.{Options}
+use Rattle.spec_api.specs.declared.policies.Policy.{Policy}
+use Rattle.spec_api.specs.declared.policies.Policy.TheVariants.{Orphan, Foreground, Background}
+use Rattle.spec_api.specs.DeleteOptions.{Options}
 
 abbrev pub policy_text : Policy → List ℕ
 policy_text Orphan = codes "Orphan"

@@ -4,13 +4,13 @@ use Rattle.std.specs.List.{list_all}
 use Rattle.std.specs.Option.{option_map_or}
 use Rattle.serde_json.specs.Data.{Data, depth}
 use Rattle.serde_json.specs.Read.{max_depth}
-use Rattle.definitions.specs.Keys.{Key, is_namespace}
-use Rattle.definitions.specs.Kinds.{has_status}
-use Rattle.definitions.specs.DeleteOptions.{Options}
-use Rattle.definitions.specs.ObjectRequests.{Request, get_object, list_objects, create_object, update_object, update_status, patch_object, delete_object}
-use Rattle.definitions.specs.Refusals.{Refusal, too_large}
-use Rattle.definitions.specs.Targets as targets
-use Rattle.definitions.specs.Targets.{Asked, is_filled, is_too_long}
+use Rattle.spec_api.specs.Keys.{Key, is_namespace}
+use Rattle.spec_api.specs.Kinds.{has_status}
+use Rattle.spec_api.specs.DeleteOptions.{Options}
+use Rattle.spec_api.specs.ObjectRequests.{Request, get_object, list_objects, create_object, update_object, update_status, patch_object, delete_object}
+use Rattle.spec_api.specs.Refusals.{Refusal, too_large}
+use Rattle.spec_api.specs.Targets as targets
+use Rattle.spec_api.specs.Targets.{Asked, is_filled, is_too_long}
 
 -- ---- targets
 

@@ -2,22 +2,22 @@
 ghost use Rattle.std.specs.Prelude.{◌≡◌, IfOk, Some, true, string_bytes};
 ghost use Rattle.serde_json.specs.Read.{read};
 ghost use Rattle.serde_json.specs.View.{view};
-ghost use Rattle.definitions.specs.ObjectRequests.{get_object, create_object, update_object, update_status, patch_object, delete_object};
-ghost use Rattle.keys.specs.Keys.{key_of};
+ghost use Rattle.spec_api.specs.ObjectRequests.{get_object, create_object, update_object, update_status, patch_object, delete_object};
+ghost use Rattle.object_keys.specs.Keys.{key_of};
 ghost use Rattle.lifecycle.specs.Options.{options_seen};
-ghost use Rattle.requests.specs.Requests.{request_of};
-ghost use Rattle.request_texts.specs.Texts.{IsPath, is_shallow, can_be_told};
-ghost use Rattle.request_texts.specs.Told.{Asks};
+ghost use Rattle.request_parts.specs.Requests.{request_of};
+ghost use Rattle.request_encoding.specs.Texts.{IsPath, is_shallow, can_be_told};
+ghost use Rattle.request_encoding.specs.Told.{Asks};
 
 use crate::deletes::options_text;
 use crate::targets::{collection_target, object_target, status_target};
 use crate::text::RequestText;
-use definitions::kinds::Kind;
-use definitions::methods::Method;
-use keys::Key;
 use lifecycle::DeleteOptions;
-use requests::Request;
+use object_keys::Key;
+use request_parts::Request;
 use serde_json::Value;
+use spec_api::kinds::Kind;
+use spec_api::methods::Method;
 use std::alloc::{AllocError, Global};
 
 /// Returns the text of JSON, which is read back as it.

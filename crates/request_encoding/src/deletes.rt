@@ -5,11 +5,11 @@ ghost use Rattle.serde_json.specs.Read.{read};
 ghost use Rattle.serde_json.specs.View.{view};
 ghost use Rattle.serde_json.specs.Written.{compact_text};
 ghost use Rattle.lifecycle.specs.Options.{options_seen};
-ghost use Rattle.request_texts.specs.Deletes.{policy_text, preconditions, options_data};
+ghost use Rattle.request_encoding.specs.Deletes.{policy_text, preconditions, options_data};
 
-use definitions::policies::Policy;
 use lifecycle::DeleteOptions;
 use serde_json::{Value, json};
+use spec_api::policies::Policy;
 use std::alloc::{AllocError, Global};
 
 /// Returns the name of a policy.

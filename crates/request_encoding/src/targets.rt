@@ -1,10 +1,10 @@
 //! The targets of requests of one object, and of collections: paths, with no query.
 ghost use Rattle.std.specs.Prelude.{◌≡◌, IfOk, option_map, string_bytes};
-ghost use Rattle.definitions.specs.Targets.{collection, object_at, status_of, path_text, prefix};
-ghost use Rattle.keys.specs.Keys.{key_of};
+ghost use Rattle.spec_api.specs.Targets.{collection, object_at, status_of, path_text, prefix};
+ghost use Rattle.object_keys.specs.Keys.{key_of};
 
-use definitions::kinds::{Group, Kind};
-use keys::Key;
+use object_keys::Key;
+use spec_api::kinds::{Group, Kind};
 use std::alloc::{AllocError, Global};
 
 /// Returns the start of a group's paths (Kubernetes API Concepts, Resource URIs).

@@ -2,16 +2,16 @@
 ghost use Rattle.std.specs.Prelude.{◌≡◌, option_map, string_bytes};
 ghost use Rattle.std.specs.List.{list_all};
 ghost use Rattle.serde_json.specs.View.{view};
-ghost use Rattle.keys.specs.Keys.{key_of};
+ghost use Rattle.object_keys.specs.Keys.{key_of};
 ghost use Rattle.lifecycle.specs.Options.{options_seen};
-ghost use Rattle.requests.specs.Requests.{request_of};
-ghost use Rattle.request_texts.specs.Texts.{is_of_segment, is_segment, is_address, is_shallow, is_named, are_named, can_be_told};
+ghost use Rattle.request_parts.specs.Requests.{request_of};
+ghost use Rattle.request_encoding.specs.Texts.{is_of_segment, is_segment, is_address, is_shallow, is_named, are_named, can_be_told};
 
 use json_values::values::nests_within;
-use keys::Key;
 use lifecycle::DeleteOptions;
-use names::is_namespace;
-use requests::Request;
+use name_syntax::is_namespace;
+use object_keys::Key;
+use request_parts::Request;
 use serde_json::Value;
 
 /// How deep JSON is read.

@@ -1,5 +1,5 @@
 //! What a request is asked by.
-use definitions::methods::Method;
+use spec_api::methods::Method;
 
 /// The method, the target and the body by which a request is asked over HTTP.
 #[derive(Debug, Drop)]

@@ -3,8 +3,8 @@ use Rattle.std.proofs.Common.{◌≡◌, ℕ, ◌<◌, ◌≤◌, ◌^◌, List,
 use Rattle.std.specs.List.{list_all}
 use Rattle.std.specs.Str.Parse.{AllDigits, IsNumeral, digits_value, without_leading_plus}
 use Rattle.std.proofs.lemmas.Str.Parse.{digits_value_short, numerals_by_value}
-use Rattle.definitions.specs.Moments.{is_digit}
-use Rattle.stamps.proofs.Digits.{all-digits, no-plus}
+use Rattle.spec_api.specs.Moments.{is_digit}
+use Rattle.metadata_values.proofs.Digits.{all-digits, no-plus}
 
 pub fits : (t : List ℕ) → list_all is_digit t ≡ true → 0 < length t → length t ≤ 9
     → (IsNumeral 10 (without_leading_plus t) × (digits_value 10 (without_leading_plus t) < 2 ^ 64) → ⊥) → ⊥

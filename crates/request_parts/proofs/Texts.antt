@@ -8,12 +8,12 @@ use Rattle.std.proofs.lemmas.Str.{is_utf8-from_IsUtf8, IsUtf8-from_is_utf8, IsUt
 use Rattle.std.proofs.lemmas.Bool.Decides.{nat_tests}
 use Rattle.serde_json.specs.Data.{Data}
 use Rattle.serde_json.specs.Read.{read}
-use Rattle.definitions.proofs.Truths.{both_true}
-use Rattle.definitions.specs.declared.refusals.Part.TheVariants as part
-use Rattle.definitions.specs.Moments.{is_digit}
-use Rattle.definitions.specs.Revisions.{revision_of}
-use Rattle.definitions.specs.Refusals.{bad_request}
-use Rattle.definitions.specs.Targets.{decoded, body_of}
+use Rattle.spec_api.proofs.Truths.{both_true}
+use Rattle.spec_api.specs.declared.refusals.Part.TheVariants as part
+use Rattle.spec_api.specs.Moments.{is_digit}
+use Rattle.spec_api.specs.Revisions.{revision_of}
+use Rattle.spec_api.specs.Refusals.{bad_request}
+use Rattle.spec_api.specs.Targets.{decoded, body_of}
 
 is_not : (b : Bool) → (b ≡ true → ⊥) → b ≡ false
 is_not true h = absurd (h refl)

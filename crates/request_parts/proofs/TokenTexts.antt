@@ -1,12 +1,12 @@
 -- Texts of page tokens, and those that are none, as the definitions read them.
 use Rattle.std.proofs.Common.{◌≡◌, ℕ, List, Option, Some, None, Err, inl, inr, refl, sym, ap, ◌∙◌}
-use Rattle.definitions.specs.declared.refusals.Part.{Part}
-use Rattle.definitions.specs.declared.refusals.Part.TheVariants as part
-use Rattle.definitions.specs.ListQueries.{going_on}
-use Rattle.definitions.specs.PageTokens.{Token, token_of}
-use Rattle.definitions.proofs.TokensRead.{read_is_token}
-use Rattle.keys.specs.declared.fault.Fault.{Fault}
-use Rattle.keys.specs.declared.fault.Fault.TheVariants as fault
+use Rattle.spec_api.specs.declared.refusals.Part.{Part}
+use Rattle.spec_api.specs.declared.refusals.Part.TheVariants as part
+use Rattle.spec_api.specs.ListQueries.{going_on}
+use Rattle.spec_api.specs.PageTokens.{Token, token_of}
+use Rattle.spec_api.proofs.TokensRead.{read_is_token}
+use Rattle.object_keys.specs.declared.fault.Fault.{Fault}
+use Rattle.object_keys.specs.declared.fault.Fault.TheVariants as fault
 use Rattle.pages.specs.Refused.{IsNoToken, RefusesToken}
 
 by : (text : List ℕ) (o : Option Token) → token_of text ≡ o → IsNoToken text → o ≡ None

@@ -1,10 +1,10 @@
 -- The parts of a request's reading make the whole.
 use Rattle.std.proofs.Common.{◌≡◌, ℕ, List, Bool, true, false, not, Option, Some, None, Ok, Err, if◌then◌else◌, refl}
-use Rattle.definitions.specs.declared.methods.Method.{Method}
-use Rattle.definitions.specs.declared.refusals.Part.TheVariants as part
-use Rattle.definitions.specs.Refusals.{bad_request, method_not_allowed}
-use Rattle.definitions.specs.Targets.{Route, route, path_of, names_namespace, is_allowed, query_for, asked_with, asked_at, decoded}
-use Rattle.requests.specs.Checked.{ChecksComeFirst, checked_route, asked_after}
+use Rattle.spec_api.specs.declared.methods.Method.{Method}
+use Rattle.spec_api.specs.declared.refusals.Part.TheVariants as part
+use Rattle.spec_api.specs.Refusals.{bad_request, method_not_allowed}
+use Rattle.spec_api.specs.Targets.{Route, route, path_of, names_namespace, is_allowed, query_for, asked_with, asked_at, decoded}
+use Rattle.request_parts.specs.Checked.{ChecksComeFirst, checked_route, asked_after}
 
 checks : (method : Method) (target text : List ℕ) (o : Option Route) → asked_at method target text o ≡ asked_after method target text (checked_route method o)
 checks method target text None = refl

@@ -1,9 +1,9 @@
 -- A request's checks before its query, and what they leave to the query and the body.
 use Rattle.std.specs.Prelude.{◌≡◌, ℕ, List, not, Option, Some, None, Result, Ok, Err, if◌then◌else◌}
-use Rattle.definitions.specs.declared.methods.Method.{Method}
-use Rattle.definitions.specs.declared.refusals.Part.TheVariants as part
-use Rattle.definitions.specs.Refusals.{Refusal, bad_request, no_such_path, method_not_allowed}
-use Rattle.definitions.specs.Targets.{Asked, Route, route, path_of, names_namespace, is_allowed, query_for, asked_with, decoded, read_request}
+use Rattle.spec_api.specs.declared.methods.Method.{Method}
+use Rattle.spec_api.specs.declared.refusals.Part.TheVariants as part
+use Rattle.spec_api.specs.Refusals.{Refusal, bad_request, no_such_path, method_not_allowed}
+use Rattle.spec_api.specs.Targets.{Asked, Route, route, path_of, names_namespace, is_allowed, query_for, asked_with, decoded, read_request}
 
 abbrev pub checked_route : Method → Option Route → Result Route Refusal
 checked_route method None = Err no_such_path

@@ -1,19 +1,19 @@
 -- What the code's results say of queries of collections.
 use Rattle.std.specs.Prelude.{◌≡◌, option_map, Result, Ok, Err}
-use Rattle.definitions.specs.declared.refusals.Part.{Part}
-use Rattle.definitions.specs.declared.refusals.Part.TheVariants as part
-use Rattle.definitions.specs.ListQueries as collections
-use Rattle.definitions.specs.Pages.{Place}
-use Rattle.definitions.specs.PageTokens.{token_place}
+use Rattle.spec_api.specs.declared.refusals.Part.{Part}
+use Rattle.spec_api.specs.declared.refusals.Part.TheVariants as part
+use Rattle.spec_api.specs.ListQueries as collections
+use Rattle.spec_api.specs.Pages.{Place}
+use Rattle.spec_api.specs.PageTokens.{token_place}
 use Rattle.pages.specs.Seen.{token_of}
 use Rattle.pages.specs.declared.tokens.Token.{Token}
-use Rattle.requests.specs.declared.collections.Collection.{Collection}
-use Rattle.requests.specs.declared.collections.Read.{Read}
-use Rattle.requests.specs.declared.collections.Read.TheVariants.{List, Watch}
-use Rattle.requests.specs.declared.faults.QueryFault.{QueryFault}
-use Rattle.requests.specs.declared.faults.QueryFault.TheVariants.{BadQuery, BadToken, NoMemory}
-use Rattle.requests.specs.declared.list_options.ListOptions.{ListOptions}
-use Rattle.requests.specs.declared.watch_options.WatchOptions.{WatchOptions}
+use Rattle.request_parts.specs.declared.collections.Collection.{Collection}
+use Rattle.request_parts.specs.declared.collections.CollectionRead.{CollectionRead}
+use Rattle.request_parts.specs.declared.collections.CollectionRead.TheVariants.{List, Watch}
+use Rattle.request_parts.specs.declared.faults.QueryFault.{QueryFault}
+use Rattle.request_parts.specs.declared.faults.QueryFault.TheVariants.{BadQuery, BadToken, NoMemory}
+use Rattle.request_parts.specs.declared.list_options.ListOptions.{ListOptions}
+use Rattle.request_parts.specs.declared.watch_options.WatchOptions.{WatchOptions}
 
 -- where a token's page ended
 abbrev pub place_seen : Token → Place
@@ -26,7 +26,7 @@ list_seen o = record { at = o.at; limit = o.limit; after = option_map place_seen
 abbrev pub watch_seen : WatchOptions → collections.WatchOptions
 watch_seen o = record { start = o.start; bookmarks = o.bookmarks }
 
-abbrev pub read_seen : Read → collections.Read
+abbrev pub read_seen : CollectionRead → collections.Read
 read_seen (List o) = collections.list (list_seen o)
 read_seen (Watch o) = collections.watch (watch_seen o)
 

@@ -1,11 +1,11 @@
 -- Why a query is not read.
-use Rattle.definitions.specs.declared.refusals.Part.TheVariants as part
-use Rattle.keys.specs.declared.fault.Fault.{Fault}
-use Rattle.keys.specs.declared.fault.Fault.TheVariants as fault
-use Rattle.requests.specs.declared.faults.MemberFault.{MemberFault}
-use Rattle.requests.specs.declared.faults.MemberFault.TheVariants as member
-use Rattle.requests.specs.declared.faults.QueryFault.{QueryFault}
-use Rattle.requests.specs.declared.faults.QueryFault.TheVariants as query
+use Rattle.spec_api.specs.declared.refusals.Part.TheVariants as part
+use Rattle.object_keys.specs.declared.fault.Fault.{Fault}
+use Rattle.object_keys.specs.declared.fault.Fault.TheVariants as fault
+use Rattle.request_parts.specs.declared.faults.MemberFault.{MemberFault}
+use Rattle.request_parts.specs.declared.faults.MemberFault.TheVariants as member
+use Rattle.request_parts.specs.declared.faults.QueryFault.{QueryFault}
+use Rattle.request_parts.specs.declared.faults.QueryFault.TheVariants as query
 
 -- a fault of a member that is no page token, as one of its query
 abbrev pub fault_of : MemberFault → QueryFault

@@ -3,5 +3,5 @@ pub mod Collected
 pub mod Faults
 pub mod Lines
 pub mod Queried
-pub use Rattle.object_requests.specs.Requests
+pub use Rattle.request_types.specs.Requests
 pub mod Seen

@@ -1,9 +1,9 @@
 -- What a line that was read says.
 use Rattle.std.specs.Prelude.{ℕ, List}
 use Rattle.std.specs.Borrow.{Bor}
-use Rattle.line_protocol.specs.Lines as said
-use Rattle.requests.specs.declared.line.Line.{Line}
-use Rattle.requests.specs.declared.line.Line.TheVariants.{Ask, At, Compact, Unreadable}
+use Rattle.spec_line_protocol.specs.Lines as said
+use Rattle.request_parts.specs.declared.line.Line.{Line}
+use Rattle.request_parts.specs.declared.line.Line.TheVariants.{Ask, At, Compact, Unreadable}
 
 abbrev pub both_now : Bor (List ℕ) × Bor (List ℕ) → List ℕ × List ℕ
 both_now (a, b) = (a.now, b.now)

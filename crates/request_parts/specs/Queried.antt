@@ -1,12 +1,12 @@
 -- What the code's results say of queries.
 use Rattle.std.specs.Prelude.{◌≡◌, ℕ, List, [], ◌∷◌, codes, Option, Some, None, Result, Ok, Err}
-use Rattle.definitions.specs.Targets as targets
-use Rattle.requests.specs.Collected.{collection_seen}
-use Rattle.requests.specs.declared.faults.MemberFault.{MemberFault}
-use Rattle.requests.specs.declared.faults.MemberFault.TheVariants.{BadQuery, NoMemory}
-use Rattle.requests.specs.declared.members.Names.{Names}
-use Rattle.requests.specs.declared.members.Names.TheVariants.{Refused, OfNoList}
-use Rattle.requests.specs.declared.query.Query.{Query}
+use Rattle.spec_api.specs.Targets as targets
+use Rattle.request_parts.specs.Collected.{collection_seen}
+use Rattle.request_parts.specs.declared.faults.MemberFault.{MemberFault}
+use Rattle.request_parts.specs.declared.faults.MemberFault.TheVariants.{BadQuery, NoMemory}
+use Rattle.request_parts.specs.declared.members.Names.{Names}
+use Rattle.request_parts.specs.declared.members.Names.TheVariants.{Refused, OfNoList}
+use Rattle.request_parts.specs.declared.query.Query.{Query}
 
 -- the query as the definitions say it
 abbrev pub query_seen : Query → targets.Query

@@ -2,15 +2,15 @@
 use Rattle.std.specs.Prelude.{◌≡◌, ℕ, List, Result, Ok, Err}
 use Rattle.serde_json.specs.View.{view}
 use Rattle.serde_json.specs.declared.value.Value.{Value}
-use Rattle.definitions.specs.declared.refusals.Part.TheVariants as part
-use Rattle.definitions.specs.Refusals.{Refusal, bad_request, no_such_path, method_not_allowed}
-use Rattle.definitions.specs.Targets.{Route, body_of}
-use Rattle.routes.specs.Seen.{route_seen}
-use Rattle.routes.specs.declared.targets.Target.{Target}
-use Rattle.requests.specs.declared.check.CheckFault.{CheckFault}
-use Rattle.requests.specs.declared.check.CheckFault.TheVariants.{NoSuchPath, BadNamespace, MethodNotAllowed}
-use Rattle.requests.specs.declared.body.BodyFault.{BodyFault}
-use Rattle.requests.specs.declared.body.BodyFault.TheVariants.{NotJson, NoMemory}
+use Rattle.spec_api.specs.declared.refusals.Part.TheVariants as part
+use Rattle.spec_api.specs.Refusals.{Refusal, bad_request, no_such_path, method_not_allowed}
+use Rattle.spec_api.specs.Targets.{Route, body_of}
+use Rattle.request_routing.specs.Seen.{route_seen}
+use Rattle.request_routing.specs.declared.targets.Target.{Target}
+use Rattle.request_parts.specs.declared.check.CheckFault.{CheckFault}
+use Rattle.request_parts.specs.declared.check.CheckFault.TheVariants.{NoSuchPath, BadNamespace, MethodNotAllowed}
+use Rattle.request_parts.specs.declared.body.BodyFault.{BodyFault}
+use Rattle.request_parts.specs.declared.body.BodyFault.TheVariants.{NotJson, NoMemory}
 
 -- the refusal that a fault of the checks is
 abbrev pub check_refusal : CheckFault → Refusal

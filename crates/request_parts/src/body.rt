@@ -3,8 +3,8 @@ ghost use Rattle.std.specs.Prelude.{◌≡◌, ◌≤◌, IfOk};
 ghost use Rattle.serde_json.specs.Data.{depth};
 ghost use Rattle.serde_json.specs.Read.{max_depth};
 ghost use Rattle.serde_json.specs.View.{view};
-ghost use Rattle.definitions.specs.Targets.{is_too_long};
-ghost use Rattle.requests.specs.Seen.{ReadsBody};
+ghost use Rattle.spec_api.specs.Targets.{is_too_long};
+ghost use Rattle.request_parts.specs.Seen.{ReadsBody};
 
 use serde_json::Value;
 use std::alloc::Global;

@@ -2,16 +2,16 @@
 ghost use Rattle.std.specs.Prelude.{◌≡◌, IfOk, IsOk};
 ghost use Rattle.std.specs.Str.{IsUtf8};
 ghost use Rattle.std.specs.Cow.{cow_str_bytes};
-ghost use Rattle.definitions.specs.Targets.{is_allowed, path_of, decoded};
-ghost use Rattle.routes.specs.Seen.{route_seen};
-ghost use Rattle.requests.specs.Checked.{checked_at};
-ghost use Rattle.requests.specs.Seen.{checked_seen};
+ghost use Rattle.spec_api.specs.Targets.{is_allowed, path_of, decoded};
+ghost use Rattle.request_routing.specs.Seen.{route_seen};
+ghost use Rattle.request_parts.specs.Checked.{checked_at};
+ghost use Rattle.request_parts.specs.Seen.{checked_seen};
 
-use definitions::methods::Method;
-use definitions::refusals::Part;
-use keys::Fault;
-use routes::table::Routes;
-use routes::targets::Target;
+use object_keys::Fault;
+use request_routing::table::Routes;
+use request_routing::targets::Target;
+use spec_api::methods::Method;
+use spec_api::refusals::Part;
 use std::alloc::{AllocError, Global};
 use std::borrow::CowStr;
 
@@ -27,8 +27,8 @@ pub enum CheckFault {
 }
 
 impl From<CheckFault> for Fault {
-    ghost use Rattle.keys.specs.Faults.{refusal_of};
-    ghost use Rattle.requests.specs.Seen.{check_refusal};
+    ghost use Rattle.object_keys.specs.Faults.{refusal_of};
+    ghost use Rattle.request_parts.specs.Seen.{check_refusal};
 
     ghost from_gives = { λ check f. refusal_of f ≡ check_refusal check };
 

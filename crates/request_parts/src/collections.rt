@@ -1,15 +1,15 @@
 //! Queries of collections.
 ghost use Rattle.std.specs.Prelude.{◌≡◌};
 ghost use Rattle.form_urlencoded.specs.Form.{raw_pairs};
-ghost use Rattle.definitions.specs.ListQueries.{read_by, collection_of};
-ghost use Rattle.requests.specs.Collected.{Gives, read_seen, collection_seen};
+ghost use Rattle.spec_api.specs.ListQueries.{read_by, collection_of};
+ghost use Rattle.request_parts.specs.Collected.{Gives, read_seen, collection_seen};
 
 use crate::faults::QueryFault;
 use crate::list_options::{ListOptions, list_options};
 use crate::members::{Names, fields, has_any, is_true_value, labels};
 use crate::watch_options::{WatchOptions, watch_options};
-use definitions::versions::At;
 use selector::{Fields, Selector};
+use spec_api::versions::At;
 use std::alloc::Global;
 
 /// What the query of a collection asks for.
@@ -20,13 +20,13 @@ pub struct Collection {
     /// What their fields have to meet.
     pub fields: Fields,
     /// Whether they are listed or watched.
-    pub read: Read,
+    pub read: CollectionRead,
 }
 
 impl Collection {
     ghost use Rattle.std.specs.Prelude.{◌≡◌};
-    ghost use Rattle.definitions.specs.ListQueries.{everything};
-    ghost use Rattle.requests.specs.Collected.{collection_seen};
+    ghost use Rattle.spec_api.specs.ListQueries.{everything};
+    ghost use Rattle.request_parts.specs.Collected.{collection_seen};
 
     /// Returns all objects, as they are at present.
     pub fn everything(alloc: Global) -> Collection
@@ -35,7 +35,7 @@ impl Collection {
         Collection {
             labels: Selector::everything(alloc),
             fields: Fields::everything(alloc),
-            read: Read::List(ListOptions {
+            read: CollectionRead::List(ListOptions {
                 at: At::Present,
                 limit: 0,
                 after: None,
@@ -46,7 +46,7 @@ impl Collection {
 
 /// How the objects of a collection are read.
 #[derive(Drop)]
-pub enum Read {
+pub enum CollectionRead {
     /// They are listed.
     List(ListOptions),
     /// They are watched.
@@ -54,15 +54,15 @@ pub enum Read {
 }
 
 /// Returns the options of the list or the watch that a query asks for.
-fn read_options(alloc: Global, query: &[u8]) -> Result<Read, QueryFault>
+fn read_options(alloc: Global, query: &[u8]) -> Result<CollectionRead, QueryFault>
     ensures { Gives read_seen (read_by (raw_pairs query.now)) result }
 {
     if is_true_value(alloc, query, "watch")? {
-        Ok(Read::Watch(watch_options(alloc, query)?))
+        Ok(CollectionRead::Watch(watch_options(alloc, query)?))
     } else if has_any(alloc, query, Names::OfNoList)? {
         Err(QueryFault::BadQuery)
     } else {
-        Ok(Read::List(list_options(alloc, query)?))
+        Ok(CollectionRead::List(list_options(alloc, query)?))
     }
 }
 

@@ -1,11 +1,11 @@
 //! Why a query is not read.
 ghost use Rattle.std.specs.Prelude.{◌≡◌};
-ghost use Rattle.requests.specs.Faults.{fault_of, query_fault};
-ghost use Rattle.requests.specs.declared.faults.MemberFault.TheVariants as member;
-ghost use Rattle.requests.specs.declared.faults.QueryFault.TheVariants as query;
+ghost use Rattle.request_parts.specs.Faults.{fault_of, query_fault};
+ghost use Rattle.request_parts.specs.declared.faults.MemberFault.TheVariants as member;
+ghost use Rattle.request_parts.specs.declared.faults.QueryFault.TheVariants as query;
 
-use definitions::refusals::Part;
-use keys::Fault;
+use object_keys::Fault;
+use spec_api::refusals::Part;
 use std::alloc::AllocError;
 
 /// Why a query is not read.

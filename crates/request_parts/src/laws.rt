@@ -1,5 +1,5 @@
 //! How the parts of a request's reading make the whole.
-ghost use Rattle.requests.specs.Checked.{ChecksComeFirst};
+ghost use Rattle.request_parts.specs.Checked.{ChecksComeFirst};
 
 /// A request is refused by the first check of its target that it does not pass, and else asks what its query and its
 /// body say.

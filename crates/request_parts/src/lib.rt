@@ -13,4 +13,4 @@ pub mod query;
 pub mod watch_options;
 pub(crate) mod watch_starts;
 
-pub use object_requests::Request;
+pub use request_types::Request;

@@ -1,14 +1,14 @@
 //! Lines of a replay.
 ghost use Rattle.std.specs.Prelude.{◌≡◌, codes, option_map, if◌then◌else◌};
 ghost use Rattle.std.specs.Str.{bytes_eq};
-ghost use Rattle.line_protocol.specs.Lines.{cut, ask_if, target_alone, target_and_body, compact_at, line_of, at, unreadable};
-ghost use Rattle.definitions.specs.Moments.{is_moment};
-ghost use Rattle.definitions.specs.Revisions.{revision_of};
-ghost use Rattle.requests.specs.Lines.{both_now, line_seen};
+ghost use Rattle.spec_line_protocol.specs.Lines.{cut, ask_if, target_alone, target_and_body, compact_at, line_of, at, unreadable};
+ghost use Rattle.spec_api.specs.Moments.{is_moment};
+ghost use Rattle.spec_api.specs.Revisions.{revision_of};
+ghost use Rattle.request_parts.specs.Lines.{both_now, line_seen};
 
-use definitions::methods::Method;
-use stamps::moments::Moment;
-use stamps::revisions::read_revision;
+use metadata_values::moments::Moment;
+use metadata_values::revisions::read_revision;
+use spec_api::methods::Method;
 
 /// What a line says.
 #[derive(Clone, Copy, Debug, PartialEq, Eq)]

@@ -3,18 +3,18 @@ ghost use Rattle.std.specs.Prelude.{◌≡◌, ◌==◌, Some, codes, option_map
 ghost use Rattle.std.specs.Cow.{cow_str_bytes};
 ghost use Rattle.std.specs.List.{list_all};
 ghost use Rattle.form_urlencoded.specs.Form.{raw_pairs};
-ghost use Rattle.definitions.specs.ListQueries.{limit_of, list_at, going_on, by_token, list_options};
-ghost use Rattle.definitions.specs.Moments.{is_digit};
-ghost use Rattle.definitions.specs.Queries.{parameter};
-ghost use Rattle.definitions.specs.PageTokens.{token_of};
-ghost use Rattle.requests.specs.Collected.{Gives, list_seen};
-ghost use Rattle.requests.specs.Queried.{Reads};
+ghost use Rattle.spec_api.specs.ListQueries.{limit_of, list_at, going_on, by_token, list_options};
+ghost use Rattle.spec_api.specs.Moments.{is_digit};
+ghost use Rattle.spec_api.specs.Queries.{parameter};
+ghost use Rattle.spec_api.specs.PageTokens.{token_of};
+ghost use Rattle.request_parts.specs.Collected.{Gives, list_seen};
+ghost use Rattle.request_parts.specs.Queried.{Reads};
 
 use crate::faults::{MemberFault, QueryFault};
 use crate::members::{matched, parameter, version};
-use definitions::versions::{At, Match};
-use keys::Fault;
+use object_keys::Fault;
 use pages::Token;
+use spec_api::versions::{At, Match};
 use std::alloc::Global;
 use std::borrow::CowStr;
 

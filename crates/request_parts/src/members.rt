@@ -4,17 +4,17 @@ ghost use Rattle.std.specs.Cow.{cow_str_bytes};
 ghost use Rattle.std.specs.List.{list_any};
 ghost use Rattle.std.specs.Str.{bytes_eq};
 ghost use Rattle.form_urlencoded.specs.Form.{raw_pairs};
-ghost use Rattle.definitions.specs.ListQueries.{initial_of, is_true_value, match_of, version_of};
-ghost use Rattle.definitions.specs.Queries.{has_any, parameter, or_empty};
-ghost use Rattle.definitions.specs.SelectorFields.{fields_of_text};
-ghost use Rattle.definitions.specs.SelectorTexts.{selector_of_text};
-ghost use Rattle.requests.specs.Queried.{Reads, names_seen};
+ghost use Rattle.spec_api.specs.ListQueries.{initial_of, is_true_value, match_of, version_of};
+ghost use Rattle.spec_api.specs.Queries.{has_any, parameter, or_empty};
+ghost use Rattle.spec_api.specs.SelectorFields.{fields_of_text};
+ghost use Rattle.spec_api.specs.SelectorTexts.{selector_of_text};
+ghost use Rattle.request_parts.specs.Queried.{Reads, names_seen};
 
 use crate::faults::MemberFault;
-use definitions::versions::Match;
 use form_urlencoded::parse;
+use metadata_values::revisions::read_revision;
 use selector::{Fields, Selector};
-use stamps::revisions::read_revision;
+use spec_api::versions::Match;
 use std::alloc::{AllocError, Global};
 use std::borrow::CowStr;
 
@@ -31,7 +31,7 @@ impl Names {
     ghost use Rattle.std.specs.Prelude.{◌≡◌};
     ghost use Rattle.std.specs.List.{list_any};
     ghost use Rattle.std.specs.Str.{bytes_eq};
-    ghost use Rattle.requests.specs.Queried.{names_seen};
+    ghost use Rattle.request_parts.specs.Queried.{names_seen};
 
     fn has(self, name: &str) -> bool
         ensures { result ≡ list_any (bytes_eq name.now) (names_seen self) }
@@ -170,7 +170,7 @@ pub(crate) fn labels(alloc: Global, query: &[u8]) -> Result<Selector, MemberFaul
     let text = parameter(alloc, query, "labelSelector")?;
     match Selector::parse(alloc, or_empty(&text)) {
         Ok(labels) => Ok(labels),
-        Err(selector::Fault::NoMemory) => Err(MemberFault::NoMemory),
+        Err(selector::SelectorFault::NoMemory) => Err(MemberFault::NoMemory),
         Err(_) => Err(MemberFault::BadQuery),
     }
 }
@@ -182,7 +182,7 @@ pub(crate) fn fields(alloc: Global, query: &[u8]) -> Result<Fields, MemberFault>
     let text = parameter(alloc, query, "fieldSelector")?;
     match Fields::parse(alloc, or_empty(&text)) {
         Ok(fields) => Ok(fields),
-        Err(selector::Fault::NoMemory) => Err(MemberFault::NoMemory),
+        Err(selector::SelectorFault::NoMemory) => Err(MemberFault::NoMemory),
         Err(_) => Err(MemberFault::BadQuery),
     }
 }

@@ -2,20 +2,20 @@
 ghost use Rattle.std.specs.Prelude.{◌≡◌, IfOk, codes};
 ghost use Rattle.std.specs.Result.{result_map_both};
 ghost use Rattle.form_urlencoded.specs.Form.{raw_pairs};
-ghost use Rattle.definitions.specs.DeleteOptions.{stated_policy};
-ghost use Rattle.definitions.specs.ListQueries.{collection_of};
-ghost use Rattle.definitions.specs.Queries.{query_of, parameter};
-ghost use Rattle.definitions.specs.Targets.{only_policy, query_for};
-ghost use Rattle.routes.specs.Seen.{route_seen};
-ghost use Rattle.requests.specs.Collected.{Gives};
-ghost use Rattle.requests.specs.Queried.{query_seen};
+ghost use Rattle.spec_api.specs.DeleteOptions.{stated_policy};
+ghost use Rattle.spec_api.specs.ListQueries.{collection_of};
+ghost use Rattle.spec_api.specs.Queries.{query_of, parameter};
+ghost use Rattle.spec_api.specs.Targets.{only_policy, query_for};
+ghost use Rattle.request_routing.specs.Seen.{route_seen};
+ghost use Rattle.request_parts.specs.Collected.{Gives};
+ghost use Rattle.request_parts.specs.Queried.{query_seen};
 
 use crate::collections::{Collection, read_collection};
 use crate::faults::QueryFault;
 use crate::members::{Names, has_any, parameter};
-use definitions::methods::Method;
-use definitions::policies::StatedPolicy;
-use routes::targets::Target;
+use request_routing::targets::Target;
+use spec_api::methods::Method;
+use spec_api::policies::StatedPolicy;
 use std::alloc::{AllocError, Global};
 
 /// What a query adds to a request.

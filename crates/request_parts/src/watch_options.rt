@@ -1,13 +1,13 @@
 //! What the query of a watch asks of it.
 ghost use Rattle.std.specs.Prelude.{◌≡◌};
 ghost use Rattle.form_urlencoded.specs.Form.{raw_pairs};
-ghost use Rattle.definitions.specs.ListQueries.{watch_options};
-ghost use Rattle.requests.specs.Collected.{Gives, watch_seen};
+ghost use Rattle.spec_api.specs.ListQueries.{watch_options};
+ghost use Rattle.request_parts.specs.Collected.{Gives, watch_seen};
 
 use crate::faults::QueryFault;
 use crate::members::{initial, is_true_value, matched, version};
 use crate::watch_starts::start_of;
-use definitions::versions::Start;
+use spec_api::versions::Start;
 use std::alloc::Global;
 
 /// What a watch is asked to show.

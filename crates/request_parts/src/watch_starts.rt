@@ -1,8 +1,8 @@
 //! How watches begin.
 ghost use Rattle.std.specs.Prelude.{◌≡◌};
-ghost use Rattle.definitions.specs.ListQueries.{later_start, plain_start, start_of, watch_from};
+ghost use Rattle.spec_api.specs.ListQueries.{later_start, plain_start, start_of, watch_from};
 
-use definitions::versions::{Match, Start};
+use spec_api::versions::{Match, Start};
 
 /// Returns the revision that is named; 0 names none.
 fn named(version: Option<u64>) -> Option<u64>

@@ -6,20 +6,20 @@ use Rattle.std.specs.Option.{option_map_or}
 use Rattle.matchit.proofs.OnLiterals.{matchit_on_literals}
 use Rattle.matchit.specs.Router.{RouteOf}
 use Rattle.matchit.specs.Seek.{same_text, or_else}
-use Rattle.routes.specs.Parts.{Part, word, any, tokens, rows, found, after_word, after_any}
-use Rattle.routes.specs.Table.{table, route_text}
-use Rattle.definitions.proofs.Truths.{both_true}
-use Rattle.definitions.specs.Targets.{after_words, is_filled}
-use Rattle.definitions.proofs.PathForms.{Form, all_form, namespace_form, object_form, status_form, below, form_of, by_prefix}
-use Rattle.definitions.specs.declared.kinds.Group.{Group}
-use Rattle.definitions.specs.declared.kinds.Group.TheVariants.{Core, Apps}
-use Rattle.routes.specs.declared.entries.Layout.{Layout}
-use Rattle.routes.specs.declared.entries.Layout.TheVariants.{All, Namespace, Object, Status}
-use Rattle.routes.specs.declared.entries.Entry.{Entry}
-use Rattle.routes.proofs.Plain.{Plain}
-use Rattle.routes.proofs.Seeks.{IsRoute, AreRoutes, found-none, after_word-empty, AreRoutes-word, AreRoutes-any}
-use Rattle.routes.proofs.Forms.{IsFilled, filled-tail, filled-rest, same, goes_on, Goes, under, unders, after-under, or-none, on_rest, found-words, after-word, worded, any-step}
-use Rattle.routes.proofs.Walks.{Fits, taken}
+use Rattle.request_routing.specs.Parts.{Part, word, any, tokens, rows, found, after_word, after_any}
+use Rattle.request_routing.specs.Table.{table, route_text}
+use Rattle.spec_api.proofs.Truths.{both_true}
+use Rattle.spec_api.specs.Targets.{after_words, is_filled}
+use Rattle.spec_api.proofs.PathForms.{Form, all_form, namespace_form, object_form, status_form, below, form_of, by_prefix}
+use Rattle.spec_api.specs.declared.kinds.Group.{Group}
+use Rattle.spec_api.specs.declared.kinds.Group.TheVariants.{Core, Apps}
+use Rattle.request_routing.specs.declared.entries.Layout.{Layout}
+use Rattle.request_routing.specs.declared.entries.Layout.TheVariants.{All, Namespace, Object, Status}
+use Rattle.request_routing.specs.declared.entries.RouteEntry.{RouteEntry}
+use Rattle.request_routing.proofs.Plain.{Plain}
+use Rattle.request_routing.proofs.Seeks.{IsRoute, AreRoutes, found-none, after_word-empty, AreRoutes-word, AreRoutes-any}
+use Rattle.request_routing.proofs.Forms.{IsFilled, filled-tail, filled-rest, same, goes_on, Goes, under, unders, after-under, or-none, on_rest, found-words, after-word, worded, any-step}
+use Rattle.request_routing.proofs.Walks.{Fits, taken}
 
 abbrev pub prefix : Group → List Part
 prefix Core = word (codes "api") ∷ word (codes "v1") ∷ []
@@ -41,14 +41,14 @@ abbrev pub route_names : Group → Layout → List (ℕ × ℕ)
 route_names Core f = names_from 8 f
 route_names Apps f = names_from 14 f
 
-abbrev pub row : Group → Layout → RouteOf Entry
+abbrev pub row : Group → Layout → RouteOf RouteEntry
 row g f = record { pattern = tokens (prefix g ++ layout_parts f); text = route_text g f; names = route_names g f; value = record { group = g; layout = f } }
 
 -- the routes below a prefix
-abbrev pub forms : Group → List (List Part × RouteOf Entry)
+abbrev pub forms : Group → List (List Part × RouteOf RouteEntry)
 forms g = (layout_parts Status, row g Status) ∷ (layout_parts Object, row g Object) ∷ (layout_parts Namespace, row g Namespace) ∷ (layout_parts All, row g All) ∷ []
 
-abbrev pub routes : List (List Part × RouteOf Entry)
+abbrev pub routes : List (List Part × RouteOf RouteEntry)
 routes = under (codes "api") (unders (codes "v1" ∷ []) (forms Core)) ++ under (codes "apis") (unders (codes "apps" ∷ codes "v1" ∷ []) (forms Apps))
 
 pub table-rows : table ≡ rows routes
@@ -67,16 +67,16 @@ layout_of (namespace_form g n p) = Namespace
 layout_of (object_form g n p o) = Object
 layout_of (status_form g n p o) = Status
 
-abbrev pub row_of : Option Form → Option (RouteOf Entry)
+abbrev pub row_of : Option Form → Option (RouteOf RouteEntry)
 row_of None = None
 row_of (Some x) = Some (row (group_of x) (layout_of x))
 
 -- ---- below a prefix
 
-abbrev tails : Group → List (List Part × RouteOf Entry)
+abbrev tails : Group → List (List Part × RouteOf RouteEntry)
 tails g = (any ∷ any ∷ any ∷ word (codes "status") ∷ [], row g Status) ∷ (any ∷ any ∷ any ∷ [], row g Object) ∷ (any ∷ any ∷ [], row g Namespace) ∷ []
 
-abbrev lasts : Group → List (List Part × RouteOf Entry)
+abbrev lasts : Group → List (List Part × RouteOf RouteEntry)
 lasts g = (word (codes "status") ∷ [], row g Status) ∷ ([], row g Object) ∷ []
 
 head : (g : Group) (b : ℕ) (s : List ℕ) (ss : List (List ℕ)) → found (forms g) ((b ∷ s) ∷ ss) ≡ or_else (found (cond (same_text (codes "namespaces") (b ∷ s)) (tails g) []) ss) (found (([], row g All) ∷ []) ss)
@@ -96,11 +96,11 @@ more g b s c t ss =
     by true = refl
     by false = found-none ((c ∷ t) ∷ ss)
 
-when : (v : Bool) (x : Form) (o : Option (RouteOf Entry)) → o ≡ row_of (Some x) → cond v o None ≡ row_of (if v then Some x else None)
+when : (v : Bool) (x : Form) (o : Option (RouteOf RouteEntry)) → o ≡ row_of (Some x) → cond v o None ≡ row_of (if v then Some x else None)
 when true x o e = e
 when false x o e = refl
 
-never : (v : Bool) (o : Option (RouteOf Entry)) → o ≡ None → cond v o None ≡ None
+never : (v : Bool) (o : Option (RouteOf RouteEntry)) → o ≡ None → cond v o None ≡ None
 never true o e = e
 never false o e = refl
 
@@ -180,10 +180,10 @@ found-apis ss h =
     by None g = refl
     by (Some r) g = below-found Apps r g
 
-abbrev core_rows : List (List Part × RouteOf Entry)
+abbrev core_rows : List (List Part × RouteOf RouteEntry)
 core_rows = unders (codes "v1" ∷ []) (forms Core)
 
-abbrev apps_rows : List (List Part × RouteOf Entry)
+abbrev apps_rows : List (List Part × RouteOf RouteEntry)
 apps_rows = unders (codes "apps" ∷ codes "v1" ∷ []) (forms Apps)
 
 found-other : (b : ℕ) (s : List ℕ) (ss : List (List ℕ)) → same_text (codes "api") (b ∷ s) ≡ false → same_text (codes "apis") (b ∷ s) ≡ false

@@ -7,21 +7,21 @@ use Rattle.std.specs.List.{list_all}
 use Rattle.matchit.specs.Params.{walk, part_of, AllText, named}
 use Rattle.matchit.specs.Router.{RouteOf}
 use Rattle.matchit.specs.Seek.{first}
-use Rattle.routes.specs.Parts.{Part, word, any, tokens, joined}
-use Rattle.routes.specs.Table.{table, route_text}
-use Rattle.definitions.proofs.Truths.{both_true}
-use Rattle.definitions.specs.Targets.{segments}
-use Rattle.routes.specs.Seen.{assembled, now}
-use Rattle.definitions.proofs.PathForms.{Form, form_of, route_of, all_form, namespace_form, object_form, status_form}
-use Rattle.definitions.specs.declared.kinds.Group.{Group}
-use Rattle.definitions.specs.declared.kinds.Group.TheVariants.{Core, Apps}
-use Rattle.routes.specs.declared.entries.Layout.{Layout}
-use Rattle.routes.specs.declared.entries.Layout.TheVariants.{All, Namespace, Object, Status}
-use Rattle.routes.specs.declared.entries.Entry.{Entry}
-use Rattle.routes.proofs.Plain.{AllPlain, AreBytes, whole, whole-split, plain-split}
-use Rattle.routes.proofs.Seeks.{finds, finds-other, finds-empty, IsRoute}
-use Rattle.routes.proofs.Walks.{taken, walks}
-use Rattle.routes.proofs.Found.{routes, routes-are, table-rows, found-form, form-fits, Fitting, row, row_of, group_of, layout_of, layout_parts, prefix, route_names, params_of, route-by}
+use Rattle.request_routing.specs.Parts.{Part, word, any, tokens, joined}
+use Rattle.request_routing.specs.Table.{table, route_text}
+use Rattle.spec_api.proofs.Truths.{both_true}
+use Rattle.spec_api.specs.Targets.{segments}
+use Rattle.request_routing.specs.Seen.{assembled, now}
+use Rattle.spec_api.proofs.PathForms.{Form, form_of, route_of, all_form, namespace_form, object_form, status_form}
+use Rattle.spec_api.specs.declared.kinds.Group.{Group}
+use Rattle.spec_api.specs.declared.kinds.Group.TheVariants.{Core, Apps}
+use Rattle.request_routing.specs.declared.entries.Layout.{Layout}
+use Rattle.request_routing.specs.declared.entries.Layout.TheVariants.{All, Namespace, Object, Status}
+use Rattle.request_routing.specs.declared.entries.RouteEntry.{RouteEntry}
+use Rattle.request_routing.proofs.Plain.{AllPlain, AreBytes, whole, whole-split, plain-split}
+use Rattle.request_routing.proofs.Seeks.{finds, finds-other, finds-empty, IsRoute}
+use Rattle.request_routing.proofs.Walks.{taken, walks}
+use Rattle.request_routing.proofs.Found.{routes, routes-are, table-rows, found-form, form-fits, Fitting, row, row_of, group_of, layout_of, layout_parts, prefix, route_names, params_of, route-by}
 
 -- ---- segments of a text are texts
 
@@ -109,12 +109,12 @@ row-short Apps Status = lit< tt
 -- ---- the whole path
 
 -- the route that a path of this form finds, and what its parameters take
-pub record Read (path : List ℕ) (e : RouteOf Entry) (x : Form) : Type 0 where
+pub record Read (path : List ℕ) (e : RouteOf RouteEntry) (x : Form) : Type 0 where
   pub is : e ≡ row (group_of x) (layout_of x)
   pub params : walk e.pattern e.text path e.names 0 0 ≡ params_of x
   pub texts : AllText (walk e.pattern e.text path e.names 0 0)
 
-abbrev pub Reads : List ℕ → Option (RouteOf Entry) → Option Form → Type 0
+abbrev pub Reads : List ℕ → Option (RouteOf RouteEntry) → Option Form → Type 0
 Reads path None None = Unit {0}
 Reads path None (Some x) = ⊥
 Reads path (Some e) None = ⊥
@@ -137,13 +137,13 @@ pub reads-joined : (ss : List (List ℕ)) → AllPlain ss → AllUtf8 ss → Rea
 reads-joined ss p u =
     let e : first table (joined ss) ≡ row_of (form_of ([] ∷ ss)) =
     ap (λ z. first z (joined ss)) table-rows ∙ finds ss routes routes-are p ∙ found-form ss in
-    let P : Option (RouteOf Entry) → Type 0 = λ z. Reads (joined ss) z (form_of ([] ∷ ss)) in
+    let P : Option (RouteOf RouteEntry) → Type 0 = λ z. Reads (joined ss) z (form_of ([] ∷ ss)) in
     subst P (sym e) (reads-row ss (form_of ([] ∷ ss)) p u (form-fits ss))
 
 reads-split : (path : List ℕ) (l : List (List ℕ)) → AllPlain l → AllUtf8 l → whole l ≡ path → Reads path (first table path) (form_of l)
 reads-split path [] p u e =
     let n : first table path ≡ None = ap (first table) (sym e) ∙ ap (λ z. first z []) table-rows ∙ finds-empty routes in
-    let P : Option (RouteOf Entry) → Type 0 = λ z. Reads path z None in
+    let P : Option (RouteOf RouteEntry) → Type 0 = λ z. Reads path z None in
     subst P (sym n) tt
 reads-split path ([] ∷ ss) p u e =
     let P : List ℕ → Type 0 = λ z. Reads z (first table z) (form_of ([] ∷ ss)) in
@@ -151,7 +151,7 @@ reads-split path ([] ∷ ss) p u e =
 reads-split path ((b ∷ s) ∷ ss) p u e =
     let n : first table path ≡ None =
     ap (first table) (sym e) ∙ ap (λ z. first z (b ∷ (s ++ joined ss))) table-rows ∙ finds-other b (s ++ joined ss) routes p.0.1 in
-    let P : Option (RouteOf Entry) → Type 0 = λ z. Reads path z None in
+    let P : Option (RouteOf RouteEntry) → Type 0 = λ z. Reads path z None in
     subst P (sym n) tt
 
 pub reads : (path : List ℕ) → AreBytes path → IsUtf8 path → Reads path (first table path) (form_of (segments path))
@@ -172,12 +172,12 @@ told (namespace_form g n p) = refl
 told (object_form g n p o) = refl
 told (status_form g n p o) = refl
 
-pub assembled-reads : (path : List ℕ) (e : RouteOf Entry) (o : Option Form) → Reads path (Some e) o
+pub assembled-reads : (path : List ℕ) (e : RouteOf RouteEntry) (o : Option Form) → Reads path (Some e) o
     → let w = walk e.pattern e.text path e.names 0 0 in assembled e.value (named (codes "resource") w) (named (codes "namespace") w) (named (codes "name") w) ≡ option_and_then route_of o
 assembled-reads path e None h = absurd h
 assembled-reads path e (Some x) h =
     (λ i. assembled (h.is i).value (named (codes "resource") (h.params i)) (named (codes "namespace") (h.params i)) (named (codes "name") (h.params i))) ∙ told x
 
-pub texts-reads : (path : List ℕ) (e : RouteOf Entry) (o : Option Form) → Reads path (Some e) o → AllText (walk e.pattern e.text path e.names 0 0)
+pub texts-reads : (path : List ℕ) (e : RouteOf RouteEntry) (o : Option Form) → Reads path (Some e) o → AllText (walk e.pattern e.text path e.names 0 0)
 texts-reads path e None h = absurd h
 texts-reads path e (Some x) h = h.texts

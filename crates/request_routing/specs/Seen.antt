@@ -1,14 +1,14 @@
 -- Targets as the routes that they stand for, and what the parameters of an entry make of a path.
 use Rattle.std.specs.Prelude.{ℕ, List, Option, Some, None, option_map, option_and_then}
 use Rattle.std.specs.Borrow.{Bor}
-use Rattle.definitions.specs.Kinds.{kind_with_plural}
-use Rattle.definitions.specs.Targets.{Route, collection, object_at, status_of, kind_with_status}
-use Rattle.definitions.specs.declared.kinds.Group.{Group}
-use Rattle.routes.specs.declared.entries.Entry.{Entry}
-use Rattle.routes.specs.declared.entries.Layout.{Layout}
-use Rattle.routes.specs.declared.entries.Layout.TheVariants as layout
-use Rattle.routes.specs.declared.targets.Target.{Target}
-use Rattle.routes.specs.declared.targets.Target.TheVariants.{Collection, Object, Status}
+use Rattle.spec_api.specs.Kinds.{kind_with_plural}
+use Rattle.spec_api.specs.Targets.{Route, collection, object_at, status_of, kind_with_status}
+use Rattle.spec_api.specs.declared.kinds.Group.{Group}
+use Rattle.request_routing.specs.declared.entries.RouteEntry.{RouteEntry}
+use Rattle.request_routing.specs.declared.entries.Layout.{Layout}
+use Rattle.request_routing.specs.declared.entries.Layout.TheVariants as layout
+use Rattle.request_routing.specs.declared.targets.Target.{Target}
+use Rattle.request_routing.specs.declared.targets.Target.TheVariants.{Collection, Object, Status}
 
 abbrev pub now : Bor (List ℕ) → List ℕ
 now text = text.now
@@ -39,6 +39,6 @@ with_namespace g layout.Status resource None name = None
 with_namespace g layout.Status resource (Some ns) name = with_name g layout.Status resource ns name
 
 -- the route of a path from its entry and its parameters: the resource, the namespace and the name
-abbrev pub assembled : Entry → Option (List ℕ) → Option (List ℕ) → Option (List ℕ) → Option Route
+abbrev pub assembled : RouteEntry → Option (List ℕ) → Option (List ℕ) → Option (List ℕ) → Option Route
 assembled e None ns name = None
 assembled e (Some resource) ns name = with_namespace e.group e.layout resource ns name

@@ -4,14 +4,14 @@ use Rattle.matchit.specs.Rows.{RowsOf}
 use Rattle.matchit.specs.Order.{placed}
 use Rattle.matchit.specs.Route.{Scan, parse_route}
 use Rattle.matchit.specs.Router.{RouteOf, route_from, nearest}
-use Rattle.definitions.specs.declared.kinds.Group.{Group}
-use Rattle.definitions.specs.declared.kinds.Group.TheVariants.{Core, Apps}
-use Rattle.routes.specs.declared.entries.Layout.{Layout}
-use Rattle.routes.specs.declared.entries.Layout.TheVariants.{All, Namespace, Object, Status}
-use Rattle.routes.specs.declared.entries.Entry.{Entry}
+use Rattle.spec_api.specs.declared.kinds.Group.{Group}
+use Rattle.spec_api.specs.declared.kinds.Group.TheVariants.{Core, Apps}
+use Rattle.request_routing.specs.declared.entries.Layout.{Layout}
+use Rattle.request_routing.specs.declared.entries.Layout.TheVariants.{All, Namespace, Object, Status}
+use Rattle.request_routing.specs.declared.entries.RouteEntry.{RouteEntry}
 
 abbrev pub Table : Type 0
-Table = RowsOf (RouteOf Entry)
+Table = RowsOf (RouteOf RouteEntry)
 
 -- whether no route of the table conflicts with this one
 abbrev pub is_none : {A : Type 0} → Option A → Bool
@@ -38,7 +38,7 @@ route_text Apps Object = codes "/apis/apps/v1/namespaces/{namespace}/{resource}/
 route_text Apps Status = codes "/apis/apps/v1/namespaces/{namespace}/{resource}/{name}/status"
 
 -- the table with one more route
-abbrev pub added : {E : Type 0} → Result Scan E → Entry → Table → Table
+abbrev pub added : {E : Type 0} → Result Scan E → RouteEntry → Table → Table
 added (Ok s) value old = placed ((route_from s value).pattern, route_from s value) old
 added (Err e) value old = old
 

@@ -1,5 +1,5 @@
 //! What the table says of a path.
-use definitions::kinds::Group;
+use spec_api::kinds::Group;
 
 /// How a path goes on below the start of its group's paths.
 #[derive(Clone, Copy, Debug, PartialEq, Eq)]
@@ -16,14 +16,14 @@ pub enum Layout {
 
 /// Where a route of the table leads.
 #[derive(Clone, Copy, Debug, PartialEq, Eq)]
-pub struct Entry {
+pub struct RouteEntry {
     pub group: Group,
     pub layout: Layout,
 }
 
-impl Entry {
+impl RouteEntry {
     ghost use Rattle.std.specs.Prelude.{◌≡◌};
-    ghost use Rattle.routes.specs.Table.{route_text};
+    ghost use Rattle.request_routing.specs.Table.{route_text};
 
     /// Returns the route that leads here, in the router's notation.
     pub fn path(self) -> &'static str

@@ -1,26 +1,26 @@
 //! The table of routes.
 ghost use Rattle.std.specs.Prelude.{◌≡◌, true, OnOk};
-ghost use Rattle.routes.specs.Table.{table, route_text, with_entry, with_group, before, is_free};
+ghost use Rattle.request_routing.specs.Table.{table, route_text, with_entry, with_group, before, is_free};
 
-use crate::entries::{Entry, Layout};
+use crate::entries::{Layout, RouteEntry};
 use crate::targets::{Target, assemble};
-use definitions::kinds::Group;
 use matchit::{InsertError, Router};
+use spec_api::kinds::Group;
 use std::alloc::{AllocError, Global};
 
 /// The routes that are served, in a table that is made once.
 #[derive(Drop)]
 pub struct Routes {
-    router: Router<Entry>,
+    router: Router<RouteEntry>,
     ghost whole: { router ≡ table },
 }
 
 /// Adds the route of an entry, with which no other conflicts.
-fn insert(router: &mut Router<Entry>, group: Group, layout: Layout) -> Result<(), AllocError>
+fn insert(router: &mut Router<RouteEntry>, group: Group, layout: Layout) -> Result<(), AllocError>
     requires { is_free (route_text group layout) router.old ≡ true }
     ensures { OnOk result (router.new ≡ with_entry group layout router.old) }
 {
-    let entry = Entry { group, layout };
+    let entry = RouteEntry { group, layout };
     match router.insert(entry.path(), entry) {
         Ok(()) => Ok(()),
         Err(InsertError::OutOfMemory) => Err(AllocError),
@@ -29,7 +29,7 @@ fn insert(router: &mut Router<Entry>, group: Group, layout: Layout) -> Result<()
 }
 
 /// Adds the routes of a group.
-fn insert_group(router: &mut Router<Entry>, group: Group) -> Result<(), AllocError>
+fn insert_group(router: &mut Router<RouteEntry>, group: Group) -> Result<(), AllocError>
     requires { router.old ≡ before group }
     ensures { OnOk result (router.new ≡ with_group group router.old) }
 {
@@ -41,8 +41,8 @@ fn insert_group(router: &mut Router<Entry>, group: Group) -> Result<(), AllocErr
 
 impl Routes {
     ghost use Rattle.std.specs.Prelude.{◌≡◌, option_map};
-    ghost use Rattle.definitions.specs.Targets.{route};
-    ghost use Rattle.routes.specs.Seen.{route_seen};
+    ghost use Rattle.spec_api.specs.Targets.{route};
+    ghost use Rattle.request_routing.specs.Seen.{route_seen};
 
     /// Returns the table. It fails only where memory runs out.
     pub fn new(alloc: Global) -> Result<Routes, AllocError> {

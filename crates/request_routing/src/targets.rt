@@ -1,12 +1,12 @@
 //! What a path names.
 ghost use Rattle.std.specs.Prelude.{◌≡◌, option_map, option_and_then};
-ghost use Rattle.definitions.specs.Kinds.{kind_with_plural};
-ghost use Rattle.definitions.specs.Targets.{collection, object_at, status_of, kind_with_status};
-ghost use Rattle.routes.specs.Seen.{now, route_seen, assembled};
+ghost use Rattle.spec_api.specs.Kinds.{kind_with_plural};
+ghost use Rattle.spec_api.specs.Targets.{collection, object_at, status_of, kind_with_status};
+ghost use Rattle.request_routing.specs.Seen.{now, route_seen, assembled};
 
-use crate::entries::{Entry, Layout};
-use definitions::kinds::{Group, Kind};
-use names::is_namespace;
+use crate::entries::{Layout, RouteEntry};
+use name_syntax::is_namespace;
+use spec_api::kinds::{Group, Kind};
 
 /// What a path names.
 #[derive(Clone, Copy, Debug, PartialEq, Eq)]
@@ -21,8 +21,8 @@ pub enum Target<'p> {
 
 impl Target<'_> {
     ghost use Rattle.std.specs.Prelude.{◌≡◌};
-    ghost use Rattle.definitions.specs.Targets.{names_namespace};
-    ghost use Rattle.routes.specs.Seen.{route_seen};
+    ghost use Rattle.spec_api.specs.Targets.{names_namespace};
+    ghost use Rattle.request_routing.specs.Seen.{route_seen};
 
     /// Returns whether the namespace, where there is one, is a DNS label of at most 63 bytes.
     pub fn names_namespace(&self) -> bool
@@ -72,7 +72,7 @@ fn status_of<'p>(kind: Kind, namespace: &'p str, name: &'p str) -> Option<Target
 
 /// Returns what a path with these parameters names.
 pub(crate) fn assemble<'p>(
-    entry: Entry,
+    entry: RouteEntry,
     resource: Option<&'p str>,
     namespace: Option<&'p str>,
     name: Option<&'p str>,

@@ -1,9 +1,9 @@
 //! Requests.
-use definitions::kinds::Kind;
-use keys::Key;
 use lifecycle::DeleteOptions;
+use object_keys::Key;
 use selector::View;
 use serde_json::Value;
+use spec_api::kinds::Kind;
 
 /// A request, by its verb (Kubernetes API Concepts, API verbs). A body is JSON that was not yet read as an object.
 #[derive(Drop)]

@@ -5,7 +5,7 @@ use Rattle.std.specs.Prelude.{Option, Some, None, option_map}
 use Rattle.std.specs.Option.{option_copied}
 use denote.Ref.{Bor}
 use Rattle.meta.specs.declared.stored.StoredObject.{StoredObject}
-use Rattle.definitions.specs.History.{writes}
+use Rattle.spec_api.specs.History.{writes}
 use Rattle.meta.specs.Writes.{write_of}
 use Rattle.meta.specs.declared.writes.Write.{Write}
 use Rattle.revisions.specs.Journals.{history_of}

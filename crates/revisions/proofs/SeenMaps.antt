@@ -3,14 +3,14 @@ use Rattle.std.proofs.Common.{◌≡◌, List, Ordering, option_map}
 use denote.Ref.{Bor}
 use Rattle.std.specs.Map.{remove_entry, lookup}
 use Rattle.std.specs.BTreeMap.{insert_entry, is_at}
-use Rattle.keys.specs.contracts.key.KeyOrd.TheImpl as key_ord
-use Rattle.keys.specs.Keys.{key_of}
-use Rattle.definitions.specs.Keys.{key_cmp}
-use Rattle.definitions.specs.History.{found}
-use Rattle.keys.specs.declared.key.Key.{Key}
+use Rattle.object_keys.specs.contracts.key.KeyOrd.TheImpl as key_ord
+use Rattle.object_keys.specs.Keys.{key_of}
+use Rattle.spec_api.specs.Keys.{key_cmp}
+use Rattle.spec_api.specs.History.{found}
+use Rattle.object_keys.specs.declared.key.Key.{Key}
 use Rattle.meta.specs.declared.stored.StoredObject.{StoredObject}
-use Rattle.keys.proofs.KeyOrder.{key_cmp-name_cmp}
-use Rattle.keys.proofs.MapViews.{map-insert_entry, map-remove_entry_by, option_map-lookup}
+use Rattle.object_keys.proofs.KeyOrder.{key_cmp-name_cmp}
+use Rattle.object_keys.proofs.MapViews.{map-insert_entry, map-remove_entry_by, option_map-lookup}
 use Rattle.revisions.specs.Seen.{seen}
 
 abbrev pub ref_cmp : Bor Key → Bor Key → Ordering

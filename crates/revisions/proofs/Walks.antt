@@ -4,9 +4,9 @@ use Rattle.std.proofs.lemmas.List.{take-take, take_min, drop_all, length-take, l
 use Rattle.std.proofs.lemmas.Bool.{cases_lt}
 use Rattle.serde_json.specs.Data.{Data}
 use Rattle.std.specs.Prelude.{Option}
-use Rattle.definitions.specs.History.{Write, View, Entries, found, seen, last_of, after, after_all}
-use Rattle.definitions.specs.Events.{Event, event_of, event_of_write, events_after}
-use Rattle.definitions.proofs.PutLaws.{found-after_all}
+use Rattle.spec_api.specs.History.{Write, View, Entries, found, seen, last_of, after, after_all}
+use Rattle.spec_api.specs.Events.{Event, event_of, event_of_write, events_after}
+use Rattle.spec_api.proofs.PutLaws.{found-after_all}
 
 -- cutting at the length of a beginning is cutting where it ends
 pub short_take : {X : Type 0} (xs : List X) (n m : ℕ) → n ≡ length (take m xs) → take n xs ≡ take m xs

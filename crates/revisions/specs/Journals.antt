@@ -1,6 +1,6 @@
 -- Writes as a history.
 use Rattle.std.specs.Prelude.{List, map}
-use Rattle.definitions.specs.History.{History, write}
+use Rattle.spec_api.specs.History.{History, write}
 use Rattle.meta.specs.Writes.{write_of}
 use Rattle.meta.specs.declared.writes.Write.{Write}
 

@@ -1,8 +1,8 @@
 //! The events of a view.
 ghost use Rattle.std.specs.Prelude.{◌≡◌, IfOk, map, option_map};
-ghost use Rattle.definitions.specs.History.{found};
-ghost use Rattle.definitions.specs.Events.{events};
-ghost use Rattle.keys.specs.Keys.{key_of};
+ghost use Rattle.spec_api.specs.History.{found};
+ghost use Rattle.spec_api.specs.Events.{events};
+ghost use Rattle.object_keys.specs.Keys.{key_of};
 ghost use Rattle.selector.specs.Views.{view_of};
 ghost use Rattle.revisions.specs.Events.{event_seen};
 ghost use Rattle.revisions.specs.Journals.{history_of};
@@ -10,13 +10,13 @@ ghost use Rattle.revisions.specs.Seen.{seen};
 
 use crate::making::{push_change, shown};
 use crate::past::{apply, state_at, up_to};
-use events::Event;
-use keys::Key;
 use meta::stored::StoredObject;
 use meta::writes::Write;
+use object_keys::Key;
 use selector::View;
 use std::alloc::{AllocError, Global};
 use std::collections::BTreeMap;
+use watch_events::Event;
 
 /// Returns the events of a view by the writes with a revision above `from` and up to `to`. The writes are gone through once.
 pub fn changes_between(

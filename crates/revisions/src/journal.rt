@@ -1,12 +1,12 @@
 //! A journal.
 use crate::changes::changes_between;
 use crate::past::state_at;
-use events::Event;
 use meta::lent_members::Member;
 use meta::writes::Write;
 use selector::View;
 use std::alloc::{AllocError, Global};
 use std::marker::Model;
+use watch_events::Event;
 
 /// All writes, the oldest first. The first has revision 2, and each write the next one.
 #[derive(Drop)]
@@ -15,8 +15,8 @@ pub struct Journal {
 }
 
 impl Model for Journal {
-    ghost use Rattle.definitions.specs.History.{History};
-    ghost use Rattle.codes.specs.HistoryCodes.{coded_history};
+    ghost use Rattle.spec_api.specs.History.{History};
+    ghost use Rattle.model_encodings.specs.HistoryCodes.{coded_history};
 
     ghost Value = { History };
 
@@ -32,9 +32,9 @@ impl Journal {
     ghost use Rattle.meta.specs.Members.{member_of};
     ghost use Rattle.meta.specs.Writes.{write_of};
     ghost use Rattle.selector.specs.Views.{view_of};
-    ghost use Rattle.definitions.specs.History as history;
-    ghost use Rattle.definitions.specs.History.{writes, list};
-    ghost use Rattle.definitions.specs.Events.{events};
+    ghost use Rattle.spec_api.specs.History as history;
+    ghost use Rattle.spec_api.specs.History.{writes, list};
+    ghost use Rattle.spec_api.specs.Events.{events};
     ghost use Rattle.revisions.specs.Events.{event_seen};
 
     /// Returns a journal of no writes.

@@ -7,6 +7,6 @@ pub mod making;
 pub mod past;
 pub mod watched;
 
-pub use events::Event;
 pub use journal::Journal;
-pub use watched::Watched;
+pub use watch_events::Event;
+pub use watched::WatchedEvents;

@@ -1,19 +1,19 @@
 //! How events are made: what a view shows, and the event from what it showed to what it shows.
 ghost use Rattle.std.specs.Prelude.{◌≡◌, ◌++◌, IfOk, OnOk, map, option_map};
-ghost use Rattle.definitions.specs.History.{seen as shown};
-ghost use Rattle.definitions.specs.Events.{event_of, gone_at};
-ghost use Rattle.keys.specs.Keys.{key_of};
+ghost use Rattle.spec_api.specs.History.{seen as shown};
+ghost use Rattle.spec_api.specs.Events.{event_of, gone_at};
+ghost use Rattle.object_keys.specs.Keys.{key_of};
 ghost use Rattle.selector.specs.Views.{view_of};
 ghost use Rattle.revisions.specs.Events.{event_seen};
 
-use definitions::frames::ChangeKind;
-use drafts::Draft;
-use events::Event;
-use keys::Key;
 use meta::objects::Object;
 use meta::stored::StoredObject;
+use metadata_editor::Draft;
+use object_keys::Key;
 use selector::View;
+use spec_api::frames::ChangeKind;
 use std::alloc::{AllocError, Global};
+use watch_events::Event;
 
 /// Returns the object, if the view asks for it. It takes no memory.
 pub fn shown<'a>(

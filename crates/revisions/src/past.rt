@@ -1,14 +1,14 @@
 //! What was there after some writes.
 ghost use Rattle.std.specs.Prelude.{◌≡◌, IfOk, OnOk, ◌-◌, take, option_map};
-ghost use Rattle.keys.specs.Keys.{key_of};
+ghost use Rattle.object_keys.specs.Keys.{key_of};
 ghost use Rattle.meta.specs.Writes.{write_of};
-ghost use Rattle.definitions.specs.History.{entries_at, after, put_or_remove};
+ghost use Rattle.spec_api.specs.History.{entries_at, after, put_or_remove};
 ghost use Rattle.revisions.specs.Journals.{history_of};
 ghost use Rattle.revisions.specs.Seen.{seen};
 
-use keys::Key;
 use meta::stored::StoredObject;
 use meta::writes::Write;
+use object_keys::Key;
 use std::alloc::{AllocError, Global};
 use std::collections::BTreeMap;
 

@@ -1,16 +1,16 @@
 //! What watches are given.
 ghost use Rattle.std.specs.Prelude.{◌≡◌, ◌++◌, map};
-ghost use Rattle.definitions.specs.Streams.{event as change};
-ghost use Rattle.definitions.specs.Versions.{last_change};
-ghost use Rattle.definitions.specs.WatchReplies.{told_lines};
+ghost use Rattle.spec_api.specs.Streams.{event as change};
+ghost use Rattle.spec_api.specs.Versions.{last_change};
+ghost use Rattle.spec_api.specs.WatchReplies.{told_lines};
 ghost use Rattle.revisions.specs.Events.{event_seen};
 ghost use Rattle.revisions.specs.Watches.{watched_of, last_bookmark};
 
-use events::Event;
+use watch_events::Event;
 
 /// A part of what a watch asks for.
 #[derive(Drop)]
-pub struct Watched {
+pub struct WatchedEvents {
     /// The events, in order.
     pub events: Vec<Event>,
     /// The revision up to which these are all: from here the watch goes on.
@@ -30,7 +30,7 @@ pub fn last_revision(events: &[Event], after: u64) -> u64
 
 /// Returns the revision of the bookmark after what a watch from a revision is given: where the watch then stands, if bookmarks
 /// are shown and it stands above the last event.
-pub fn last_bookmark(bookmarks: bool, from: u64, watched: &Watched) -> Option<u64>
+pub fn last_bookmark(bookmarks: bool, from: u64, watched: &WatchedEvents) -> Option<u64>
     ensures { told_lines bookmarks from (watched_of watched.now)
         ≡ map change (watched_of watched.now).events ++ last_bookmark result }
 {

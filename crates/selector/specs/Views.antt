@@ -1,6 +1,6 @@
 -- A view, by the bytes of its namespace and what its selectors say.
 use Rattle.std.specs.Prelude.{option_map, string_bytes}
-use Rattle.definitions.specs.History as history
+use Rattle.spec_api.specs.History as history
 use Rattle.selector.specs.declared.views.View.{View}
 
 abbrev pub view_of : View → history.View

@@ -6,6 +6,6 @@ pub mod selectors;
 mod values;
 pub mod views;
 
-pub use requirements::{Fault, Fields, Requirement};
+pub use selector_requirements::{Fields, Requirement, SelectorFault};
 pub use selectors::Selector;
 pub use views::View;

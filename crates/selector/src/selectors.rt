@@ -1,16 +1,16 @@
 //! Selectors of labels.
 ghost use Rattle.std.specs.Prelude.{◌≡◌, [], Some, Ok, IfOk, IfErr, length, ◌==◌};
 ghost use Rattle.serde_json.specs.View.{view};
-ghost use Rattle.definitions.specs.Metadata.{labels_of};
-ghost use Rattle.definitions.specs.SelectorTexts.{selector_of_text};
-ghost use Rattle.definitions.specs.SelectorValues.{selector_of_value};
-ghost use Rattle.definitions.specs.Selectors.{meets, meets_all};
-ghost use Rattle.requirements.specs.Seen.{RefusesText, RefusesValue, labels_in, requirement_of, requirements_of};
+ghost use Rattle.spec_api.specs.Metadata.{labels_of};
+ghost use Rattle.spec_api.specs.SelectorTexts.{selector_of_text};
+ghost use Rattle.spec_api.specs.SelectorValues.{selector_of_value};
+ghost use Rattle.spec_api.specs.Selectors.{meets, meets_all};
+ghost use Rattle.selector_requirements.specs.Seen.{RefusesText, RefusesValue, labels_in, requirement_of, requirements_of};
 
 use crate::values;
 use meta::stored::StoredObject;
-use requirements::texts::requirements;
-use requirements::{Fault, Requirement, Stop};
+use selector_requirements::texts::requirements;
+use selector_requirements::{PartFault, Requirement, SelectorFault};
 use serde_json::Value;
 use std::alloc::{AllocError, Global};
 use std::marker::Model;
@@ -23,9 +23,9 @@ pub struct Selector {
 
 impl Model for Selector {
     ghost use Rattle.std.specs.Prelude.{List};
-    ghost use Rattle.codes.specs.SelectorCodes.{coded_requirements};
-    ghost use Rattle.definitions.specs.Selectors as meaning;
-    ghost use Rattle.requirements.specs.Seen.{requirements_of};
+    ghost use Rattle.model_encodings.specs.SelectorCodes.{coded_requirements};
+    ghost use Rattle.spec_api.specs.Selectors as meaning;
+    ghost use Rattle.selector_requirements.specs.Seen.{requirements_of};
 
     ghost Value = { List meaning.Requirement };
 
@@ -87,7 +87,7 @@ impl Selector {
 
     /// Reads a text, as the query parameter `labelSelector` has it. The empty text matches all. The errors are a text of
     /// another form, and running out of memory.
-    pub fn parse(alloc: Global, text: &str) -> Result<Selector, Fault>
+    pub fn parse(alloc: Global, text: &str) -> Result<Selector, SelectorFault>
         ensures read { IfOk result (λ s. selector_of_text text.now ≡ Some s) }
         ensures refused { IfErr result (RefusesText (selector_of_text text.now)) }
     {
@@ -96,25 +96,25 @@ impl Selector {
         }
         match requirements(alloc, text.as_bytes()) {
             Ok(requirements) => Ok(Selector { requirements }),
-            Err(Stop::Refused) => Err(Fault::Malformed),
-            Err(Stop::NoMemory) => Err(Fault::NoMemory),
+            Err(PartFault::Refused) => Err(SelectorFault::Malformed),
+            Err(PartFault::NoMemory) => Err(SelectorFault::NoMemory),
         }
     }
 
     /// Reads a value, as a `spec.selector` is: a member that is null counts as absent. An empty object matches all. The errors
     /// are a number that is no whole number of 64 bits or a member of a wrong type; a key, an operator or values that do not
     /// go; and running out of memory.
-    pub fn of_value(alloc: Global, value: &Value) -> Result<Selector, Fault>
+    pub fn of_value(alloc: Global, value: &Value) -> Result<Selector, SelectorFault>
         ensures read { IfOk result (λ s. selector_of_value (view value.now) ≡ Ok s) }
         ensures refused { IfErr result (RefusesValue (selector_of_value (view value.now))) }
     {
         if !values::is_whole(value) {
-            return Err(Fault::Malformed);
+            return Err(SelectorFault::Malformed);
         }
         match values::requirements(alloc, value) {
             Ok(requirements) => Ok(Selector { requirements }),
-            Err(Stop::Refused) => Err(Fault::Invalid),
-            Err(Stop::NoMemory) => Err(Fault::NoMemory),
+            Err(PartFault::Refused) => Err(SelectorFault::Invalid),
+            Err(PartFault::NoMemory) => Err(SelectorFault::NoMemory),
         }
     }
 

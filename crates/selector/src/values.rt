@@ -2,16 +2,16 @@
 ghost use Rattle.std.specs.Prelude.{◌≡◌, ◌&&◌, not};
 ghost use Rattle.serde_json.specs.View.{view};
 ghost use Rattle.serde_json.specs.Written.{has_float};
-ghost use Rattle.definitions.specs.Reading.{fits, tidied};
-ghost use Rattle.definitions.specs.SelectorValues.{requirements_in, selector_shape};
-ghost use Rattle.requirements.specs.Seen.{Reads, requirements_of};
+ghost use Rattle.spec_api.specs.Reading.{fits, tidied};
+ghost use Rattle.spec_api.specs.SelectorValues.{requirements_in, selector_shape};
+ghost use Rattle.selector_requirements.specs.Seen.{Reads, requirements_of};
 
-use definitions::schemas::{Schema, Shape};
 use json_values::values::has_float;
 use meta::reading::{fits, tidy};
-use requirements::values::requirements_in;
-use requirements::{Requirement, Stop};
+use selector_requirements::values::requirements_in;
+use selector_requirements::{PartFault, Requirement};
 use serde_json::Value;
+use spec_api::schemas::{Schema, Shape};
 use std::alloc::Global;
 
 /// What a selector has to be.
@@ -25,7 +25,7 @@ pub(crate) fn is_whole(value: &Value) -> bool
 }
 
 /// Returns the requirements of such a value, of which the members that are null count as absent.
-pub(crate) fn requirements(alloc: Global, value: &Value) -> Result<Vec<Requirement>, Stop>
+pub(crate) fn requirements(alloc: Global, value: &Value) -> Result<Vec<Requirement>, PartFault>
     ensures { Reads (λ v. requirements_of v.items) result (requirements_in (tidied selector_shape (view value.now))) }
 {
     let said = tidy(value.clone()?, SHAPE)?;

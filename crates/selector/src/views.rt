@@ -1,13 +1,13 @@
 //! Views.
 ghost use Rattle.std.specs.Prelude.{◌≡◌, IfOk, option_map, string_bytes};
-ghost use Rattle.definitions.specs.History.{in_view};
-ghost use Rattle.keys.specs.Keys.{key_of};
+ghost use Rattle.spec_api.specs.History.{in_view};
+ghost use Rattle.object_keys.specs.Keys.{key_of};
 
 use crate::selectors::Selector;
-use definitions::kinds::Kind;
-use keys::Key;
 use meta::stored::StoredObject;
-use requirements::Fields;
+use object_keys::Key;
+use selector_requirements::Fields;
+use spec_api::kinds::Kind;
 use std::alloc::{AllocError, Global};
 
 /// What a list or a watch asks for (Kubernetes API Concepts, Resource URIs; Labels and Selectors; Field Selectors).
@@ -33,8 +33,8 @@ fn copied(text: Option<&String>) -> Result<Option<String>, AllocError>
 
 impl View {
     ghost use Rattle.std.specs.Prelude.{◌≡◌, ◌==◌, IfOk, option_map, string_bytes};
-    ghost use Rattle.definitions.specs.History.{in_view, in_namespace, unfiltered};
-    ghost use Rattle.definitions.specs.Lists.{is_selective};
+    ghost use Rattle.spec_api.specs.History.{in_view, in_namespace, unfiltered};
+    ghost use Rattle.spec_api.specs.Lists.{is_selective};
     ghost use Rattle.selector.specs.Views.{view_of};
 
     /// Returns all objects of a kind, in one namespace or in all. It takes no memory.

@@ -6,11 +6,11 @@ use Rattle.std.proofs.lemmas.Str.Ascii.{IsAscii-nil, IsAscii-cons}
 use Rattle.std.proofs.lemmas.List.Sums.{split_at_first, passes_at_first}
 use Rattle.std.specs.List.{list_all, list_any, slice_split, onto_first, before_first, after_first, position_or_len}
 use Rattle.std.specs.Str.{IsAscii, IsUtf8}
-use Rattle.definitions.proofs.FirstPlaces.{some-place}
-use Rattle.definitions.proofs.Truths.{and_true, left_true, right_true}
-use Rattle.definitions.specs.Keys.{is_letter_or_digit, is_label, is_subdomain}
-use Rattle.definitions.specs.Labels.{is_name_byte, is_alphanumeric, is_short_name, is_label_value, is_label_key, is_slash}
-use Rattle.definitions.specs.Selectors.{label_key, label_value}
+use Rattle.spec_api.proofs.FirstPlaces.{some-place}
+use Rattle.spec_api.proofs.Truths.{and_true, left_true, right_true}
+use Rattle.spec_api.specs.Keys.{is_letter_or_digit, is_label, is_subdomain}
+use Rattle.spec_api.specs.Labels.{is_name_byte, is_alphanumeric, is_short_name, is_label_value, is_label_key, is_slash}
+use Rattle.spec_api.specs.Selectors.{label_key, label_value}
 
 name-small : (b : ℕ) → is_name_byte b ≡ true → b < 128
 name-small b h = grind (arith, nat_tests)

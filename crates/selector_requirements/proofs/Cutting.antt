@@ -5,8 +5,8 @@ use Rattle.std.proofs.lemmas.List.Sums.{position_or_len_is}
 use Rattle.std.proofs.lemmas.List.Splits.{slice_split_first}
 use Rattle.std.proofs.lemmas.List.Folds.{list_any_at}
 use Rattle.std.specs.List.{list_any, before_first, after_first, position_or_len, slice_split, onto_first}
-use Rattle.definitions.proofs.FirstPlaces.{none-passes}
-use Rattle.definitions.proofs.Truths.{left_false, not_both, right_false}
+use Rattle.spec_api.proofs.FirstPlaces.{none-passes}
+use Rattle.spec_api.proofs.Truths.{left_false, not_both, right_false}
 
 pub cut-here : (p : ℕ → Bool) (t : List ℕ) (i : ℕ) → i < length t → ((k : ℕ) → k < i → p (get_or t k 0) ≡ false) → p (get_or t i 0) ≡ true
     → (slice_split p t ≡ take i t ∷ slice_split p (drop 1 (drop i t))) × (list_any p t ≡ true) × (take i t ≡ before_first p t) × (drop 1 (drop i t) ≡ after_first p t) × (length (drop 1 (drop i t)) < length t)

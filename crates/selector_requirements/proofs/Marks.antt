@@ -1,7 +1,7 @@
 -- Requirements that do not begin with `!`.
 use Rattle.std.proofs.Common.{◌≡◌, ℕ, ◌<◌, List, [], ◌∷◌, length, false, get_or, refl, arith, ◌==◌}
 use Rattle.std.proofs.lemmas.Bool.Decides.{nat_tests}
-use Rattle.definitions.specs.SelectorTexts.{plain_requirement, unblanked_requirement}
+use Rattle.spec_api.specs.SelectorTexts.{plain_requirement, unblanked_requirement}
 
 no-length : 0 < length {A = ℕ} [] → ⊥
 no-length l = omega (arith, l)

@@ -2,7 +2,7 @@
 use Rattle.std.proofs.Common.{◌≡◌, ℕ, ◌+◌, ◌<◌, ◌≤◌, List, [], ◌∷◌, ◌++◌, length, take, drop, get_or, Bool, true, false, ◌&&◌, ◌==◌, not, refl, sym, ap, arith, append_assoc, append-nil}
 use Rattle.std.proofs.lemmas.Grind.{common_steps}
 use Rattle.std.specs.List.{onto_first}
-use Rattle.definitions.specs.SelectorTexts.{parts, parts_from, still_inside}
+use Rattle.spec_api.specs.SelectorTexts.{parts, parts_from, still_inside}
 
 abbrev pub put_before : List ℕ → List (List ℕ) → List (List ℕ)
 put_before xs [] = xs ∷ []

@@ -1,10 +1,10 @@
 -- Requirements of sets that are none.
 use Rattle.std.proofs.Common.{◌≡◌, ℕ, List, false, Option, None, Some, refl, ap, ◌∙◌, option_and_then}
 use Rattle.std.specs.List.{list_any, before_first, after_first}
-use Rattle.definitions.specs.declared.selectors.Operator.{Operator}
-use Rattle.definitions.specs.SelectorTexts.{is_blank, in_requirement, set_operator, listed_values, before_last, trimmed}
-use Rattle.definitions.specs.Selectors.{label_key, requiring}
-use Rattle.requirements.proofs.Cutting.{after-nowhere}
+use Rattle.spec_api.specs.declared.selectors.Operator.{Operator}
+use Rattle.spec_api.specs.SelectorTexts.{is_blank, in_requirement, set_operator, listed_values, before_last, trimmed}
+use Rattle.spec_api.specs.Selectors.{label_key, requiring}
+use Rattle.selector_requirements.proofs.Cutting.{after-nowhere}
 
 without-values : (k : Option (List ℕ)) (o : Option Operator) → option_and_then (λ (p : Operator). requiring k p None) o ≡ None
 without-values k None = refl

@@ -1,7 +1,7 @@
 -- One more part of a list is read.
 use Rattle.std.proofs.Common.{◌≡◌, List, [], ◌∷◌, ◌++◌, Option, None, Some, sym, ap, ◌∙◌, append_assoc}
-use Rattle.definitions.specs.Selectors.{put_first}
-use Rattle.requirements.specs.Reading.{onto_read}
+use Rattle.spec_api.specs.Selectors.{put_first}
+use Rattle.selector_requirements.specs.Reading.{onto_read}
 
 pub one-more : {A : Type 0} (whole : Option (List A)) (so_far : List A) (a : A) (first : Option A) (rest : Option (List A))
     → whole ≡ onto_read so_far (put_first first rest) → first ≡ Some a → whole ≡ onto_read (so_far ++ a ∷ []) rest

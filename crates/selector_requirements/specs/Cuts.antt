@@ -2,7 +2,7 @@
 use Rattle.std.specs.Prelude.{◌≡◌, ℕ, ◌<◌, List, [], ◌∷◌, Bool, true, false, length, MatchOption, Option}
 use Rattle.std.specs.List.{slice_split, list_any, before_first, after_first}
 use Rattle.std.specs.Borrow.{Bor}
-use Rattle.definitions.specs.SelectorTexts.{parts}
+use Rattle.spec_api.specs.SelectorTexts.{parts}
 
 -- cut at the first byte that passes the test, where one does: so is the first part split off
 abbrev pub IsCut : (ℕ → Bool) → List ℕ → Option (Bor (List ℕ) × Bor (List ℕ)) → Type 0

@@ -5,18 +5,18 @@ use Rattle.std.specs.Borrow.{Bor}
 use Rattle.serde_json.specs.Data.{Data, Members}
 use Rattle.serde_json.specs.View.{view}
 use Rattle.serde_json.specs.declared.value.Value.{Value}
-use Rattle.definitions.specs.SelectorFields as fields
-use Rattle.definitions.specs.SelectorTexts as texts
-use Rattle.definitions.specs.SelectorValues as values
-use Rattle.definitions.specs.Selectors as meaning
-use Rattle.definitions.specs.Values.{inner_of}
-use Rattle.definitions.specs.declared.selectors.Operator.{Operator}
-use Rattle.requirements.specs.declared.faults.Fault.{Fault}
-use Rattle.requirements.specs.declared.faults.Fault.TheVariants as fault
-use Rattle.requirements.specs.declared.faults.Stop.{Stop}
-use Rattle.requirements.specs.declared.faults.Stop.TheVariants.{Refused, NoMemory}
-use Rattle.requirements.specs.declared.fields.FieldRequirement.{FieldRequirement}
-use Rattle.requirements.specs.declared.labels.Requirement.{Requirement}
+use Rattle.spec_api.specs.SelectorFields as fields
+use Rattle.spec_api.specs.SelectorTexts as texts
+use Rattle.spec_api.specs.SelectorValues as values
+use Rattle.spec_api.specs.Selectors as meaning
+use Rattle.spec_api.specs.Values.{inner_of}
+use Rattle.spec_api.specs.declared.selectors.Operator.{Operator}
+use Rattle.selector_requirements.specs.declared.faults.SelectorFault.{SelectorFault}
+use Rattle.selector_requirements.specs.declared.faults.SelectorFault.TheVariants as fault
+use Rattle.selector_requirements.specs.declared.faults.PartFault.{PartFault}
+use Rattle.selector_requirements.specs.declared.faults.PartFault.TheVariants.{Refused, NoMemory}
+use Rattle.selector_requirements.specs.declared.fields.FieldRequirement.{FieldRequirement}
+use Rattle.selector_requirements.specs.declared.labels.Requirement.{Requirement}
 
 abbrev pub now : Bor (List ℕ) → List ℕ
 now text = text.now
@@ -47,19 +47,19 @@ abbrev pub compared_by : Bor (List ℕ) × Operator × Bor (List ℕ) → texts.
 compared_by (left, operator, right) = record { left = left.now; operator = operator; right = right.now }
 
 -- the answer is what was meant, or says that nothing was, or that memory ran out
-abbrev pub Reads : {A B : Type 0} → (A → B) → Result A Stop → Option B → Type 0
+abbrev pub Reads : {A B : Type 0} → (A → B) → Result A PartFault → Option B → Type 0
 Reads f (Ok a) meant = meant ≡ Some (f a)
 Reads f (Err Refused) meant = meant ≡ None
 Reads f (Err NoMemory) meant = Unit {0}
 
 -- a text is refused as malformed where it says nothing, and else only for running out of memory
-abbrev pub RefusesText : {B : Type 0} → Option B → Fault → Type 0
+abbrev pub RefusesText : {B : Type 0} → Option B → SelectorFault → Type 0
 RefusesText said fault.Malformed = said ≡ None
 RefusesText said fault.Invalid = ⊥
 RefusesText said fault.NoMemory = Unit {0}
 
 -- a value is refused by its flaw, and else only for running out of memory
-abbrev pub RefusesValue : {B : Type 0} → Result B values.Flaw → Fault → Type 0
+abbrev pub RefusesValue : {B : Type 0} → Result B values.Flaw → SelectorFault → Type 0
 RefusesValue said fault.Malformed = said ≡ Err values.mistyped
 RefusesValue said fault.Invalid = said ≡ Err values.unfit
 RefusesValue said fault.NoMemory = Unit {0}

@@ -1,8 +1,8 @@
 //! Blanks, and texts that are cut in two.
 ghost use Rattle.std.specs.Prelude.{◌≡◌, ◌==◌, ◌&&◌, not, reverse, option_map};
-ghost use Rattle.definitions.specs.SelectorTexts.{is_blank, without_first_blanks, trimmed, before_last, still_inside};
-ghost use Rattle.requirements.specs.Cuts.{IsCut, IsFirstPart};
-ghost use Rattle.requirements.specs.Seen.{now};
+ghost use Rattle.spec_api.specs.SelectorTexts.{is_blank, without_first_blanks, trimmed, before_last, still_inside};
+ghost use Rattle.selector_requirements.specs.Cuts.{IsCut, IsFirstPart};
+ghost use Rattle.selector_requirements.specs.Seen.{now};
 
 /// Returns whether a byte is a space or a tab.
 pub(crate) fn is_blank(byte: u8) -> bool

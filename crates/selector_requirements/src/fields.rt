@@ -1,15 +1,15 @@
 //! Selectors of fields.
 ghost use Rattle.std.specs.Prelude.{◌≡◌, [], Some, IfOk, IfErr, length, ◌==◌};
 ghost use Rattle.std.specs.List.{list_any, slice_split};
-ghost use Rattle.definitions.specs.SelectorFields.{field_meets, field_named, field_requirement, fields_meet, is_wanted, fields_of_text};
-ghost use Rattle.definitions.specs.SelectorTexts.{is_blank, is_comma};
-ghost use Rattle.definitions.specs.Selectors.{each_read};
-ghost use Rattle.requirements.specs.Seen.{Reads, RefusesText, field_requirement_of, field_requirements_of};
+ghost use Rattle.spec_api.specs.SelectorFields.{field_meets, field_named, field_requirement, fields_meet, is_wanted, fields_of_text};
+ghost use Rattle.spec_api.specs.SelectorTexts.{is_blank, is_comma};
+ghost use Rattle.spec_api.specs.Selectors.{each_read};
+ghost use Rattle.selector_requirements.specs.Seen.{Reads, RefusesText, field_requirement_of, field_requirements_of};
 
 use crate::cuts::{cut_at, is_blank};
-use crate::faults::{Fault, Stop};
+use crate::faults::{PartFault, SelectorFault};
 use crate::texts::compare;
-use definitions::selectors::{Operator, SelectableField};
+use spec_api::selectors::{Operator, SelectableField};
 use std::alloc::{AllocError, Global};
 use std::marker::Model;
 
@@ -29,9 +29,9 @@ pub struct Fields {
 
 impl Model for Fields {
     ghost use Rattle.std.specs.Prelude.{List};
-    ghost use Rattle.codes.specs.SelectorCodes.{coded_field_requirements};
-    ghost use Rattle.definitions.specs.SelectorFields as meaning;
-    ghost use Rattle.requirements.specs.Seen.{field_requirements_of};
+    ghost use Rattle.model_encodings.specs.SelectorCodes.{coded_field_requirements};
+    ghost use Rattle.spec_api.specs.SelectorFields as meaning;
+    ghost use Rattle.selector_requirements.specs.Seen.{field_requirements_of};
 
     ghost Value = { List meaning.FieldRequirement };
 
@@ -69,13 +69,13 @@ fn is_wanted(operator: Operator) -> bool
     }
 }
 
-fn field_requirement(alloc: Global, part: &[u8]) -> Result<FieldRequirement, Stop>
+fn field_requirement(alloc: Global, part: &[u8]) -> Result<FieldRequirement, PartFault>
     ensures { Reads field_requirement_of result (field_requirement part.now) }
 {
     match cut_at(part, b'=') {
         Some((left, right)) => {
             if has_blank(part) {
-                return Err(Stop::Refused);
+                return Err(PartFault::Refused);
             }
             let (name, operator, value) = compare(left, right);
             match field_named(name) {
@@ -87,15 +87,15 @@ fn field_requirement(alloc: Global, part: &[u8]) -> Result<FieldRequirement, Sto
                         value,
                     })
                 }
-                None => Err(Stop::Refused),
+                None => Err(PartFault::Refused),
             }
         }
-        None => Err(Stop::Refused),
+        None => Err(PartFault::Refused),
     }
 }
 
 /// Returns the requirements of a text that is not empty.
-fn field_requirements(alloc: Global, text: &[u8]) -> Result<Vec<FieldRequirement>, Stop>
+fn field_requirements(alloc: Global, text: &[u8]) -> Result<Vec<FieldRequirement>, PartFault>
     ensures { Reads (λ v. field_requirements_of v.items) result (each_read field_requirement (slice_split is_comma text.now)) }
 {
     let mut found = Vec::new(alloc);
@@ -169,7 +169,7 @@ impl Fields {
 
     /// Reads a text, as the query parameter `fieldSelector` has it. The empty text matches all. The errors are a text of
     /// another form, and running out of memory.
-    pub fn parse(alloc: Global, text: &str) -> Result<Fields, Fault>
+    pub fn parse(alloc: Global, text: &str) -> Result<Fields, SelectorFault>
         ensures read { IfOk result (λ s. fields_of_text text.now ≡ Some s) }
         ensures refused { IfErr result (RefusesText (fields_of_text text.now)) }
     {
@@ -178,8 +178,8 @@ impl Fields {
         }
         match field_requirements(alloc, text.as_bytes()) {
             Ok(requirements) => Ok(Fields { requirements }),
-            Err(Stop::Refused) => Err(Fault::Malformed),
-            Err(Stop::NoMemory) => Err(Fault::NoMemory),
+            Err(PartFault::Refused) => Err(SelectorFault::Malformed),
+            Err(PartFault::NoMemory) => Err(SelectorFault::NoMemory),
         }
     }
 

@@ -1,11 +1,11 @@
 //! One requirement of labels.
 ghost use Rattle.std.specs.Prelude.{◌≡◌, IfOk, option_map};
-ghost use Rattle.definitions.specs.Labels.{label_at};
-ghost use Rattle.definitions.specs.Selectors.{is_among, holds, meets};
-ghost use Rattle.requirements.specs.Seen.{now, texts_of, requirement_of, labels_in};
+ghost use Rattle.spec_api.specs.Labels.{label_at};
+ghost use Rattle.spec_api.specs.Selectors.{is_among, holds, meets};
+ghost use Rattle.selector_requirements.specs.Seen.{now, texts_of, requirement_of, labels_in};
 
-use definitions::selectors::Operator;
 use serde_json::Value;
+use spec_api::selectors::Operator;
 use std::alloc::{AllocError, Global};
 
 /// What a selector says of the label under a key (Kubernetes, Labels and Selectors).

@@ -9,6 +9,6 @@ mod owned;
 pub mod texts;
 pub mod values;
 
-pub use faults::{Fault, Stop};
+pub use faults::{PartFault, SelectorFault};
 pub use fields::Fields;
 pub use labels::Requirement;

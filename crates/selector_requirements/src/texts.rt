@@ -1,19 +1,19 @@
 //! The texts of selectors.
 ghost use Rattle.std.specs.Prelude.{◌≡◌, codes, Some, [], ◌∷◌, string_bytes, option_map};
 ghost use Rattle.std.specs.List.{slice_split};
-ghost use Rattle.definitions.specs.SelectorTexts.{value_in, is_comma, listed_values, set_operator, in_requirement, compared_requirement, comparison, plain_requirement, unblanked_requirement, requirement, parts, compared, before_last};
-ghost use Rattle.definitions.specs.Selectors.{label_key, label_value, requiring, each_read};
-ghost use Rattle.requirements.specs.Seen.{Reads, requirement_of, requirements_of, texts_of, now, compared_by};
+ghost use Rattle.spec_api.specs.SelectorTexts.{value_in, is_comma, listed_values, set_operator, in_requirement, compared_requirement, comparison, plain_requirement, unblanked_requirement, requirement, parts, compared, before_last};
+ghost use Rattle.spec_api.specs.Selectors.{label_key, label_value, requiring, each_read};
+ghost use Rattle.selector_requirements.specs.Seen.{Reads, requirement_of, requirements_of, texts_of, now, compared_by};
 
 use crate::cuts::{before_last, cut_at, cut_at_blank, first_part, trim};
-use crate::faults::Stop;
+use crate::faults::PartFault;
 use crate::labels::Requirement;
 use crate::owned::{own_key, own_value};
-use definitions::selectors::Operator;
+use spec_api::selectors::Operator;
 use std::alloc::Global;
 
 /// Returns a requirement without values.
-fn bare(alloc: Global, key: &[u8], operator: Operator) -> Result<Requirement, Stop>
+fn bare(alloc: Global, key: &[u8], operator: Operator) -> Result<Requirement, PartFault>
     ensures { Reads requirement_of result (requiring (label_key key.now) operator (Some [])) }
 {
     let key = own_key(alloc, key)?;
@@ -30,7 +30,7 @@ pub(crate) fn single(
     key: &[u8],
     operator: Operator,
     value: &[u8],
-) -> Result<Requirement, Stop>
+) -> Result<Requirement, PartFault>
     ensures { Reads requirement_of result (requiring (label_key key.now) operator (each_read label_value (value.now ∷ []))) }
 {
     let key = own_key(alloc, key)?;
@@ -44,7 +44,7 @@ pub(crate) fn single(
     })
 }
 
-fn own_values(alloc: Global, list: &[u8]) -> Result<Vec<String>, Stop>
+fn own_values(alloc: Global, list: &[u8]) -> Result<Vec<String>, PartFault>
     ensures { Reads (λ v. texts_of v.items) result (each_read value_in (slice_split is_comma list.now)) }
 {
     let mut values = Vec::new(alloc);
@@ -60,11 +60,11 @@ fn own_values(alloc: Global, list: &[u8]) -> Result<Vec<String>, Stop>
 }
 
 /// Returns the values between parentheses.
-fn listed(alloc: Global, list: &[u8]) -> Result<Vec<String>, Stop>
+fn listed(alloc: Global, list: &[u8]) -> Result<Vec<String>, PartFault>
     ensures { Reads (λ v. texts_of v.items) result (listed_values list.now) }
 {
     if trim(list).is_empty() {
-        return Err(Stop::Refused);
+        return Err(PartFault::Refused);
     }
     own_values(alloc, list)
 }
@@ -82,7 +82,7 @@ fn set_operator(word: &[u8]) -> Option<Operator>
 }
 
 /// Returns the requirement of `k in (v,..)` or `k notin (v,..)`, cut at the parenthesis.
-fn set(alloc: Global, head: &[u8], list: &[u8]) -> Result<Requirement, Stop>
+fn set(alloc: Global, head: &[u8], list: &[u8]) -> Result<Requirement, PartFault>
     ensures { Reads requirement_of result (in_requirement head.now list.now) }
 {
     match cut_at_blank(head) {
@@ -97,11 +97,11 @@ fn set(alloc: Global, head: &[u8], list: &[u8]) -> Result<Requirement, Stop>
                         values,
                     })
                 }
-                None => Err(Stop::Refused),
+                None => Err(PartFault::Refused),
             },
-            None => Err(Stop::Refused),
+            None => Err(PartFault::Refused),
         },
-        None => Err(Stop::Refused),
+        None => Err(PartFault::Refused),
     }
 }
 
@@ -119,7 +119,7 @@ pub(crate) fn compare<'t>(left: &'t [u8], right: &'t [u8]) -> (&'t [u8], Operato
 }
 
 /// Returns a requirement that begins with neither a blank nor `!`.
-fn plain(alloc: Global, text: &[u8]) -> Result<Requirement, Stop>
+fn plain(alloc: Global, text: &[u8]) -> Result<Requirement, PartFault>
     ensures { Reads requirement_of result (plain_requirement text.now) }
 {
     if let Some((head, list)) = cut_at(text, b'(') {
@@ -132,7 +132,7 @@ fn plain(alloc: Global, text: &[u8]) -> Result<Requirement, Stop>
     bare(alloc, text, Operator::Exists)
 }
 
-fn requirement(alloc: Global, part: &[u8]) -> Result<Requirement, Stop>
+fn requirement(alloc: Global, part: &[u8]) -> Result<Requirement, PartFault>
     ensures { Reads requirement_of result (requirement part.now) }
 {
     let text = trim(part);
@@ -144,12 +144,12 @@ fn requirement(alloc: Global, part: &[u8]) -> Result<Requirement, Stop>
                 plain(alloc, text)
             }
         }
-        [] => Err(Stop::Refused),
+        [] => Err(PartFault::Refused),
     }
 }
 
 /// Returns the requirements of a text that is not empty.
-pub fn requirements(alloc: Global, text: &[u8]) -> Result<Vec<Requirement>, Stop>
+pub fn requirements(alloc: Global, text: &[u8]) -> Result<Vec<Requirement>, PartFault>
     ensures { Reads (λ v. requirements_of v.items) result (each_read requirement (parts text.now)) }
 {
     let mut found = Vec::new(alloc);

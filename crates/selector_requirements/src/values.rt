@@ -1,17 +1,17 @@
 //! What a selector's value says.
 ghost use Rattle.std.specs.Prelude.{◌≡◌, Some, None, [], ◌∷◌, if◌then◌else◌};
 ghost use Rattle.serde_json.specs.View.{view, items_view, members_view};
-ghost use Rattle.definitions.specs.SelectorValues.{expression_requirement, expression_requirements, fitting, item_values, items_in, label_requirements, operator_named, requirements_in, text_in};
-ghost use Rattle.definitions.specs.Selectors.{each_read, label_key, label_value, requiring};
-ghost use Rattle.definitions.specs.Values.{inner_of};
-ghost use Rattle.requirements.specs.Seen.{Reads, found_value, requirement_of, requirements_of, texts_of};
+ghost use Rattle.spec_api.specs.SelectorValues.{expression_requirement, expression_requirements, fitting, item_values, items_in, label_requirements, operator_named, requirements_in, text_in};
+ghost use Rattle.spec_api.specs.Selectors.{each_read, label_key, label_value, requiring};
+ghost use Rattle.spec_api.specs.Values.{inner_of};
+ghost use Rattle.selector_requirements.specs.Seen.{Reads, found_value, requirement_of, requirements_of, texts_of};
 
-use crate::faults::Stop;
+use crate::faults::PartFault;
 use crate::labels::Requirement;
 use crate::owned::{own_key, own_value};
 use crate::texts::single;
-use definitions::selectors::Operator;
 use serde_json::{Map, Value};
+use spec_api::selectors::Operator;
 use std::alloc::Global;
 
 /// Returns a text, or the empty one where none is.
@@ -44,7 +44,7 @@ fn operator_named(word: &str) -> Option<Operator>
 }
 
 /// Returns the requirement of one of `matchLabels`.
-fn label_requirement(alloc: Global, key: &str, value: &Value) -> Result<Requirement, Stop>
+fn label_requirement(alloc: Global, key: &str, value: &Value) -> Result<Requirement, PartFault>
     ensures { Reads requirement_of result (requiring (label_key key.now) Operator.In (each_read label_value (text_in (Some (view value.now)) ∷ []))) }
 {
     single(
@@ -55,7 +55,10 @@ fn label_requirement(alloc: Global, key: &str, value: &Value) -> Result<Requirem
     )
 }
 
-fn label_requirements(alloc: Global, members: &Map<String, Value>) -> Result<Vec<Requirement>, Stop>
+fn label_requirements(
+    alloc: Global,
+    members: &Map<String, Value>,
+) -> Result<Vec<Requirement>, PartFault>
     ensures { Reads (λ v. requirements_of v.items) result (label_requirements (members_view members.now.entries)) }
 {
     let mut found = Vec::new(alloc);
@@ -66,7 +69,7 @@ fn label_requirements(alloc: Global, members: &Map<String, Value>) -> Result<Vec
     Ok(found)
 }
 
-fn item_values(alloc: Global, items: &Vec<Value>) -> Result<Vec<String>, Stop>
+fn item_values(alloc: Global, items: &Vec<Value>) -> Result<Vec<String>, PartFault>
     ensures { Reads (λ v. texts_of v.items) result (item_values (items_view items.now.items)) }
 {
     let mut values = Vec::new(alloc);
@@ -77,7 +80,7 @@ fn item_values(alloc: Global, items: &Vec<Value>) -> Result<Vec<String>, Stop>
     Ok(values)
 }
 
-fn listed(alloc: Global, found: Option<&Value>) -> Result<Vec<String>, Stop>
+fn listed(alloc: Global, found: Option<&Value>) -> Result<Vec<String>, PartFault>
     ensures { Reads (λ v. texts_of v.items) result (item_values (items_in (found_value found.entry))) }
 {
     match found {
@@ -101,17 +104,17 @@ fn goes_with(operator: Operator, values: &Vec<String>) -> bool
     }
 }
 
-fn fitting(operator: Operator, values: Vec<String>) -> Result<Vec<String>, Stop>
+fn fitting(operator: Operator, values: Vec<String>) -> Result<Vec<String>, PartFault>
     ensures { Reads (λ v. texts_of v.items) result (fitting operator (texts_of values.items)) }
 {
     if !goes_with(operator, &values) {
-        return Err(Stop::Refused);
+        return Err(PartFault::Refused);
     }
     Ok(values)
 }
 
 /// Returns one of `matchExpressions`.
-fn expression(alloc: Global, value: &Value) -> Result<Requirement, Stop>
+fn expression(alloc: Global, value: &Value) -> Result<Requirement, PartFault>
     ensures { Reads requirement_of result (expression_requirement (view value.now)) }
 {
     match operator_named(text_in(value.get("operator"))) {
@@ -125,11 +128,11 @@ fn expression(alloc: Global, value: &Value) -> Result<Requirement, Stop>
                 values,
             })
         }
-        None => Err(Stop::Refused),
+        None => Err(PartFault::Refused),
     }
 }
 
-fn expressions(alloc: Global, items: &Vec<Value>) -> Result<Vec<Requirement>, Stop>
+fn expressions(alloc: Global, items: &Vec<Value>) -> Result<Vec<Requirement>, PartFault>
     ensures { Reads (λ v. requirements_of v.items) result (expression_requirements (items_view items.now.items)) }
 {
     let mut found = Vec::new(alloc);
@@ -140,7 +143,7 @@ fn expressions(alloc: Global, items: &Vec<Value>) -> Result<Vec<Requirement>, St
     Ok(found)
 }
 
-fn labels_in(alloc: Global, found: Option<&Value>) -> Result<Vec<Requirement>, Stop>
+fn labels_in(alloc: Global, found: Option<&Value>) -> Result<Vec<Requirement>, PartFault>
     ensures { Reads (λ v. requirements_of v.items) result (label_requirements (inner_of (found_value found.entry))) }
 {
     match found {
@@ -152,7 +155,7 @@ fn labels_in(alloc: Global, found: Option<&Value>) -> Result<Vec<Requirement>, S
     }
 }
 
-fn expressions_in(alloc: Global, found: Option<&Value>) -> Result<Vec<Requirement>, Stop>
+fn expressions_in(alloc: Global, found: Option<&Value>) -> Result<Vec<Requirement>, PartFault>
     ensures { Reads (λ v. requirements_of v.items) result (expression_requirements (items_in (found_value found.entry))) }
 {
     match found {
@@ -165,7 +168,7 @@ fn expressions_in(alloc: Global, found: Option<&Value>) -> Result<Vec<Requiremen
 }
 
 /// Returns the requirements of a value without null members, whose known members have their types.
-pub fn requirements_in(alloc: Global, value: &Value) -> Result<Vec<Requirement>, Stop>
+pub fn requirements_in(alloc: Global, value: &Value) -> Result<Vec<Requirement>, PartFault>
     ensures { Reads (λ v. requirements_of v.items) result (requirements_in (view value.now)) }
 {
     let mut found = labels_in(alloc, value.get("matchLabels"))?;

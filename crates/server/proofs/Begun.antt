@@ -1,15 +1,15 @@
 -- What the initial events that are given, or refused, say of all that is answered up to the present revision.
 use Rattle.std.proofs.Common.{◌≡◌, ◌⊎◌, inl, inr, ℕ, Bool, true, false, Ok, Err, refl, ap}
 use Rattle.std.specs.Prelude.{nat_lt}
-use Rattle.definitions.specs.History.{Entries}
-use Rattle.definitions.specs.Versions.{once_present}
-use Rattle.definitions.specs.WatchReplies.{initial_at}
-use Rattle.keys.specs.Faults.{refusal_of}
-use Rattle.keys.specs.declared.fault.Fault.{Fault}
-use Rattle.keys.specs.declared.fault.Fault.TheVariants as fault
+use Rattle.spec_api.specs.History.{Entries}
+use Rattle.spec_api.specs.Versions.{once_present}
+use Rattle.spec_api.specs.WatchReplies.{initial_at}
+use Rattle.object_keys.specs.Faults.{refusal_of}
+use Rattle.object_keys.specs.declared.fault.Fault.{Fault}
+use Rattle.object_keys.specs.declared.fault.Fault.TheVariants as fault
 use Rattle.watch_cache.specs.Served.{Serves}
-use Rattle.desk.specs.Initials.{initial_of}
-use Rattle.desk.specs.declared.initials.InitialEvents.{InitialEvents}
+use Rattle.server.specs.Initials.{initial_of}
+use Rattle.server.specs.declared.initials.InitialEvents.{InitialEvents}
 
 served_at : {X : Type 0} (b : Bool) (now r : ℕ) (ms : Entries) (i : InitialEvents) (x : X) → nat_lt now r ≡ b → Serves initial_of (once_present now r (initial_at now ms)) (Ok i) → once_present now r x ≡ Ok x
 served_at true now r ms i x m is = let none = rw m at is in absurd none

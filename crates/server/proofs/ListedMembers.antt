@@ -5,18 +5,18 @@ use Rattle.std.specs.Map.{remove_entry}
 use Rattle.std.specs.Ordering.{match_ordering}
 use Rattle.std.specs.BTreeMap.{insert_entry, is_at}
 use Rattle.serde_json.specs.Data.{Data}
-use Rattle.definitions.specs.Keys.{Key, key_cmp}
-use Rattle.definitions.specs.History.{View, Entries, viewed, in_view, put_or_remove, seen}
-use Rattle.definitions.specs.Pages.{AreInPlace, place_of, last_place}
-use Rattle.definitions.specs.Refusals.{Refusal, expired, too_new}
-use Rattle.definitions.specs.Windows.{Change}
-use Rattle.server_state.specs.Recorded.{Window, above, undone, recorded_list}
-use Rattle.keys.specs.Keys.{key_of}
+use Rattle.spec_api.specs.Keys.{Key, key_cmp}
+use Rattle.spec_api.specs.History.{View, Entries, viewed, in_view, put_or_remove, seen}
+use Rattle.spec_api.specs.Pages.{AreInPlace, place_of, last_place}
+use Rattle.spec_api.specs.Refusals.{Refusal, expired, too_new}
+use Rattle.spec_api.specs.Windows.{Change}
+use Rattle.spec_server.specs.Recorded.{Window, above, undone, recorded_list}
+use Rattle.object_keys.specs.Keys.{key_of}
 use Rattle.meta.specs.Members.{member_of}
 use Rattle.meta.specs.declared.lent_members.Member.{Member}
 use Rattle.watch_cache.specs.Served.{Serves}
-use Rattle.definitions.proofs.PageLists.{order, ascending_viewed, in_place_from}
-use Rattle.definitions.proofs.PutLaws.{IsAscending, IsAscending-after, IsAscending-filter, same_name}
+use Rattle.spec_api.proofs.PageLists.{order, ascending_viewed, in_place_from}
+use Rattle.spec_api.proofs.PutLaws.{IsAscending, IsAscending-after, IsAscending-filter, same_name}
 
 -- the view asks for each
 abbrev pub AllIn : View → Entries → Type 0

@@ -1,14 +1,14 @@
 -- What a served request says of its outcome.
 use Rattle.std.proofs.Common.{◌≡◌, ℕ, List, false, Option, Some, Ok, IfSome, option_map, sym, ap, ◌∙◌, subst}
-use Rattle.definitions.specs.History.{Entries}
-use Rattle.definitions.specs.Verbs as outcomes
-use Rattle.definitions.specs.Verbs.{Outcome, answered, refused, accept_at, overflows}
-use Rattle.definitions.specs.ObjectRequests.{Request}
-use Rattle.laws.proofs.Limits.{room}
+use Rattle.spec_api.specs.History.{Entries}
+use Rattle.spec_api.specs.Verbs as outcomes
+use Rattle.spec_api.specs.Verbs.{Outcome, answered, refused, accept_at, overflows}
+use Rattle.spec_api.specs.ObjectRequests.{Request}
+use Rattle.spec_laws.proofs.Limits.{room}
 use Rattle.meta.specs.Writes.{write_of}
 use Rattle.meta.specs.declared.writes.Write.{Write}
 use Rattle.reply.specs.declared.reply.Reply.{Reply}
-use Rattle.answers.specs.Serves.{Serves}
+use Rattle.verb_parts.specs.Serves.{Serves}
 
 pub served_write : (o : Outcome) (r : Reply) (w : Option Write) → Serves o (Ok (r, w)) → option_map write_of w ≡ outcomes.write_of o
 served_write (answered a) r w is = is.write

@@ -5,21 +5,21 @@ use Rattle.std.specs.Result.{result_map_both}
 use Rattle.std.proofs.lemmas.Bool.Decides.{nat_tests}
 use Rattle.std.proofs.lemmas.List.{take_all, length-append}
 use Rattle.serde_json.specs.Data.{Data}
-use Rattle.definitions.specs.Events.{Event as Change, event_of}
-use Rattle.definitions.specs.History.{View, seen}
-use Rattle.definitions.specs.Keys.{Key}
-use Rattle.definitions.specs.Refusals.{Refusal}
-use Rattle.definitions.specs.Versions.{watched, last_change}
-use Rattle.definitions.specs.Windows.{Change as Kept, within}
-use Rattle.server_state.specs.Recorded.{Window, above, event_recorded, events_recorded, recorded_since}
+use Rattle.spec_api.specs.Events.{Event as Change, event_of}
+use Rattle.spec_api.specs.History.{View, seen}
+use Rattle.spec_api.specs.Keys.{Key}
+use Rattle.spec_api.specs.Refusals.{Refusal}
+use Rattle.spec_api.specs.Versions.{watched, last_change}
+use Rattle.spec_api.specs.Windows.{Change as Kept, within}
+use Rattle.spec_server.specs.Recorded.{Window, above, event_recorded, events_recorded, recorded_since}
 use Rattle.revisions.specs.Events.{event_seen}
-use Rattle.events.specs.declared.event.Event.{Event}
+use Rattle.watch_events.specs.declared.event.Event.{Event}
 use Rattle.watch_cache.specs.Served.{Serves}
 use Rattle.revisions.specs.Watches.{watched_of}
-use Rattle.revisions.specs.declared.watched.Watched.{Watched}
+use Rattle.revisions.specs.declared.watched.WatchedEvents.{WatchedEvents}
 
 -- the first n of more than n changes
-pub given_part : {Y : Type 0} (seen : Y → List Change) (all : Result (List Change) Refusal) (y : Y) (now a n : ℕ) (w : Watched) → Serves seen all (Ok y) → n < length (seen y)
+pub given_part : {Y : Type 0} (seen : Y → List Change) (all : Result (List Change) Refusal) (y : Y) (now a n : ℕ) (w : WatchedEvents) → Serves seen all (Ok y) → n < length (seen y)
     → map event_seen w.events.items ≡ take n (seen y) → w.stands ≡ last_change a (take n (seen y)) → Serves watched_of (result_map_both (watched now a n) (λ f. f) all) (Ok w)
 given_part seen (Err f) y now a n w is more changes stands = absurd is
 given_part seen (Ok cs) y now a n w is more changes stands =

@@ -3,17 +3,17 @@ use Rattle.std.proofs.Common.{◌≡◌, ◌≤◌, ℕ, zero, suc, List, [], �
 use Rattle.std.specs.List.{AllByRecursion}
 use Rattle.std.specs.List.Sorted.{IsStrictlySortedBy}
 use Rattle.std.specs.Map.{keys_of}
-use Rattle.definitions.specs.declared.kinds.Kind.{Kind}
-use Rattle.definitions.specs.Kinds.{rank}
-use Rattle.definitions.specs.Keys.{Key, key_cmp}
-use Rattle.definitions.specs.History.{Entries, Write, after}
-use Rattle.server_state.specs.Servers.{Server, opened_server, window_of, with_window, change_at, after_write}
-use Rattle.server_state.specs.Snapshots.{Snapshot, empty, written}
-use Rattle.definitions.specs.Windows.{Change, last_revision}
-use Rattle.server_state.specs.Recorded.{Window, opened, recorded, compacted_to}
-use Rattle.definitions.proofs.KindOrder.{rank_tells}
-use Rattle.definitions.proofs.PutLaws.{IsAbove, IsAscending, IsAscending-after, sorted_from}
-use Rattle.desk.specs.Standing.{IsUpTo, IsStanding}
+use Rattle.spec_api.specs.declared.kinds.Kind.{Kind}
+use Rattle.spec_api.specs.Kinds.{rank}
+use Rattle.spec_api.specs.Keys.{Key, key_cmp}
+use Rattle.spec_api.specs.History.{Entries, Write, after}
+use Rattle.spec_server.specs.Servers.{Server, opened_server, window_of, with_window, change_at, after_write}
+use Rattle.spec_server.specs.Snapshots.{Snapshot, empty, written}
+use Rattle.spec_api.specs.Windows.{Change, last_revision}
+use Rattle.spec_server.specs.Recorded.{Window, opened, recorded, compacted_to}
+use Rattle.spec_api.proofs.KindOrder.{rank_tells}
+use Rattle.spec_api.proofs.PutLaws.{IsAbove, IsAscending, IsAscending-after, sorted_from}
+use Rattle.server.specs.Standing.{IsUpTo, IsStanding}
 
 -- ---- members in order
 

@@ -1,13 +1,13 @@
 -- A reply that is a page of a list.
 use Rattle.std.specs.Prelude.{◌==◌, ℕ, Option, None, Some, if◌then◌else◌}
-use Rattle.definitions.specs.History.{View, Entries}
-use Rattle.definitions.specs.Lists.{is_selective, page_body, told_count}
-use Rattle.definitions.specs.Pages.{Place, last_place, page_of}
-use Rattle.definitions.specs.Versions.{listed_as}
-use Rattle.definitions.specs.Verbs.{Answer}
-use Rattle.definitions.specs.declared.versions.At.TheVariants.{Present}
+use Rattle.spec_api.specs.History.{View, Entries}
+use Rattle.spec_api.specs.Lists.{is_selective, page_body, told_count}
+use Rattle.spec_api.specs.Pages.{Place, last_place, page_of}
+use Rattle.spec_api.specs.Versions.{listed_as}
+use Rattle.spec_api.specs.Verbs.{Answer}
+use Rattle.spec_api.specs.declared.versions.At.TheVariants.{Present}
 use Rattle.reply.specs.declared.reply.Reply.{Reply}
-use Rattle.desk.specs.Replies.{Says}
+use Rattle.server.specs.Replies.{Says}
 
 -- the answer with these items of a list at revision r, after which so many are left
 abbrev pub page_with : ℕ → View → Entries → ℕ → Answer

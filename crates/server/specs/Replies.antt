@@ -1,10 +1,10 @@
 -- Replies as the definitions say them.
 use Rattle.std.specs.Prelude.{◌≡◌, ◌⊎◌, Result, Ok, Err, string_bytes}
 use Rattle.serde_json.specs.Written.{compact_text}
-use Rattle.definitions.specs.Verbs.{Answer, Outcome, answered, refused}
-use Rattle.keys.specs.Faults.{refusal_of}
-use Rattle.keys.specs.declared.fault.Fault.{Fault}
-use Rattle.keys.specs.declared.fault.Fault.TheVariants as fault
+use Rattle.spec_api.specs.Verbs.{Answer, Outcome, answered, refused}
+use Rattle.object_keys.specs.Faults.{refusal_of}
+use Rattle.object_keys.specs.declared.fault.Fault.{Fault}
+use Rattle.object_keys.specs.declared.fault.Fault.TheVariants as fault
 use Rattle.reply.specs.declared.reply.Reply.{Reply}
 
 -- the reply has the code and the body of the answer

@@ -2,11 +2,11 @@
 use Rattle.std.specs.Prelude.{◌≡◌, ◌≤◌, ℕ}
 use Rattle.std.specs.List.Sorted.{IsStrictlySortedBy}
 use Rattle.std.specs.Map.{keys_of}
-use Rattle.definitions.specs.declared.kinds.Kind.{Kind}
-use Rattle.definitions.specs.Keys.{key_cmp}
-use Rattle.server_state.specs.Servers.{Server}
-use Rattle.server_state.specs.Recorded.{Window}
-use Rattle.definitions.specs.Windows.{last_revision}
+use Rattle.spec_api.specs.declared.kinds.Kind.{Kind}
+use Rattle.spec_api.specs.Keys.{key_cmp}
+use Rattle.spec_server.specs.Servers.{Server}
+use Rattle.spec_server.specs.Recorded.{Window}
+use Rattle.spec_api.specs.Windows.{last_revision}
 
 -- a window of the kind, with no write above this revision
 abbrev pub IsUpTo : ℕ → Kind → Window → Type 0

@@ -1,11 +1,11 @@
 //! Compactions.
 use crate::servers::Server;
-use keys::Fault;
+use object_keys::Fault;
 
 impl Server {
     ghost use Rattle.std.specs.Prelude.{◌≡◌, Ok, Err, OnOk, OnErr, IfErr};
-    ghost use Rattle.server_state.specs.Servers.{compact_by};
-    ghost use Rattle.keys.specs.Faults.{refusal_of};
+    ghost use Rattle.spec_server.specs.Servers.{compact_by};
+    ghost use Rattle.object_keys.specs.Faults.{refusal_of};
 
     /// Raises the floor of each kind to a revision, if it is lower. The error is a revision above the present one, and changes
     /// nothing. It takes no memory.

@@ -1,15 +1,15 @@
 //! What is there as a watch begins.
 ghost use Rattle.std.specs.Prelude.{◌≡◌, IfOk, map};
-ghost use Rattle.definitions.specs.WatchReplies.{added_events};
+ghost use Rattle.spec_api.specs.WatchReplies.{added_events};
 ghost use Rattle.meta.specs.Members.{member_of};
 ghost use Rattle.revisions.specs.Events.{event_seen};
 
 use crate::servers::Server;
-use definitions::frames::ChangeKind;
-use keys::Fault;
 use meta::Member;
+use object_keys::Fault;
 use revisions::Event;
 use selector::View;
+use spec_api::frames::ChangeKind;
 use std::alloc::{AllocError, Global};
 use store::ViewSnapshot;
 
@@ -44,7 +44,7 @@ fn added_events(
 
 impl InitialEvents {
     ghost use Rattle.std.specs.Prelude.{◌≡◌, IfOk, map};
-    ghost use Rattle.desk.specs.Initials.{initial_of};
+    ghost use Rattle.server.specs.Initials.{initial_of};
     ghost use Rattle.revisions.specs.Events.{event_seen};
 
     /// Returns each object as an event that it was added, for who keeps them: the objects' texts are shared. The error is
@@ -59,11 +59,11 @@ impl InitialEvents {
 
 impl Server {
     ghost use Rattle.std.specs.Prelude.{◌≡◌, IfOk};
-    ghost use Rattle.definitions.specs.History.{viewed};
-    ghost use Rattle.server_state.specs.Servers.{initial_by};
+    ghost use Rattle.spec_api.specs.History.{viewed};
+    ghost use Rattle.spec_server.specs.Servers.{initial_by};
     ghost use Rattle.selector.specs.Views.{view_of};
     ghost use Rattle.watch_cache.specs.Served.{Serves};
-    ghost use Rattle.desk.specs.Initials.{initial_of};
+    ghost use Rattle.server.specs.Initials.{initial_of};
 
     /// Returns what is there of a view, in the order of keys, at the present revision, which may not be older than the one that
     /// is named, if one is. The objects are shared and not looked at, so that it costs little however many there are. The errors

@@ -1,34 +1,34 @@
 //! Lists, in pages, at the present revision and at earlier ones.
 ghost use Rattle.std.specs.Prelude.{◌≡◌, ◌==◌, None, Some, IfOk, IfSome, map, option_map, if◌then◌else◌};
-ghost use Rattle.definitions.specs.PageTokens.{token_place};
-ghost use Rattle.definitions.specs.Pages.{last_place};
-ghost use Rattle.definitions.specs.Lists.{is_selective};
+ghost use Rattle.spec_api.specs.PageTokens.{token_place};
+ghost use Rattle.spec_api.specs.Pages.{last_place};
+ghost use Rattle.spec_api.specs.Lists.{is_selective};
 ghost use Rattle.meta.specs.Members.{member_of};
 ghost use Rattle.pages.specs.Seen.{token_of, asked_place};
 ghost use Rattle.selector.specs.Views.{view_of};
 ghost use Rattle.store.specs.Chunks.{after_key};
-ghost use Rattle.desk.specs.Pages.{ShowsPage};
+ghost use Rattle.server.specs.Pages.{ShowsPage};
 
 use crate::servers::Server;
-use definitions::kinds::Kind;
-use definitions::versions::At;
-use keys::{Fault, Key};
-use list_texts::page_text;
+use list_encoding::page_text;
 use meta::Member;
+use object_keys::{Fault, Key};
 use pages::{Token, page_of};
 use reply::Reply;
 use selector::View;
+use spec_api::kinds::Kind;
+use spec_api::versions::At;
 use std::alloc::{AllocError, Global};
 
 impl Server {
     ghost use Rattle.std.specs.Prelude.{◌≡◌, IfOk};
-    ghost use Rattle.definitions.specs.History.{viewed};
-    ghost use Rattle.server_state.specs.Servers.{list_served};
-    ghost use Rattle.definitions.specs.declared.versions.At.TheVariants as at;
+    ghost use Rattle.spec_api.specs.History.{viewed};
+    ghost use Rattle.spec_server.specs.Servers.{list_served};
+    ghost use Rattle.spec_api.specs.declared.versions.At.TheVariants as at;
     ghost use Rattle.pages.specs.Seen.{asked_place};
     ghost use Rattle.selector.specs.Views.{view_of};
-    ghost use Rattle.desk.specs.Pages.{IsPageAt};
-    ghost use Rattle.desk.specs.Replies.{Lists};
+    ghost use Rattle.server.specs.Pages.{IsPageAt};
+    ghost use Rattle.server.specs.Replies.{Lists};
 
     /// Returns a page of the list of a view: at most `limit` objects, or all if it is 0, after the place that a token names, or
     /// the first. The token is that of a page before it, so the list is to be one at its revision. The errors are a revision

@@ -1,8 +1,8 @@
 //! A server.
-use definitions::kinds::Kind;
-use keys::Key;
 use meta::{Member, StoredObject};
+use object_keys::Key;
 use selector::View;
+use spec_api::kinds::Kind;
 use std::alloc::{AllocError, Global};
 use std::marker::Model;
 use store::Store;
@@ -17,9 +17,9 @@ pub struct Server {
 }
 
 impl Model for Server {
-    ghost use Rattle.server_state.specs.Servers as servers;
-    ghost use Rattle.server_state.specs.Codes.{coded_server};
-    ghost use Rattle.desk.specs.Standing.{IsStanding};
+    ghost use Rattle.spec_server.specs.Servers as servers;
+    ghost use Rattle.spec_server.specs.Codes.{coded_server};
+    ghost use Rattle.server.specs.Standing.{IsStanding};
 
     ghost Value = { servers.Server };
 
@@ -34,13 +34,13 @@ impl Server {
     ghost use Rattle.std.specs.Prelude.{◌≡◌, ◌≤◌, ◌<◌, IfOk, map, option_map};
     ghost use Rattle.std.specs.List.Sorted.{IsStrictlySortedBy};
     ghost use Rattle.std.specs.Map.{keys_of};
-    ghost use Rattle.definitions.specs.History.{found, viewed};
-    ghost use Rattle.definitions.specs.Keys.{key_cmp};
-    ghost use Rattle.keys.specs.Keys.{key_of};
-    ghost use Rattle.definitions.specs.Revisions.{greatest_revision};
-    ghost use Rattle.server_state.specs.Servers.{opened_server, window_of, with_window};
-    ghost use Rattle.definitions.specs.Windows.{last_revision};
-    ghost use Rattle.server_state.specs.Recorded.{recorded};
+    ghost use Rattle.spec_api.specs.History.{found, viewed};
+    ghost use Rattle.spec_api.specs.Keys.{key_cmp};
+    ghost use Rattle.object_keys.specs.Keys.{key_of};
+    ghost use Rattle.spec_api.specs.Revisions.{greatest_revision};
+    ghost use Rattle.spec_server.specs.Servers.{opened_server, window_of, with_window};
+    ghost use Rattle.spec_api.specs.Windows.{last_revision};
+    ghost use Rattle.spec_server.specs.Recorded.{recorded};
     ghost use Rattle.meta.specs.Members.{member_of};
     ghost use Rattle.selector.specs.Views.{view_of};
     ghost use Rattle.watch_cache.specs.Changes.{change_seen};

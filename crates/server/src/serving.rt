@@ -2,24 +2,24 @@
 ghost use Rattle.std.specs.Prelude.{◌≡◌, IfOk, option_map};
 
 use crate::servers::Server;
-use keys::Fault;
 use meta::{StoredObject, Write};
-use object_requests::Request;
+use metadata_values::moments::Moment;
+use object_keys::Fault;
 use reply::Reply;
-use stamps::moments::Moment;
+use request_types::Request;
 use std::alloc::{AllocError, Global};
 use watch_cache::Change;
 
 impl Server {
     ghost use Rattle.std.specs.Prelude.{◌≡◌, OnOk, OnErr, IfErr, IfSome, option_map, false};
-    ghost use Rattle.answers.specs.Serves.{Serves};
-    ghost use Rattle.server_state.specs.Servers.{after_write, after_writing};
-    ghost use Rattle.definitions.specs.Verbs as outcomes;
-    ghost use Rattle.definitions.specs.Verbs.{accept_at, overflows};
+    ghost use Rattle.verb_parts.specs.Serves.{Serves};
+    ghost use Rattle.spec_server.specs.Servers.{after_write, after_writing};
+    ghost use Rattle.spec_api.specs.Verbs as outcomes;
+    ghost use Rattle.spec_api.specs.Verbs.{accept_at, overflows};
     ghost use Rattle.meta.specs.Writes.{write_of};
-    ghost use Rattle.keys.specs.declared.fault.Fault.TheVariants as fault;
-    ghost use Rattle.object_requests.specs.Requests.{request_of};
-    ghost use Rattle.desk.specs.Replies.{Replies};
+    ghost use Rattle.object_keys.specs.declared.fault.Fault.TheVariants as fault;
+    ghost use Rattle.request_types.specs.Requests.{request_of};
+    ghost use Rattle.server.specs.Replies.{Replies};
 
     /// Answers a request at a moment, applies what it writes, and returns the reply. An error, a refusal or running out of
     /// memory, changes nothing: all memory is taken before the store changes.

@@ -1,15 +1,15 @@
 //! What watches are given.
 use crate::servers::Server;
-use keys::Fault;
+use object_keys::Fault;
 use revisions::watched::last_revision;
-use revisions::{Event, Watched};
+use revisions::{Event, WatchedEvents};
 use selector::View;
 use std::alloc::Global;
 
 impl Server {
     ghost use Rattle.std.specs.Prelude.{◌+◌, map};
-    ghost use Rattle.server_state.specs.Servers.{watch_by, window_of};
-    ghost use Rattle.server_state.specs.Recorded.{recorded_since};
+    ghost use Rattle.spec_server.specs.Servers.{watch_by, window_of};
+    ghost use Rattle.spec_server.specs.Recorded.{recorded_since};
     ghost use Rattle.revisions.specs.Events.{event_seen};
     ghost use Rattle.selector.specs.Views.{view_of};
     ghost use Rattle.watch_cache.specs.Served.{Serves};
@@ -23,20 +23,20 @@ impl Server {
         view: &View,
         after: u64,
         max: usize,
-    ) -> Result<Watched, Fault>
+    ) -> Result<WatchedEvents, Fault>
         ensures { Serves watched_of (watch_by self.now (view_of view.now) after max) result }
     {
         let present = self.revision();
         let mut events = self.one_more(alloc, view, after, max)?;
         if events.len() <= max {
-            return Ok(Watched {
+            return Ok(WatchedEvents {
                 events,
                 stands: present,
             });
         }
         events.truncate(max);
         let stands = last_revision(&events, after);
-        Ok(Watched { events, stands })
+        Ok(WatchedEvents { events, stands })
     }
 
     /// Returns the first changes of a view after a revision, at most `max` and one more, which tells whether there is more.

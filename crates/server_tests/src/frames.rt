@@ -1,8 +1,8 @@
 //! Frames as deep and as long as they may be, and one more, and the frame of an error.
-use controllers::frame_fault::FrameFault;
 use framing::decoder::Decoder;
 use framing::texts::error_text;
-use keys::Fault;
+use object_keys::Fault;
+use spec_client_go::frame_fault::FrameFault;
 use std::alloc::{AllocError, Global};
 
 /// Returns a frame whose lists and objects stand one in another this deep, and its newline.

@@ -1,8 +1,8 @@
 //! A journal of two puts of one ConfigMap and of its removal, at revisions 2 to 4. No program asks a journal for lists and changes.
-use definitions::kinds::Kind;
 use meta::{StoredObject, Write};
 use revisions::Journal;
 use selector::View;
+use spec_api::kinds::Kind;
 use std::alloc::{AllocError, Global};
 use std::test::Fail;
 use test_objects::{key, stored};

@@ -1,8 +1,8 @@
 //! Reflectors that are given bodies and frames which no server of ours writes.
-use controllers::reflectors::{Ask, End};
-use definitions::kinds::Kind;
 use reflector::faults::ListFault;
 use reflector::reflectors::Reflector;
+use spec_api::kinds::Kind;
+use spec_client_go::reflectors::{Ask, End};
 use std::alloc::Global;
 
 const LIST: &str =

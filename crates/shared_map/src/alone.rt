@@ -7,7 +7,7 @@ ghost use Rattle.shared_map.specs.Entries.{put_entry};
 ghost use Rattle.shared_map.specs.Parts.{chunk_entries, parts, joined, starts_after, AreFilled};
 
 use crate::chunks::LIMIT;
-use crate::entries::{Place, place_in};
+use crate::entries::{EntryPlace, place_in};
 use std::alloc::{AllocError, Global};
 use std::sync::Arc;
 
@@ -15,7 +15,7 @@ use std::sync::Arc;
 /// it did: a chunk that is shared is left. The error is running out of memory, and changes nothing.
 pub fn put_alone<K: Drop, V: Drop>(
     chunk: &mut Arc<Vec<Arc<(K, V), Global>>, Global>,
-    place: Place,
+    place: EntryPlace,
     entry: &Arc<(K, V), Global>,
 ) -> Result<bool, AllocError>
     requires { place.at + cond place.found 1 0 ≤ length (chunk_entries chunk.old) }

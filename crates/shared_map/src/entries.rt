@@ -13,13 +13,13 @@ use std::sync::Arc;
 
 /// Where a key is among entries, or where it would be.
 #[derive(Clone, Copy)]
-pub struct Place {
+pub struct EntryPlace {
     pub at: usize,
     pub found: bool,
 }
 
 /// Returns where a key is among entries in order, or would be.
-pub fn place_in<K: Ord, V>(entries: &[Arc<(K, V), Global>], key: &K) -> Place
+pub fn place_in<K: Ord, V>(entries: &[Arc<(K, V), Global>], key: &K) -> EntryPlace
     requires { IsStrictlySortedBy K.cmp (keys_of (seen entries.now)) }
     ensures within { result.at + cond result.found 1 0 ≤ length entries.now }
     ensures before { AllAre K.cmp Greater key.now (take result.at (seen entries.now)) }
@@ -32,7 +32,7 @@ pub fn place_in<K: Ord, V>(entries: &[Arc<(K, V), Global>], key: &K) -> Place
         match key.cmp(&entries[middle].0) {
             Ordering::Greater => low = middle + 1,
             Ordering::Equal => {
-                return Place {
+                return EntryPlace {
                     at: middle,
                     found: true,
                 };
@@ -40,7 +40,7 @@ pub fn place_in<K: Ord, V>(entries: &[Arc<(K, V), Global>], key: &K) -> Place
             Ordering::Less => high = middle,
         }
     }
-    Place {
+    EntryPlace {
         at: low,
         found: false,
     }

@@ -1,27 +1,27 @@
 -- What a server answers those who follow it, and what a move makes of a cluster.
 use Rattle.std.proofs.Common.{◌≡◌, ℕ, List, sym, ap, subst, ◌∙◌, Result, Ok, Err, OnOk, OnErr, IfOk, Some, None}
-use Rattle.definitions.specs.declared.kinds.Kind.{Kind}
-use Rattle.definitions.specs.declared.kinds.Kind.TheVariants.{ConfigMap, Pod, ReplicaSet, Deployment}
-use Rattle.definitions.specs.History.{History, unfiltered}
-use Rattle.followers.specs.Answered.{AnswersLists, IsListBody}
-use Rattle.laws.proofs.RepliesRead.{replies_read}
-use Rattle.laws.proofs.ServerAnswers.{pages_held}
-use Rattle.laws.specs.ReplyLaws.{newest}
-use Rattle.server_state.specs.Servers.{Server}
-use Rattle.line_protocol.specs.Lines as lines
-use Rattle.line_protocol.specs.Lines.{line_of}
-use Rattle.session.specs.SessionStates.{SessionState, state_after}
-use Rattle.simulation.specs.declared.initial_syncs.InitialSync.{InitialSync}
-use Rattle.simulation.specs.Clusters.{request, compact, moves, restart, history}
-use Rattle.simulation.specs.Followers.{Follower, begun}
-use Rattle.simulation.specs.Moves as moving
-use Rattle.simulation.specs.Moves.{Move, answers_by, listed_of, move_by}
-use Rattle.simulation_laws.proofs.Serving.{same_answers}
-use Rattle.recorded_sessions.specs.RecordedStates as recorded
-use Rattle.recorded_sessions.specs.RecordedStates.{RecordedState, journal_after}
-use Rattle.cluster.specs.Standing.{Stands}
-use Rattle.cluster.specs.ClusterStates.{ClusterState, follower, with_follower, step}
-use Rattle.cluster.proofs.Stood.{same_follower, stood, stands_opened}
+use Rattle.spec_api.specs.declared.kinds.Kind.{Kind}
+use Rattle.spec_api.specs.declared.kinds.Kind.TheVariants.{ConfigMap, Pod, ReplicaSet, Deployment}
+use Rattle.spec_api.specs.History.{History, unfiltered}
+use Rattle.sim_followers.specs.Answered.{AnswersLists, IsListBody}
+use Rattle.spec_laws.proofs.RepliesRead.{replies_read}
+use Rattle.spec_laws.proofs.ServerAnswers.{pages_held}
+use Rattle.spec_laws.specs.ReplyLaws.{newest}
+use Rattle.spec_server.specs.Servers.{Server}
+use Rattle.spec_line_protocol.specs.Lines as lines
+use Rattle.spec_line_protocol.specs.Lines.{line_of}
+use Rattle.line_session.specs.SessionStates.{SessionState, state_after}
+use Rattle.spec_sim_cluster.specs.declared.initial_syncs.InitialSync.{InitialSync}
+use Rattle.spec_sim_cluster.specs.Clusters.{request, compact, moves, restart, history}
+use Rattle.spec_sim_cluster.specs.Followers.{Follower, begun}
+use Rattle.spec_sim_cluster.specs.Moves as moving
+use Rattle.spec_sim_cluster.specs.Moves.{Move, answers_by, listed_of, move_by}
+use Rattle.sim_cluster_laws.proofs.Serving.{same_answers}
+use Rattle.sim_server.specs.RecordedStates as recorded
+use Rattle.sim_server.specs.RecordedStates.{RecordedState, journal_after}
+use Rattle.sim_cluster.specs.Standing.{Stands}
+use Rattle.sim_cluster.specs.ClusterStates.{ClusterState, follower, with_follower, step}
+use Rattle.sim_cluster.proofs.Stood.{same_follower, stood, stands_opened}
 
 abbrev pub cluster_of : RecordedState → InitialSync → Follower → Follower → Follower → Follower → ClusterState
 cluster_of r i c p s d = record { session = r.session; journal = r.journal; initial = i; config_maps = c; pods = p; replica_sets = s; deployments = d }

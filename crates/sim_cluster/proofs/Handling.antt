@@ -1,18 +1,18 @@
 -- What is handled makes no difference to what a cluster stands for.
 use Rattle.std.proofs.Common.{◌≡◌, List, drop, sym, ap, subst}
-use Rattle.definitions.specs.declared.kinds.Kind.{Kind}
-use Rattle.definitions.specs.History.{History}
-use Rattle.definitions.specs.Reached.{IsReached, IsTimestamp}
-use Rattle.simulation.specs.Clusters as clusters
-use Rattle.simulation.specs.Clusters.{Cluster, history}
-use Rattle.simulation.specs.Followers.{Follower, Notification}
-use Rattle.simulation_laws.specs.ClusterLaws.{IsFollowed}
-use Rattle.simulation_laws.specs.FollowerLaws.{IsFollowing}
-use Rattle.simulation_laws.proofs.Runs.{with_moved, same_session}
-use Rattle.cluster.specs.Changes.{without_oldest}
-use Rattle.cluster.specs.ClusterStates.{ClusterState, follower, with_follower}
-use Rattle.cluster.specs.Standing.{Stands}
-use Rattle.cluster.proofs.Stood.{same_follower, with_same}
+use Rattle.spec_api.specs.declared.kinds.Kind.{Kind}
+use Rattle.spec_api.specs.History.{History}
+use Rattle.spec_api.specs.Reached.{IsReached, IsTimestamp}
+use Rattle.spec_sim_cluster.specs.Clusters as clusters
+use Rattle.spec_sim_cluster.specs.Clusters.{Cluster, history}
+use Rattle.spec_sim_cluster.specs.Followers.{Follower, Notification}
+use Rattle.sim_cluster_laws.specs.ClusterLaws.{IsFollowed}
+use Rattle.sim_cluster_laws.specs.FollowerLaws.{IsFollowing}
+use Rattle.sim_cluster_laws.proofs.Runs.{with_moved, same_session}
+use Rattle.sim_cluster.specs.Changes.{without_oldest}
+use Rattle.sim_cluster.specs.ClusterStates.{ClusterState, follower, with_follower}
+use Rattle.sim_cluster.specs.Standing.{Stands}
+use Rattle.sim_cluster.proofs.Stood.{same_follower, with_same}
 
 abbrev with_unhandled : List Notification → Follower → Follower
 with_unhandled ns f = record f { unhandled = ns }

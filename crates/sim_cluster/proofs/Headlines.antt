@@ -3,34 +3,34 @@ use Rattle.std.proofs.Common.{◌≡◌, ◌≤◌, ◌<◌, refl, sym, ap, ap�
 use Rattle.std.proofs.lemmas.List.{append_cancel_left, length-append, take-map}
 use Rattle.std.proofs.Math.Seq.{take-length}
 use Rattle.serde_json.specs.Data.{Data}
-use Rattle.definitions.specs.declared.kinds.Kind.{Kind}
-use Rattle.definitions.specs.History as history
-use Rattle.definitions.specs.History.{History, write, present, state, list, unfiltered}
-use Rattle.definitions.specs.Keys.{Key}
-use Rattle.definitions.specs.Metadata.{version}
-use Rattle.definitions.specs.ObjectRequests.{Request}
-use Rattle.definitions.specs.Verbs.{accept, write_of, with_write}
-use Rattle.laws.specs.LifecycleLaws.{ReplacesVersion}
-use Rattle.line_protocol.specs.Lines.{line_of}
-use Rattle.server_state.specs.Snapshots.{Snapshot}
-use Rattle.session.proofs.Followed.{same_outcome}
-use Rattle.session.specs.SessionStates.{accepted, reply_for, of_write, written_by, effect_on}
-use Rattle.simulation.specs.Clusters as clusters
-use Rattle.simulation.specs.Clusters.{Cluster, ClusterStep, request, compact, moves, restart}
-use Rattle.simulation.specs.Followers.{Follower}
-use Rattle.simulation_laws.proofs.Requests.{replaces}
-use Rattle.simulation_laws.proofs.Runs.{rise_one}
-use Rattle.simulation_laws.specs.ClusterLaws.{NoRestart, Asks, NamesVersion}
-use Rattle.steps.specs.Steps.{step_of}
-use Rattle.steps.specs.declared.steps.Step.{Step}
-use Rattle.cluster.specs.declared.stopped.Stopped.{Stopped}
-use Rattle.cluster.specs.Headline.{ShowsLists, RevisionsRise, ReplacesNamedVersion, ReplacesNamedVersions}
-use Rattle.recorded_sessions.specs.RecordedStates.{entry_in, with_entry, journal_after}
-use Rattle.recorded_sessions.proofs.RecordedWrites.{made}
-use Rattle.cluster.specs.Standing.{StandsFor, Stands}
-use Rattle.cluster.specs.ClusterStates.{ClusterState, published, step, run}
-use Rattle.cluster.proofs.Taking.{run_last}
-use Rattle.cluster.proofs.Stood.{same_follower, steps_follow, stood, run_stood}
+use Rattle.spec_api.specs.declared.kinds.Kind.{Kind}
+use Rattle.spec_api.specs.History as history
+use Rattle.spec_api.specs.History.{History, write, present, state, list, unfiltered}
+use Rattle.spec_api.specs.Keys.{Key}
+use Rattle.spec_api.specs.Metadata.{version}
+use Rattle.spec_api.specs.ObjectRequests.{Request}
+use Rattle.spec_api.specs.Verbs.{accept, write_of, with_write}
+use Rattle.spec_laws.specs.LifecycleLaws.{ReplacesVersion}
+use Rattle.spec_line_protocol.specs.Lines.{line_of}
+use Rattle.spec_server.specs.Snapshots.{Snapshot}
+use Rattle.line_session.proofs.Followed.{same_outcome}
+use Rattle.line_session.specs.SessionStates.{accepted, reply_for, of_write, written_by, effect_on}
+use Rattle.spec_sim_cluster.specs.Clusters as clusters
+use Rattle.spec_sim_cluster.specs.Clusters.{Cluster, ClusterStep, request, compact, moves, restart}
+use Rattle.spec_sim_cluster.specs.Followers.{Follower}
+use Rattle.sim_cluster_laws.proofs.Requests.{replaces}
+use Rattle.sim_cluster_laws.proofs.Runs.{rise_one}
+use Rattle.sim_cluster_laws.specs.ClusterLaws.{NoRestart, Asks, NamesVersion}
+use Rattle.sim_steps.specs.Steps.{step_of}
+use Rattle.sim_steps.specs.declared.steps.Step.{Step}
+use Rattle.sim_cluster.specs.declared.stopped.Stopped.{Stopped}
+use Rattle.sim_cluster.specs.Headline.{ShowsLists, RevisionsRise, ReplacesNamedVersion, ReplacesNamedVersions}
+use Rattle.sim_server.specs.RecordedStates.{entry_in, with_entry, journal_after}
+use Rattle.sim_server.proofs.RecordedWrites.{made}
+use Rattle.sim_cluster.specs.Standing.{StandsFor, Stands}
+use Rattle.sim_cluster.specs.ClusterStates.{ClusterState, published, step, run}
+use Rattle.sim_cluster.proofs.Taking.{run_last}
+use Rattle.sim_cluster.proofs.Stood.{same_follower, steps_follow, stood, run_stood}
 
 -- ---- lists
 

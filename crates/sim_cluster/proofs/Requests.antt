@@ -1,29 +1,29 @@
 -- A request that workers make, answered and written: what the cluster stands for goes on.
 use Rattle.std.proofs.Common.{◌≡◌, refl, sym, ap, subst, ◌∙◌, [], Option, Some, None, IfSome, Result, Ok, Err, OnOk, OnErr, false}
-use Rattle.definitions.specs.declared.kinds.Kind.{Kind}
-use Rattle.definitions.specs.History.{History, Write}
-use Rattle.definitions.specs.ObjectRequests.{Request}
-use Rattle.definitions.specs.Reached.{CanBeRead, asks}
-use Rattle.definitions.specs.Verbs.{accept, history_after, overflows, with_write, write_of}
-use Rattle.answer_laws.specs.AnswerLaws.{IsOfObject}
-use Rattle.answer_laws.proofs.ReadBacks.{answers_back}
-use Rattle.laws.proofs.Limits.{room}
-use Rattle.laws.proofs.Runs.{nothing, begins-write}
-use Rattle.laws.proofs.ServerHistories.{accepted_holds}
-use Rattle.server_state.specs.Servers.{IsServerAfter, after_writing}
-use Rattle.session.proofs.Followed.{same_outcome}
-use Rattle.session.specs.Laws as sessions
-use Rattle.session.specs.SessionStates.{SessionState, accepted, changed_by, of_write, HasRoom}
-use Rattle.simulation.specs.Clusters as clusters
-use Rattle.simulation.specs.Clusters.{Cluster, history}
-use Rattle.simulation_laws.specs.ClusterLaws.{IsFollowed}
-use Rattle.simulation_laws.specs.FollowerLaws.{IsFollowing}
-use Rattle.simulation_laws.proofs.Growing.{stand}
-use Rattle.simulation_laws.proofs.Runs.{with_session}
-use Rattle.recorded_sessions.specs.RecordedStates.{RecordedState}
-use Rattle.cluster.specs.Requested.{IsWriteOf, IsRead, written}
-use Rattle.cluster.specs.Standing.{StandsFor, Stands}
-use Rattle.cluster.specs.ClusterStates.{ClusterState}
+use Rattle.spec_api.specs.declared.kinds.Kind.{Kind}
+use Rattle.spec_api.specs.History.{History, Write}
+use Rattle.spec_api.specs.ObjectRequests.{Request}
+use Rattle.spec_api.specs.Reached.{CanBeRead, asks}
+use Rattle.spec_api.specs.Verbs.{accept, history_after, overflows, with_write, write_of}
+use Rattle.reply_laws.specs.AnswerLaws.{IsOfObject}
+use Rattle.reply_laws.proofs.ReadBacks.{answers_back}
+use Rattle.spec_laws.proofs.Limits.{room}
+use Rattle.spec_laws.proofs.Runs.{nothing, begins-write}
+use Rattle.spec_laws.proofs.ServerHistories.{accepted_holds}
+use Rattle.spec_server.specs.Servers.{IsServerAfter, after_writing}
+use Rattle.line_session.proofs.Followed.{same_outcome}
+use Rattle.line_session.specs.Laws as sessions
+use Rattle.line_session.specs.SessionStates.{SessionState, accepted, changed_by, of_write, HasRoom}
+use Rattle.spec_sim_cluster.specs.Clusters as clusters
+use Rattle.spec_sim_cluster.specs.Clusters.{Cluster, history}
+use Rattle.sim_cluster_laws.specs.ClusterLaws.{IsFollowed}
+use Rattle.sim_cluster_laws.specs.FollowerLaws.{IsFollowing}
+use Rattle.sim_cluster_laws.proofs.Growing.{stand}
+use Rattle.sim_cluster_laws.proofs.Runs.{with_session}
+use Rattle.sim_server.specs.RecordedStates.{RecordedState}
+use Rattle.sim_cluster.specs.Requested.{IsWriteOf, IsRead, written}
+use Rattle.sim_cluster.specs.Standing.{StandsFor, Stands}
+use Rattle.sim_cluster.specs.ClusterStates.{ClusterState}
 
 -- ---- the cluster after a request
 

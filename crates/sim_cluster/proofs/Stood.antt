@@ -1,21 +1,21 @@
 -- A stored cluster stands for a cluster, step after step.
 use Rattle.std.proofs.Common.{◌≡◌, refl, sym, ap, subst, ◌∙◌, ℕ, List, [], ◌∷◌, Result, Ok, Err, OnOk, OnErr}
-use Rattle.definitions.specs.declared.kinds.Kind.{Kind}
-use Rattle.definitions.specs.declared.kinds.Kind.TheVariants.{ConfigMap, Pod, ReplicaSet, Deployment}
-use Rattle.line_protocol.specs.Lines as lines
-use Rattle.line_protocol.specs.Lines.{Line, line_of}
-use Rattle.session.proofs.Followed.{follows_line, same_line, sessions_follow}
-use Rattle.simulation.specs.declared.initial_syncs.InitialSync.{InitialSync}
-use Rattle.simulation.specs.Clusters as clusters
-use Rattle.simulation.specs.Clusters.{Cluster, ClusterStep, request, compact, moves, restart}
-use Rattle.simulation.specs.Followers.{Follower, begun}
-use Rattle.simulation.specs.Moves as moving
-use Rattle.simulation.specs.Moves.{Move, replied, answers_by, move_by}
-use Rattle.simulation_laws.proofs.Runs.{keeps, runs_followed}
-use Rattle.simulation_laws.proofs.Serving.{servers_serve}
-use Rattle.cluster.specs.Standing.{StandsFor, Stands}
-use Rattle.cluster.specs.ClusterStates.{ClusterState, opened, answered_line, follower, with_follower, step, run}
-use Rattle.recorded_sessions.proofs.RecordedWrites.{line_recorded}
+use Rattle.spec_api.specs.declared.kinds.Kind.{Kind}
+use Rattle.spec_api.specs.declared.kinds.Kind.TheVariants.{ConfigMap, Pod, ReplicaSet, Deployment}
+use Rattle.spec_line_protocol.specs.Lines as lines
+use Rattle.spec_line_protocol.specs.Lines.{Line, line_of}
+use Rattle.line_session.proofs.Followed.{follows_line, same_line, sessions_follow}
+use Rattle.spec_sim_cluster.specs.declared.initial_syncs.InitialSync.{InitialSync}
+use Rattle.spec_sim_cluster.specs.Clusters as clusters
+use Rattle.spec_sim_cluster.specs.Clusters.{Cluster, ClusterStep, request, compact, moves, restart}
+use Rattle.spec_sim_cluster.specs.Followers.{Follower, begun}
+use Rattle.spec_sim_cluster.specs.Moves as moving
+use Rattle.spec_sim_cluster.specs.Moves.{Move, replied, answers_by, move_by}
+use Rattle.sim_cluster_laws.proofs.Runs.{keeps, runs_followed}
+use Rattle.sim_cluster_laws.proofs.Serving.{servers_serve}
+use Rattle.sim_cluster.specs.Standing.{StandsFor, Stands}
+use Rattle.sim_cluster.specs.ClusterStates.{ClusterState, opened, answered_line, follower, with_follower, step, run}
+use Rattle.sim_server.proofs.RecordedWrites.{line_recorded}
 
 -- ---- one step
 

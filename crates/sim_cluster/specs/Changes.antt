@@ -1,8 +1,8 @@
 -- Published changes of a cluster that are still to be handled, and what is published.
 use Rattle.std.specs.Prelude.{drop}
-use Rattle.definitions.specs.declared.kinds.Kind.{Kind}
-use Rattle.controllers.specs.Informers.{Looks}
-use Rattle.cluster.specs.ClusterStates.{ClusterState, follower, with_follower}
+use Rattle.spec_api.specs.declared.kinds.Kind.{Kind}
+use Rattle.spec_client_go.specs.Informers.{Looks}
+use Rattle.sim_cluster.specs.ClusterStates.{ClusterState, follower, with_follower}
 
 -- the cluster once the oldest change of a kind was handled
 abbrev pub without_oldest : Kind → ClusterState → ClusterState

@@ -1,23 +1,23 @@
 -- A cluster as it is stored, and how it goes on: a server stands in the place of all that has happened.
 use Rattle.std.specs.Prelude.{ℕ, List, [], ◌∷◌, refl}
 use Rattle.std.specs.Coded.{Coded, code_by, coded×}
-use Rattle.codes.specs.HistoryCodes.{coded_history}
-use Rattle.definitions.specs.declared.kinds.Kind.{Kind}
-use Rattle.definitions.specs.declared.kinds.Kind.TheVariants.{ConfigMap, Pod, ReplicaSet, Deployment}
-use Rattle.definitions.specs.History.{History}
-use Rattle.line_protocol.specs.Lines as lines
-use Rattle.line_protocol.specs.Lines.{line_of}
-use Rattle.server_state.specs.Snapshots.{Snapshot}
-use Rattle.session.specs.SessionStates as sessions
-use Rattle.session.specs.SessionStates.{SessionState, coded_state, state_after, reply_to}
-use Rattle.simulation.specs.contracts.initial_syncs.InitialSync as initial_sync
-use Rattle.simulation.specs.declared.initial_syncs.InitialSync.{InitialSync}
-use Rattle.simulation.specs.Clusters.{ClusterStep, request, compact, moves, restart}
-use Rattle.simulation.specs.Codes.{coded_follower}
-use Rattle.simulation.specs.Followers as followers
-use Rattle.simulation.specs.Followers.{Follower}
-use Rattle.simulation.specs.Moves.{Moved, Outcome, replied, restarted, answers_by, move_by}
-use Rattle.recorded_sessions.specs.RecordedStates.{journal_after}
+use Rattle.model_encodings.specs.HistoryCodes.{coded_history}
+use Rattle.spec_api.specs.declared.kinds.Kind.{Kind}
+use Rattle.spec_api.specs.declared.kinds.Kind.TheVariants.{ConfigMap, Pod, ReplicaSet, Deployment}
+use Rattle.spec_api.specs.History.{History}
+use Rattle.spec_line_protocol.specs.Lines as lines
+use Rattle.spec_line_protocol.specs.Lines.{line_of}
+use Rattle.spec_server.specs.Snapshots.{Snapshot}
+use Rattle.line_session.specs.SessionStates as sessions
+use Rattle.line_session.specs.SessionStates.{SessionState, coded_state, state_after, reply_to}
+use Rattle.spec_sim_cluster.specs.contracts.initial_syncs.InitialSync as initial_sync
+use Rattle.spec_sim_cluster.specs.declared.initial_syncs.InitialSync.{InitialSync}
+use Rattle.spec_sim_cluster.specs.Clusters.{ClusterStep, request, compact, moves, restart}
+use Rattle.spec_sim_cluster.specs.Codes.{coded_follower}
+use Rattle.spec_sim_cluster.specs.Followers as followers
+use Rattle.spec_sim_cluster.specs.Followers.{Follower}
+use Rattle.spec_sim_cluster.specs.Moves.{Moved, Outcome, replied, restarted, answers_by, move_by}
+use Rattle.sim_server.specs.RecordedStates.{journal_after}
 
 -- a session, all that has happened at it, the oldest first, how followers begin, and what follows each kind
 pub record ClusterState : Type 0 where

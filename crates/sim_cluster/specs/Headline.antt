@@ -1,15 +1,15 @@
 -- What holds of every cluster, by the journal of all that has happened at it.
 use Rattle.std.specs.Prelude.{◌≡◌, ◌≤◌, ℕ, List, [], ◌∷◌, ◌++◌, Some, None}
 use Rattle.serde_json.specs.Data.{Data}
-use Rattle.definitions.specs.declared.kinds.Kind.{Kind}
-use Rattle.definitions.specs.History as history
-use Rattle.definitions.specs.History.{History, write, present, state, list, unfiltered}
-use Rattle.definitions.specs.Keys.{Key}
-use Rattle.definitions.specs.Metadata.{version}
-use Rattle.definitions.specs.ObjectRequests.{Request}
-use Rattle.simulation.specs.Clusters.{ClusterStep, request}
-use Rattle.simulation_laws.specs.ClusterLaws.{NoRestart, Asks, NamesVersion}
-use Rattle.cluster.specs.ClusterStates.{ClusterState, published, run}
+use Rattle.spec_api.specs.declared.kinds.Kind.{Kind}
+use Rattle.spec_api.specs.History as history
+use Rattle.spec_api.specs.History.{History, write, present, state, list, unfiltered}
+use Rattle.spec_api.specs.Keys.{Key}
+use Rattle.spec_api.specs.Metadata.{version}
+use Rattle.spec_api.specs.ObjectRequests.{Request}
+use Rattle.spec_sim_cluster.specs.Clusters.{ClusterStep, request}
+use Rattle.sim_cluster_laws.specs.ClusterLaws.{NoRestart, Asks, NamesVersion}
+use Rattle.sim_cluster.specs.ClusterStates.{ClusterState, published, run}
 
 -- what is published of each kind is the server's list at the revision that is published with it, which has happened
 pub record ShowsLists (w : ClusterState) : Type 0 where

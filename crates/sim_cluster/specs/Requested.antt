@@ -1,12 +1,12 @@
 -- What workers reach of a cluster: what is there, and what a request of theirs is answered and writes.
 use Rattle.std.specs.Prelude.{◌≡◌, ◌&&◌, Bool, Option}
-use Rattle.definitions.specs.History.{Write}
-use Rattle.definitions.specs.ObjectRequests.{Request}
-use Rattle.definitions.specs.Reached.{CanBeRead}
-use Rattle.definitions.specs.Verbs.{Answer, Outcome, answered, with_write, write_of}
-use Rattle.answer_laws.specs.AnswerLaws.{IsReadBack}
-use Rattle.session.specs.SessionStates.{SessionState, accepted, changed_by, of_write}
-use Rattle.cluster.specs.ClusterStates.{ClusterState}
+use Rattle.spec_api.specs.History.{Write}
+use Rattle.spec_api.specs.ObjectRequests.{Request}
+use Rattle.spec_api.specs.Reached.{CanBeRead}
+use Rattle.spec_api.specs.Verbs.{Answer, Outcome, answered, with_write, write_of}
+use Rattle.reply_laws.specs.AnswerLaws.{IsReadBack}
+use Rattle.line_session.specs.SessionStates.{SessionState, accepted, changed_by, of_write}
+use Rattle.sim_cluster.specs.ClusterStates.{ClusterState}
 
 -- the first list of each kind was published (client-go, HasSynced)
 abbrev pub have_all_listed : ClusterState → Bool

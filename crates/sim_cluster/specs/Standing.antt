@@ -1,9 +1,9 @@
 -- What a stored cluster stands for.
 use Rattle.std.specs.Prelude.{◌≡◌}
-use Rattle.session.specs.Laws as sessions
-use Rattle.simulation.specs.Clusters.{Cluster, history}
-use Rattle.simulation_laws.specs.ClusterLaws.{IsFollowed}
-use Rattle.cluster.specs.ClusterStates.{ClusterState}
+use Rattle.line_session.specs.Laws as sessions
+use Rattle.spec_sim_cluster.specs.Clusters.{Cluster, history}
+use Rattle.sim_cluster_laws.specs.ClusterLaws.{IsFollowed}
+use Rattle.sim_cluster.specs.ClusterStates.{ClusterState}
 
 -- its server stands for all that has happened in the cluster, which its journal has, and how followers begin, and what follows each kind, is the same
 pub record StandsFor (w : ClusterState) (c : Cluster) : Type 0 where

@@ -1,18 +1,18 @@
 //! Published changes of a cluster that are still to be handled, and what is published while they are.
 use crate::clusters::Cluster;
-use definitions::kinds::Kind;
-use followers::Notification;
 use indexer::Indexed;
+use reconcile_types::Looks;
+use sim_followers::Notification;
+use spec_api::kinds::Kind;
 use std::alloc::AllocError;
-use turns::Looks;
 
 impl Cluster {
     ghost use Rattle.std.specs.Prelude.{◌≡◌, IfOk, drop, option_map, slice_get};
-    ghost use Rattle.followers.specs.Notified.{notification_of};
-    ghost use Rattle.turns.specs.Hands.{looks_by};
-    ghost use Rattle.server_state.specs.Snapshots.{Snapshot};
-    ghost use Rattle.cluster.specs.Changes.{looks, without_oldest};
-    ghost use Rattle.cluster.specs.ClusterStates.{follower};
+    ghost use Rattle.sim_followers.specs.Notified.{notification_of};
+    ghost use Rattle.reconcile_types.specs.Hands.{looks_by};
+    ghost use Rattle.spec_server.specs.Snapshots.{Snapshot};
+    ghost use Rattle.sim_cluster.specs.Changes.{looks, without_oldest};
+    ghost use Rattle.sim_cluster.specs.ClusterStates.{follower};
 
     /// Returns the oldest of the published changes of a kind that are still to be handled, if one is. It takes no memory.
     pub fn oldest(&self, kind: Kind) -> Option<&Notification>

@@ -1,27 +1,27 @@
 //! Clusters.
 use crate::stopped::Stopped;
-use definitions::kinds::Kind;
-use followers::{ClusterOutcome, Follower};
 use indexer::Indexed;
-use recorded_sessions::{Entry, RecordedSession};
+use sim_followers::{ClusterOutcome, SimulatedFollower};
+use sim_server::{JournalEntry, RecordedSession};
+use sim_steps::{InitialSync, Move, Step};
+use spec_api::kinds::Kind;
 use std::alloc::{AllocError, Global};
 use std::marker::Model;
-use steps::{InitialSync, Move, Step};
 
 /// A server with the journal of all that has happened at it, and what follows each kind of it.
 #[derive(Drop)]
 pub struct Cluster {
     pub(crate) recorded: RecordedSession,
     pub(crate) initial: InitialSync,
-    pub(crate) config_maps: Follower,
-    pub(crate) pods: Follower,
-    pub(crate) replica_sets: Follower,
-    pub(crate) deployments: Follower,
+    pub(crate) config_maps: SimulatedFollower,
+    pub(crate) pods: SimulatedFollower,
+    pub(crate) replica_sets: SimulatedFollower,
+    pub(crate) deployments: SimulatedFollower,
 }
 
 impl Model for Cluster {
-    ghost use Rattle.cluster.specs.ClusterStates.{ClusterState, coded_cluster};
-    ghost use Rattle.cluster.specs.Standing.{Stands};
+    ghost use Rattle.sim_cluster.specs.ClusterStates.{ClusterState, coded_cluster};
+    ghost use Rattle.sim_cluster.specs.Standing.{Stands};
 
     ghost Value = { ClusterState };
 
@@ -50,13 +50,13 @@ impl Model for Cluster {
 
 impl Cluster {
     ghost use Rattle.std.specs.Prelude.{◌≡◌, ◌<◌, IfOk, IfErr, OnOk, OnErr, [], ◌∷◌, length, map, take};
-    ghost use Rattle.line_protocol.specs.Lines.{line_of, compact};
-    ghost use Rattle.recorded_sessions.specs.Entries.{entry_of};
-    ghost use Rattle.simulation.specs.Moves.{answers_by, move_by};
-    ghost use Rattle.followers.specs.Outcomes.{outcome_of};
-    ghost use Rattle.steps.specs.Steps.{move_of, step_of};
-    ghost use Rattle.cluster.specs.Headline.{ShowsLists, RevisionsRise, ReplacesNamedVersion, ReplacesNamedVersions};
-    ghost use Rattle.cluster.specs.ClusterStates.{opened, published, moved_in, answered_line, with_new_followers, follower, step, run};
+    ghost use Rattle.spec_line_protocol.specs.Lines.{line_of, compact};
+    ghost use Rattle.sim_server.specs.Entries.{entry_of};
+    ghost use Rattle.spec_sim_cluster.specs.Moves.{answers_by, move_by};
+    ghost use Rattle.sim_followers.specs.Outcomes.{outcome_of};
+    ghost use Rattle.sim_steps.specs.Steps.{move_of, step_of};
+    ghost use Rattle.sim_cluster.specs.Headline.{ShowsLists, RevisionsRise, ReplacesNamedVersion, ReplacesNamedVersions};
+    ghost use Rattle.sim_cluster.specs.ClusterStates.{opened, published, moved_in, answered_line, with_new_followers, follower, step, run};
 
     /// Returns the opening cluster: nothing is there, the server's windows have this size, and followers begin so, also after a
     /// restart. The error is running out of memory.
@@ -66,22 +66,22 @@ impl Cluster {
         Ok(Cluster {
             recorded: RecordedSession::new(alloc, window)?,
             initial,
-            config_maps: Follower::new(alloc, Kind::ConfigMap, initial),
-            pods: Follower::new(alloc, Kind::Pod, initial),
-            replica_sets: Follower::new(alloc, Kind::ReplicaSet, initial),
-            deployments: Follower::new(alloc, Kind::Deployment, initial),
+            config_maps: SimulatedFollower::new(alloc, Kind::ConfigMap, initial),
+            pods: SimulatedFollower::new(alloc, Kind::Pod, initial),
+            replica_sets: SimulatedFollower::new(alloc, Kind::ReplicaSet, initial),
+            deployments: SimulatedFollower::new(alloc, Kind::Deployment, initial),
         })
     }
 
     /// Returns the journal, which the server itself does not keep: the writes and the compactions, the oldest first. It takes no memory.
-    pub fn journal(&self) -> &[Entry]
+    pub fn journal(&self) -> &[JournalEntry]
         ensures { map entry_of result.now ≡ self.now.journal }
     {
         self.recorded.journal()
     }
 
     /// Returns what follows a kind.
-    pub(crate) fn follower(&self, kind: Kind) -> &Follower
+    pub(crate) fn follower(&self, kind: Kind) -> &SimulatedFollower
         ensures { result.now ≡ follower kind self.now }
     {
         match kind {
@@ -145,10 +145,10 @@ impl Cluster {
     fn restart(&mut self, alloc: Global)
         ensures { self.new ≡ with_new_followers self.old.initial self.old.session self.old.journal }
     {
-        self.config_maps = Follower::new(alloc, Kind::ConfigMap, self.initial);
-        self.pods = Follower::new(alloc, Kind::Pod, self.initial);
-        self.replica_sets = Follower::new(alloc, Kind::ReplicaSet, self.initial);
-        self.deployments = Follower::new(alloc, Kind::Deployment, self.initial);
+        self.config_maps = SimulatedFollower::new(alloc, Kind::ConfigMap, self.initial);
+        self.pods = SimulatedFollower::new(alloc, Kind::Pod, self.initial);
+        self.replica_sets = SimulatedFollower::new(alloc, Kind::ReplicaSet, self.initial);
+        self.deployments = SimulatedFollower::new(alloc, Kind::Deployment, self.initial);
     }
 
     /// Takes a step, and returns what is told of it. The error is running out of memory, and changes nothing.

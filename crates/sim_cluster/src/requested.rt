@@ -1,22 +1,22 @@
 //! What workers reach of a cluster: its objects, and the requests that they make of its server.
 use crate::clusters::Cluster;
-use keys::{Fault, Key};
 use meta::{StoredObject, Write};
+use object_keys::{Fault, Key};
 use reply::Reply;
-use requests::Request;
+use request_parts::Request;
 use std::alloc::{AllocError, Global};
 
 impl Cluster {
     ghost use Rattle.std.specs.Prelude.{◌≡◌, OnOk, OnErr, option_map};
-    ghost use Rattle.answer_laws.specs.AnswerLaws.{IsOfObject};
-    ghost use Rattle.answers.specs.Serves.{Serves};
-    ghost use Rattle.definitions.specs.History.{found};
-    ghost use Rattle.definitions.specs.Reached.{CanBeRead};
-    ghost use Rattle.keys.specs.Keys.{key_of};
+    ghost use Rattle.reply_laws.specs.AnswerLaws.{IsOfObject};
+    ghost use Rattle.verb_parts.specs.Serves.{Serves};
+    ghost use Rattle.spec_api.specs.History.{found};
+    ghost use Rattle.spec_api.specs.Reached.{CanBeRead};
+    ghost use Rattle.object_keys.specs.Keys.{key_of};
     ghost use Rattle.meta.specs.Writes.{write_of};
-    ghost use Rattle.requests.specs.Requests.{request_of};
-    ghost use Rattle.session.specs.SessionStates.{accepted};
-    ghost use Rattle.cluster.specs.Requested.{have_all_listed, IsWriteOf, IsRead, written};
+    ghost use Rattle.request_parts.specs.Requests.{request_of};
+    ghost use Rattle.line_session.specs.SessionStates.{accepted};
+    ghost use Rattle.sim_cluster.specs.Requested.{have_all_listed, IsWriteOf, IsRead, written};
 
     /// Returns whether the first list of each kind was published (client-go, `HasSynced`). It takes no memory.
     pub fn has_synced(&self) -> bool

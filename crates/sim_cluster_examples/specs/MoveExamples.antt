@@ -1,11 +1,11 @@
 -- Worked facts of moves, computed from the definitions: what a follower is after steps.
 use Rattle.std.specs.Prelude.{◌≡◌, ℕ, List, [], ◌∷◌, ◌++◌, map, Bool, true, false, Option, Some, None, option_map, codes, length, take}
-use Rattle.definitions.specs.declared.kinds.Kind.TheVariants.{ConfigMap, Pod}
-use Rattle.simulation.specs.declared.initial_syncs.InitialSync.TheVariants as sync
-use Rattle.simulation.specs.Followers.{Follower, begun}
-use Rattle.simulation.specs.Clusters.{Cluster, opened, history, follower, looks, run}
-use Rattle.simulation.specs.StepLines.{step_asked}
-use Rattle.simulation_examples.specs.Texts.{create, accent}
+use Rattle.spec_api.specs.declared.kinds.Kind.TheVariants.{ConfigMap, Pod}
+use Rattle.spec_sim_cluster.specs.declared.initial_syncs.InitialSync.TheVariants as sync
+use Rattle.spec_sim_cluster.specs.Followers.{Follower, begun}
+use Rattle.spec_sim_cluster.specs.Clusters.{Cluster, opened, history, follower, looks, run}
+use Rattle.spec_sim_cluster.specs.StepLines.{step_asked}
+use Rattle.sim_cluster_examples.specs.Texts.{create, accent}
 
 -- a cluster after these lines
 abbrev after : List (List ℕ) → Cluster

@@ -1,10 +1,10 @@
 -- Lines written after others.
 use Rattle.std.proofs.Common.{◌≡◌, ℕ, List, [], ◌∷◌, ◌++◌, map, refl, sym, ap, ◌∙◌, append_assoc}
 use Rattle.std.specs.List.{AllByRecursion}
-use Rattle.definitions.specs.declared.kinds.Kind.{Kind}
-use Rattle.definitions.specs.Events.{Event}
-use Rattle.definitions.specs.Frames.{frame_text}
-use Rattle.definitions.specs.Streams.{Line, event, AreEventsWithBookmarks, frame_of, text_of_lines}
+use Rattle.spec_api.specs.declared.kinds.Kind.{Kind}
+use Rattle.spec_api.specs.Events.{Event}
+use Rattle.spec_api.specs.Frames.{frame_text}
+use Rattle.spec_api.specs.Streams.{Line, event, AreEventsWithBookmarks, frame_of, text_of_lines}
 
 pub texts : (k : Kind) (ls ms : List Line) → text_of_lines k (ls ++ ms) ≡ text_of_lines k ls ++ text_of_lines k ms
 texts k [] ms = refl

@@ -2,24 +2,24 @@
 use Rattle.std.proofs.Common.{◌≡◌, ◌≤◌, ℕ, List, [], ◌∷◌, ◌++◌, take, drop, Option, Some, None, refl, sym, ap, ◌∙◌, subst, arith, append_assoc}
 use Rattle.std.proofs.lemmas.List.{take-append-drop}
 use Rattle.std.specs.List.{AllByRecursion}
-use Rattle.definitions.specs.declared.kinds.Kind.{Kind}
-use Rattle.definitions.specs.History.{History, present}
-use Rattle.definitions.specs.Reached.{IsReached}
-use Rattle.definitions.specs.Streams.{Line, text_of_lines}
-use Rattle.controllers.specs.declared.reflectors.End.{End}
-use Rattle.controllers.specs.Informers.{all_applied}
-use Rattle.controllers.specs.Reflectors.{Reflector, Fed, fed, joined}
+use Rattle.spec_api.specs.declared.kinds.Kind.{Kind}
+use Rattle.spec_api.specs.History.{History, present}
+use Rattle.spec_api.specs.Reached.{IsReached}
+use Rattle.spec_api.specs.Streams.{Line, text_of_lines}
+use Rattle.spec_client_go.specs.declared.reflectors.End.{End}
+use Rattle.spec_client_go.specs.Informers.{all_applied}
+use Rattle.spec_client_go.specs.Reflectors.{Reflector, Fed, fed, joined}
 use Rattle.informer_laws.proofs.Publishing.{applied_both, fed_names}
-use Rattle.laws.proofs.Limited.{limited}
-use Rattle.laws.proofs.SentChanges.{changes_told}
+use Rattle.spec_laws.proofs.Limited.{limited}
+use Rattle.spec_laws.proofs.SentChanges.{changes_told}
 use Rattle.reflector.specs.Laws.{IsSent, IsReadBack}
 use Rattle.reflector.proofs.Cutting.{fed_twice}
-use Rattle.simulation.specs.Followers.{Link, Follower}
-use Rattle.simulation.specs.Moves.{left_open, deliver_from}
-use Rattle.simulation_laws.specs.FollowerLaws.{list_at, IsLinked, IsOpen, IsFollowing}
-use Rattle.simulation_laws.specs.LeadLaws.{Leads}
-use Rattle.simulation_laws.proofs.Feeding.{same_kind, end_clears}
-use Rattle.simulation_laws.proofs.Leading.{Ends, lead_to, further_leads}
+use Rattle.spec_sim_cluster.specs.Followers.{Link, Follower}
+use Rattle.spec_sim_cluster.specs.Moves.{left_open, deliver_from}
+use Rattle.sim_cluster_laws.specs.FollowerLaws.{list_at, IsLinked, IsOpen, IsFollowing}
+use Rattle.sim_cluster_laws.specs.LeadLaws.{Leads}
+use Rattle.sim_cluster_laws.proofs.Feeding.{same_kind, end_clears}
+use Rattle.sim_cluster_laws.proofs.Leading.{Ends, lead_to, further_leads}
 
 module _ (k : Kind) (h : History) (reached : IsReached h) where
   sendable : (s : Reflector) (l : Link) → (was : IsOpen h k s l) → IsSent h k was.from l.stands was.lines

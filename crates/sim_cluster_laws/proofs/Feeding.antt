@@ -3,22 +3,22 @@ use Rattle.std.proofs.Common.{◌≡◌, ◌≤◌, ◌<◌, ℕ, List, [], ◌�
 use Rattle.std.proofs.lemmas.Bool.{ltb-true, leb-true}
 use Rattle.std.specs.List.{AllByRecursion}
 use Rattle.serde_json.specs.Data.{Data}
-use Rattle.definitions.specs.declared.kinds.Kind.{Kind}
-use Rattle.definitions.specs.declared.frames.FrameKind.{FrameKind}
-use Rattle.definitions.specs.declared.frames.FrameKind.TheVariants.{Added, Modified, Deleted, Bookmark, Error}
-use Rattle.definitions.specs.Frames.{Frame, error_frame}
-use Rattle.definitions.specs.Refusals.{Refusal}
-use Rattle.definitions.specs.Streams.{Line, frame_of, text_of_lines}
-use Rattle.controllers.specs.declared.reflectors.Phase.{Phase}
-use Rattle.controllers.specs.declared.reflectors.Phase.TheVariants.{Listing, Streaming, Watching}
-use Rattle.controllers.specs.declared.reflectors.End.{End}
-use Rattle.controllers.specs.ReadFrames.{Read, reading, onto}
-use Rattle.controllers.specs.Reflectors.{Reflector, replace, objects_of, Step, Shown, Initial, Opening, under_way, closed, fed, fed_in, course, run, open_run, opens_on, opening_step, going_on, step, step_by, or_unreadable, shown, if_above, if_reached, is_of, revision, put_step, remove_step, mark_step, held_after, initial_after}
+use Rattle.spec_api.specs.declared.kinds.Kind.{Kind}
+use Rattle.spec_api.specs.declared.frames.FrameKind.{FrameKind}
+use Rattle.spec_api.specs.declared.frames.FrameKind.TheVariants.{Added, Modified, Deleted, Bookmark, Error}
+use Rattle.spec_api.specs.Frames.{Frame, error_frame}
+use Rattle.spec_api.specs.Refusals.{Refusal}
+use Rattle.spec_api.specs.Streams.{Line, frame_of, text_of_lines}
+use Rattle.spec_client_go.specs.declared.reflectors.Phase.{Phase}
+use Rattle.spec_client_go.specs.declared.reflectors.Phase.TheVariants.{Listing, Streaming, Watching}
+use Rattle.spec_client_go.specs.declared.reflectors.End.{End}
+use Rattle.spec_client_go.specs.ReadFrames.{Read, reading, onto}
+use Rattle.spec_client_go.specs.Reflectors.{Reflector, replace, objects_of, Step, Shown, Initial, Opening, under_way, closed, fed, fed_in, course, run, open_run, opens_on, opening_step, going_on, step, step_by, or_unreadable, shown, if_above, if_reached, is_of, revision, put_step, remove_step, mark_step, held_after, initial_after}
 use Rattle.framing.specs.Decoders.{fed_after}
 use Rattle.reflector.specs.Laws.{IsReadBack}
 use Rattle.reflector.proofs.Cutting.{reading_twice, no_cutting_matters}
 use Rattle.reflector.proofs.Streamed.{read_back}
-use Rattle.simulation_laws.specs.FollowerLaws.{refusal_text, IsRefusalRead, IsClear}
+use Rattle.sim_cluster_laws.specs.FollowerLaws.{refusal_text, IsRefusalRead, IsClear}
 
 -- ---- all the bytes: lines, and then a refusal
 

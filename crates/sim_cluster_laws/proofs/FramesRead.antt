@@ -9,34 +9,34 @@ use Rattle.json.proofs.Printed.Utf8.{IsUtf8-are_ascii}
 use Rattle.serde_json.specs.Data.{Data, null, boolean, number, string, array, object}
 use Rattle.serde_json.specs.Find.{as_object}
 use Rattle.serde_json.specs.Written.{compact_text, has_float}
-use Rattle.definitions.specs.declared.kinds.Kind.{Kind}
-use Rattle.definitions.specs.declared.frames.FrameKind.{FrameKind}
-use Rattle.definitions.specs.declared.frames.FrameKind.TheVariants.{Added, Modified, Deleted, Bookmark, Error}
-use Rattle.definitions.specs.declared.refusals.Part.{Part}
-use Rattle.definitions.specs.Events.{Event, event_of, events, events_after}
-use Rattle.definitions.specs.Frames.{Frame, frame_data, frame_text, kind_text, frame_kind, bookmark_data}
-use Rattle.definitions.specs.History.{History, View, Write, writes, present, up_to, last_of, seen, in_view}
-use Rattle.definitions.specs.Keys.{Key}
-use Rattle.definitions.specs.Kinds as kinds
-use Rattle.definitions.specs.Kinds.{api_version}
-use Rattle.definitions.specs.Metadata.{metadata_of}
-use Rattle.definitions.specs.Reached.{IsParsed, IsReached}
-use Rattle.definitions.specs.Reading.{reading}
-use Rattle.definitions.specs.Streams.{event, bookmark}
-use Rattle.definitions.proofs.NoFloatsRead.{has_float-is_body}
-use Rattle.controllers.specs.ReadFrames as frames
-use Rattle.controllers.specs.ReadFrames.{frame_in, line_read, next, longest_frame}
-use Rattle.controllers.specs.Reflectors.{Shown, shown_read}
-use Rattle.laws.specs.SentLaws.{whole, IsTold, IsShort}
-use Rattle.laws.proofs.AppliedEvents.{up_to-split}
-use Rattle.laws.proofs.EachWrite.{AllPut, last_put, put_first}
-use Rattle.laws.proofs.Limited.{limited}
-use Rattle.laws.proofs.Parsed.{version_ascii, kind_ascii}
-use Rattle.laws.proofs.ParsedEdits.{IsParsedAt, all_put}
-use Rattle.laws.proofs.ParsedObjects as parsed
-use Rattle.laws.proofs.ReadBack.{read_back}
-use Rattle.laws.proofs.SentChanges.{changes_told, read_body}
-use Rattle.laws.proofs.WrittenTexts.{text_written}
+use Rattle.spec_api.specs.declared.kinds.Kind.{Kind}
+use Rattle.spec_api.specs.declared.frames.FrameKind.{FrameKind}
+use Rattle.spec_api.specs.declared.frames.FrameKind.TheVariants.{Added, Modified, Deleted, Bookmark, Error}
+use Rattle.spec_api.specs.declared.refusals.Part.{Part}
+use Rattle.spec_api.specs.Events.{Event, event_of, events, events_after}
+use Rattle.spec_api.specs.Frames.{Frame, frame_data, frame_text, kind_text, frame_kind, bookmark_data}
+use Rattle.spec_api.specs.History.{History, View, Write, writes, present, up_to, last_of, seen, in_view}
+use Rattle.spec_api.specs.Keys.{Key}
+use Rattle.spec_api.specs.Kinds as kinds
+use Rattle.spec_api.specs.Kinds.{api_version}
+use Rattle.spec_api.specs.Metadata.{metadata_of}
+use Rattle.spec_api.specs.Reached.{IsParsed, IsReached}
+use Rattle.spec_api.specs.Reading.{reading}
+use Rattle.spec_api.specs.Streams.{event, bookmark}
+use Rattle.spec_api.proofs.NoFloatsRead.{has_float-is_body}
+use Rattle.spec_client_go.specs.ReadFrames as frames
+use Rattle.spec_client_go.specs.ReadFrames.{frame_in, line_read, next, longest_frame}
+use Rattle.spec_client_go.specs.Reflectors.{Shown, shown_read}
+use Rattle.spec_laws.specs.SentLaws.{whole, IsTold, IsShort}
+use Rattle.spec_laws.proofs.AppliedEvents.{up_to-split}
+use Rattle.spec_laws.proofs.EachWrite.{AllPut, last_put, put_first}
+use Rattle.spec_laws.proofs.Limited.{limited}
+use Rattle.spec_laws.proofs.Parsed.{version_ascii, kind_ascii}
+use Rattle.spec_laws.proofs.ParsedEdits.{IsParsedAt, all_put}
+use Rattle.spec_laws.proofs.ParsedObjects as parsed
+use Rattle.spec_laws.proofs.ReadBack.{read_back}
+use Rattle.spec_laws.proofs.SentChanges.{changes_told, read_body}
+use Rattle.spec_laws.proofs.WrittenTexts.{text_written}
 use Rattle.framing.specs.Texts.{IsWithin, ReadsAs}
 use Rattle.framing.proofs.Bookmarks.{IsWithin-bookmark}
 use Rattle.framing.proofs.Newlines.{IsPartial-from_flat, flat-compact_text}

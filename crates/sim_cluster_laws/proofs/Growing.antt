@@ -1,16 +1,16 @@
 -- A follower of what has happened follows what has happened since.
 use Rattle.std.proofs.Common.{◌≡◌, ◌≤◌, ℕ, List, ◌++◌, length, true, Option, Some, None, sym, ap, ◌∙◌, subst, arith, length-append}
-use Rattle.definitions.specs.declared.kinds.Kind.{Kind}
-use Rattle.definitions.specs.History.{History, writes, present, viewed}
-use Rattle.definitions.specs.Streams.{Line}
-use Rattle.definitions.specs.WatchReplies.{opening_lines}
-use Rattle.server_state.specs.Snapshots.{Snapshot}
-use Rattle.controllers.specs.Reflectors.{Reflector}
-use Rattle.laws.specs.SentLaws.{whole}
-use Rattle.laws.proofs.Looks.{still_streams}
-use Rattle.laws.proofs.Past.{writes-append, past}
-use Rattle.simulation.specs.Followers.{Link}
-use Rattle.simulation_laws.specs.FollowerLaws.{list_at, Begins, watching, streaming, IsLinked, FollowersStand}
+use Rattle.spec_api.specs.declared.kinds.Kind.{Kind}
+use Rattle.spec_api.specs.History.{History, writes, present, viewed}
+use Rattle.spec_api.specs.Streams.{Line}
+use Rattle.spec_api.specs.WatchReplies.{opening_lines}
+use Rattle.spec_server.specs.Snapshots.{Snapshot}
+use Rattle.spec_client_go.specs.Reflectors.{Reflector}
+use Rattle.spec_laws.specs.SentLaws.{whole}
+use Rattle.spec_laws.proofs.Looks.{still_streams}
+use Rattle.spec_laws.proofs.Past.{writes-append, past}
+use Rattle.spec_sim_cluster.specs.Followers.{Link}
+use Rattle.sim_cluster_laws.specs.FollowerLaws.{list_at, Begins, watching, streaming, IsLinked, FollowersStand}
 
 pub list_past : (h more : History) (k : Kind) (r : ℕ) → r ≤ present h → list_at (h ++ more) k r ≡ list_at h k r
 list_past h more k r le = λ i. record { members = viewed (whole k) (past h more r le i); revision = r }

@@ -1,33 +1,33 @@
 -- Each delta that waits leads from the server's list at one revision to that at a later one.
 use Rattle.std.proofs.Common.{◌≡◌, ◌≤◌, inl, inr, ℕ, List, [], ◌∷◌, ◌++◌, map, true, Option, None, IfSome, Result, Ok, Err, refl, sym, ap, ◌∙◌, subst, arith, append-nil, append_assoc}
 use Rattle.std.specs.List.{AllByRecursion}
-use Rattle.definitions.specs.declared.kinds.Kind.{Kind}
-use Rattle.definitions.specs.Events.{events}
-use Rattle.definitions.specs.Frames.{Frame}
-use Rattle.definitions.specs.History.{History, Entries, present, list}
-use Rattle.definitions.specs.Reached.{IsReached}
-use Rattle.definitions.specs.Refusals.{Refusal}
-use Rattle.definitions.specs.Streams.{Line, initial_end, added_lines, frame_of, text_of_lines}
-use Rattle.definitions.specs.WatchReplies.{opening_lines}
-use Rattle.server_state.specs.Snapshots.{Snapshot}
-use Rattle.controllers.specs.declared.reflectors.End.{End}
-use Rattle.controllers.specs.declared.reflectors.Phase.TheVariants.{Streaming, Watching}
-use Rattle.controllers.specs.Informers.{applied, all_applied}
-use Rattle.controllers.specs.ReadFrames.{reading}
-use Rattle.controllers.specs.Reflectors.{Reflector, Delta, replace, Fed, Run, Step, Course, Initial, none_yet, objects_of, open_run, fed, joined, run, step, going_on, apply_deltas, put_all}
-use Rattle.laws.specs.SentLaws.{whole, objects_in}
-use Rattle.laws.proofs.Limited.{limited}
-use Rattle.laws.proofs.SentLists.{lists_put}
-use Rattle.laws.proofs.Streamed.{list_ascending}
+use Rattle.spec_api.specs.declared.kinds.Kind.{Kind}
+use Rattle.spec_api.specs.Events.{events}
+use Rattle.spec_api.specs.Frames.{Frame}
+use Rattle.spec_api.specs.History.{History, Entries, present, list}
+use Rattle.spec_api.specs.Reached.{IsReached}
+use Rattle.spec_api.specs.Refusals.{Refusal}
+use Rattle.spec_api.specs.Streams.{Line, initial_end, added_lines, frame_of, text_of_lines}
+use Rattle.spec_api.specs.WatchReplies.{opening_lines}
+use Rattle.spec_server.specs.Snapshots.{Snapshot}
+use Rattle.spec_client_go.specs.declared.reflectors.End.{End}
+use Rattle.spec_client_go.specs.declared.reflectors.Phase.TheVariants.{Streaming, Watching}
+use Rattle.spec_client_go.specs.Informers.{applied, all_applied}
+use Rattle.spec_client_go.specs.ReadFrames.{reading}
+use Rattle.spec_client_go.specs.Reflectors.{Reflector, Delta, replace, Fed, Run, Step, Course, Initial, none_yet, objects_of, open_run, fed, joined, run, step, going_on, apply_deltas, put_all}
+use Rattle.spec_laws.specs.SentLaws.{whole, objects_in}
+use Rattle.spec_laws.proofs.Limited.{limited}
+use Rattle.spec_laws.proofs.SentLists.{lists_put}
+use Rattle.spec_laws.proofs.Streamed.{list_ascending}
 use Rattle.reflector.specs.Laws.{IsSent, IsReadBack, IsAt, IsAtStart}
 use Rattle.reflector.proofs.Cutting.{fed_twice, at_place}
 use Rattle.reflector.proofs.Followed.{Reaches, follows}
 use Rattle.reflector.proofs.Opened.{IsOf, Plays, all_listed, plays}
 use Rattle.informer_laws.proofs.Publishing.{fed_names, step_names}
-use Rattle.simulation_laws.specs.FollowerLaws.{list_at, refusal_text, IsRefusalRead, Begins, watching, streaming}
-use Rattle.simulation_laws.specs.LeadLaws.{Leads}
-use Rattle.simulation_laws.proofs.Feeding.{Beginning, before, whole_of, begun_frames, refused_run, refused_opening, frame_rises}
-use Rattle.simulation_laws.proofs.Growing.{list_past, further}
+use Rattle.sim_cluster_laws.specs.FollowerLaws.{list_at, refusal_text, IsRefusalRead, Begins, watching, streaming}
+use Rattle.sim_cluster_laws.specs.LeadLaws.{Leads}
+use Rattle.sim_cluster_laws.proofs.Feeding.{Beginning, before, whole_of, begun_frames, refused_run, refused_opening, frame_rises}
+use Rattle.sim_cluster_laws.proofs.Growing.{list_past, further}
 
 -- ---- deltas after deltas
 

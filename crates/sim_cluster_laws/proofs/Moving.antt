@@ -2,37 +2,37 @@
 use Rattle.std.proofs.Common.{eqb-true, ◌≡◌, ◌≤◌, ◌==◌, ℕ, List, [], ◌∷◌, ◌++◌, length, map, take, drop, Bool, true, false, cond, is_some, Option, Some, None, Result, Ok, Err, refl, sym, ap, ◌∙◌, subst, arith, append-nil, append_assoc}
 use Rattle.std.proofs.lemmas.List.{take-append-drop}
 use Rattle.std.specs.List.{AllByRecursion}
-use Rattle.definitions.specs.declared.kinds.Kind.{Kind}
-use Rattle.definitions.specs.Frames.{frame_text, error_frame}
-use Rattle.definitions.specs.History.{History, present, list}
-use Rattle.definitions.specs.Events.{events}
-use Rattle.definitions.specs.Reached.{IsReached}
-use Rattle.definitions.specs.Refusals.{Refusal}
-use Rattle.definitions.specs.Streams.{Line, event, bookmark, AreEventsWithBookmarks, IsStream, text_of_lines}
-use Rattle.definitions.specs.Versions.{Watched, watched_from}
-use Rattle.definitions.specs.WatchReplies.{opening_lines}
-use Rattle.server_state.specs.Snapshots.{Snapshot}
-use Rattle.controllers.specs.declared.reflectors.Phase.{Phase}
-use Rattle.controllers.specs.declared.reflectors.Phase.TheVariants.{Listing, Streaming, Watching}
-use Rattle.controllers.specs.Informers.{all_applied}
-use Rattle.controllers.specs.Reflectors.{Fed, list_delta}
+use Rattle.spec_api.specs.declared.kinds.Kind.{Kind}
+use Rattle.spec_api.specs.Frames.{frame_text, error_frame}
+use Rattle.spec_api.specs.History.{History, present, list}
+use Rattle.spec_api.specs.Events.{events}
+use Rattle.spec_api.specs.Reached.{IsReached}
+use Rattle.spec_api.specs.Refusals.{Refusal}
+use Rattle.spec_api.specs.Streams.{Line, event, bookmark, AreEventsWithBookmarks, IsStream, text_of_lines}
+use Rattle.spec_api.specs.Versions.{Watched, watched_from}
+use Rattle.spec_api.specs.WatchReplies.{opening_lines}
+use Rattle.spec_server.specs.Snapshots.{Snapshot}
+use Rattle.spec_client_go.specs.declared.reflectors.Phase.{Phase}
+use Rattle.spec_client_go.specs.declared.reflectors.Phase.TheVariants.{Listing, Streaming, Watching}
+use Rattle.spec_client_go.specs.Informers.{all_applied}
+use Rattle.spec_client_go.specs.Reflectors.{Fed, list_delta}
 use Rattle.informer_laws.proofs.Publishing.{applied_both}
-use Rattle.laws.specs.SentLaws.{whole, listed_at}
-use Rattle.laws.proofs.Limited.{limited}
-use Rattle.laws.proofs.Looks.{streams_join, none_at}
-use Rattle.laws.proofs.SentLists.{lists_put}
-use Rattle.laws.proofs.StandingWatches.{given_stands}
+use Rattle.spec_laws.specs.SentLaws.{whole, listed_at}
+use Rattle.spec_laws.proofs.Limited.{limited}
+use Rattle.spec_laws.proofs.Looks.{streams_join, none_at}
+use Rattle.spec_laws.proofs.SentLists.{lists_put}
+use Rattle.spec_laws.proofs.StandingWatches.{given_stands}
 use Rattle.reflector.specs.Laws.{IsReadBack}
-use Rattle.simulation.specs.Followers.{Link, Follower}
-use Rattle.simulation.specs.Moves as moving
-use Rattle.simulation.specs.Moves.{Move, answers_after, list_in, watch_in, open_by, stream_in, after_lines, after_initial, after_refusal, with_link, write_changes, send_next, send_on, write_bookmark, bookmark_next, bookmark_on, left_open, deliver_from, deliver_on, deliver_all_on, cut_on, publish_by, publish_now, closed}
-use Rattle.simulation_laws.specs.FollowerLaws.{list_at, refusal_text, IsRefusalRead, Begins, watching, streaming, IsLinked, IsOpen, IsFollowing, MovesFollow}
-use Rattle.simulation_laws.proofs.Appending.{texts, all_two, events_alone}
-use Rattle.simulation_laws.proofs.Delivering.{delivers}
-use Rattle.simulation_laws.proofs.Feeding.{none_fed}
-use Rattle.simulation_laws.proofs.FramesRead.{events_back, bookmark_back}
-use Rattle.simulation_laws.proofs.OpeningsRead.{opening_back}
-use Rattle.simulation_laws.proofs.RefusalsRead.{refusal_back}
+use Rattle.spec_sim_cluster.specs.Followers.{Link, Follower}
+use Rattle.spec_sim_cluster.specs.Moves as moving
+use Rattle.spec_sim_cluster.specs.Moves.{Move, answers_after, list_in, watch_in, open_by, stream_in, after_lines, after_initial, after_refusal, with_link, write_changes, send_next, send_on, write_bookmark, bookmark_next, bookmark_on, left_open, deliver_from, deliver_on, deliver_all_on, cut_on, publish_by, publish_now, closed}
+use Rattle.sim_cluster_laws.specs.FollowerLaws.{list_at, refusal_text, IsRefusalRead, Begins, watching, streaming, IsLinked, IsOpen, IsFollowing, MovesFollow}
+use Rattle.sim_cluster_laws.proofs.Appending.{texts, all_two, events_alone}
+use Rattle.sim_cluster_laws.proofs.Delivering.{delivers}
+use Rattle.sim_cluster_laws.proofs.Feeding.{none_fed}
+use Rattle.sim_cluster_laws.proofs.FramesRead.{events_back, bookmark_back}
+use Rattle.sim_cluster_laws.proofs.OpeningsRead.{opening_back}
+use Rattle.sim_cluster_laws.proofs.RefusalsRead.{refusal_back}
 
 -- no refusal was written, if none is said to have been
 none_refused : (o : Option Refusal) → is_some o ≡ false → o ≡ None

@@ -5,25 +5,25 @@ use Rattle.std.proofs.lemmas.Fmt.{IsAscii-decimal}
 use Rattle.std.proofs.lemmas.Str.{IsUtf8-from_ascii}
 use Rattle.json.proofs.Printed.Utf8.{IsUtf8-are_ascii}
 use Rattle.serde_json.specs.Data.{Data}
-use Rattle.definitions.specs.declared.kinds.Kind.{Kind}
-use Rattle.definitions.specs.declared.frames.FrameKind.TheVariants.{Added, Bookmark}
-use Rattle.definitions.specs.Frames.{bookmark_data}
-use Rattle.definitions.specs.History.{History, Entries, list, present}
-use Rattle.definitions.specs.Keys.{Key}
-use Rattle.definitions.specs.Kinds as kinds
-use Rattle.definitions.specs.Kinds.{api_version}
-use Rattle.definitions.specs.Reached.{IsParsed, IsReached}
-use Rattle.definitions.specs.Streams.{initial, initial_end, AreEventsWithBookmarks}
-use Rattle.definitions.specs.WatchReplies.{opening_lines}
-use Rattle.definitions.proofs.NoFloatsRead.{has_float-is_body}
-use Rattle.laws.specs.SentLaws.{whole}
-use Rattle.laws.proofs.Limited.{limited}
-use Rattle.laws.proofs.Looks.{none_at}
-use Rattle.laws.proofs.Parsed.{version_ascii, kind_ascii}
-use Rattle.laws.proofs.SentChanges.{read_body}
+use Rattle.spec_api.specs.declared.kinds.Kind.{Kind}
+use Rattle.spec_api.specs.declared.frames.FrameKind.TheVariants.{Added, Bookmark}
+use Rattle.spec_api.specs.Frames.{bookmark_data}
+use Rattle.spec_api.specs.History.{History, Entries, list, present}
+use Rattle.spec_api.specs.Keys.{Key}
+use Rattle.spec_api.specs.Kinds as kinds
+use Rattle.spec_api.specs.Kinds.{api_version}
+use Rattle.spec_api.specs.Reached.{IsParsed, IsReached}
+use Rattle.spec_api.specs.Streams.{initial, initial_end, AreEventsWithBookmarks}
+use Rattle.spec_api.specs.WatchReplies.{opening_lines}
+use Rattle.spec_api.proofs.NoFloatsRead.{has_float-is_body}
+use Rattle.spec_laws.specs.SentLaws.{whole}
+use Rattle.spec_laws.proofs.Limited.{limited}
+use Rattle.spec_laws.proofs.Looks.{none_at}
+use Rattle.spec_laws.proofs.Parsed.{version_ascii, kind_ascii}
+use Rattle.spec_laws.proofs.SentChanges.{read_body}
 use Rattle.reflector.specs.Laws.{IsReadBack, IsReadWithin}
 use Rattle.reflector.proofs.Opened.{IsOf, all_listed, back}
-use Rattle.simulation_laws.proofs.FramesRead.{frame_back}
+use Rattle.sim_cluster_laws.proofs.FramesRead.{frame_back}
 
 closing_parsed : (k : Kind) (r : ℕ) → r < 2 ^ 64 → IsParsed (bookmark_data k true r)
 closing_parsed k r low = (

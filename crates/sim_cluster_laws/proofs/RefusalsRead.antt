@@ -10,25 +10,25 @@ use Rattle.json.specs.Print.{quoted}
 use Rattle.json.proofs.Printed.Utf8.{IsUtf8-are_ascii}
 use Rattle.serde_json.specs.Data.{Data, number, unsigned, string, object, no_members, member}
 use Rattle.serde_json.specs.Written.{compact_text}
-use Rattle.definitions.specs.declared.kinds.Kind.{Kind}
-use Rattle.definitions.specs.declared.frames.FrameKind.TheVariants.{Error}
-use Rattle.definitions.specs.Events.{events}
-use Rattle.definitions.specs.Frames.{error_frame}
-use Rattle.definitions.specs.History.{History, Write, write, compaction, writes, present}
-use Rattle.definitions.specs.Reached.{IsParsed, IsReached}
-use Rattle.definitions.specs.Refusals.{Refusal, expired, too_new, message, status_body}
-use Rattle.definitions.specs.Versions.{watched, watched_from}
-use Rattle.definitions.specs.Windows.{Change, changes_after, changes_of, last_revision, compacted, floor, is_of}
-use Rattle.definitions.proofs.EscapedTexts.{length-quoted}
-use Rattle.definitions.proofs.OnLiterals.{on_literals}
+use Rattle.spec_api.specs.declared.kinds.Kind.{Kind}
+use Rattle.spec_api.specs.declared.frames.FrameKind.TheVariants.{Error}
+use Rattle.spec_api.specs.Events.{events}
+use Rattle.spec_api.specs.Frames.{error_frame}
+use Rattle.spec_api.specs.History.{History, Write, write, compaction, writes, present}
+use Rattle.spec_api.specs.Reached.{IsParsed, IsReached}
+use Rattle.spec_api.specs.Refusals.{Refusal, expired, too_new, message, status_body}
+use Rattle.spec_api.specs.Versions.{watched, watched_from}
+use Rattle.spec_api.specs.Windows.{Change, changes_after, changes_of, last_revision, compacted, floor, is_of}
+use Rattle.spec_api.proofs.EscapedTexts.{length-quoted}
+use Rattle.spec_api.proofs.OnLiterals.{on_literals}
 use Rattle.framing.specs.Texts.{IsWithin}
 use Rattle.framing.proofs.FrameTexts.{frame_bytes}
-use Rattle.laws.specs.Happening.{Follows}
-use Rattle.laws.specs.SentLaws.{whole}
-use Rattle.laws.proofs.Limited.{limited, happens}
+use Rattle.spec_laws.specs.Happening.{Follows}
+use Rattle.spec_laws.specs.SentLaws.{whole}
+use Rattle.spec_laws.proofs.Limited.{limited, happens}
 use Rattle.reflector.proofs.Served.{length-framed}
-use Rattle.simulation_laws.specs.FollowerLaws.{IsRefusalRead}
-use Rattle.simulation_laws.proofs.FramesRead.{frame_back}
+use Rattle.sim_cluster_laws.specs.FollowerLaws.{IsRefusalRead}
+use Rattle.sim_cluster_laws.proofs.FramesRead.{frame_back}
 
 -- ---- how high the floor is
 

@@ -1,15 +1,15 @@
 -- What a client's line does that asks a request.
 use Rattle.std.proofs.Common.{◌≡◌, ℕ, List, ap, ◌∙◌}
-use Rattle.definitions.specs.History.{History}
-use Rattle.definitions.specs.Keys.{Key}
-use Rattle.definitions.specs.ObjectRequests.{Request}
-use Rattle.definitions.specs.Replies.{Session, outcome, reply_for, history_from}
-use Rattle.definitions.specs.Verbs.{accept, history_after}
-use Rattle.line_protocol.specs.Lines.{line_of, reply_text, reply_to, session_after}
-use Rattle.laws.specs.LifecycleLaws.{ReplacesVersion}
-use Rattle.laws.proofs.NamedVersions.{updates_version, statuses_version, patches_version, deletes_version}
-use Rattle.simulation.specs.Moves.{replied}
-use Rattle.simulation_laws.specs.ClusterLaws.{Asks, NamesVersion, update, status, patch, delete, NamedVersionsAreReplaced}
+use Rattle.spec_api.specs.History.{History}
+use Rattle.spec_api.specs.Keys.{Key}
+use Rattle.spec_api.specs.ObjectRequests.{Request}
+use Rattle.spec_api.specs.Replies.{Session, outcome, reply_for, history_from}
+use Rattle.spec_api.specs.Verbs.{accept, history_after}
+use Rattle.spec_line_protocol.specs.Lines.{line_of, reply_text, reply_to, session_after}
+use Rattle.spec_laws.specs.LifecycleLaws.{ReplacesVersion}
+use Rattle.spec_laws.proofs.NamedVersions.{updates_version, statuses_version, patches_version, deletes_version}
+use Rattle.spec_sim_cluster.specs.Moves.{replied}
+use Rattle.sim_cluster_laws.specs.ClusterLaws.{Asks, NamesVersion, update, status, patch, delete, NamedVersionsAreReplaced}
 
 pub replaces : (h : History) (k : Key) (named : List ℕ) (q : Request) (moment : List ℕ) → NamesVersion h k named q → ReplacesVersion k named h (accept q h moment)
 replaces h k named q moment (update d o read names) = updates_version k d o named h moment read names

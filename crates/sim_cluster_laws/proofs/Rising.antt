@@ -1,16 +1,16 @@
 -- The revision that is published never falls.
 use Rattle.std.proofs.Common.{◌≡◌, ◌≤◌, ◌==◌, ℕ, Bool, true, false, cond, Option, Some, None, refl, ap, arith}
-use Rattle.definitions.specs.declared.kinds.Kind.{Kind}
-use Rattle.definitions.specs.History.{History}
-use Rattle.server_state.specs.Snapshots.{Snapshot}
-use Rattle.controllers.specs.declared.reflectors.Phase.{Phase}
-use Rattle.controllers.specs.declared.reflectors.Phase.TheVariants.{Listing, Streaming, Watching}
-use Rattle.controllers.specs.Informers.{Informer, all_applied}
-use Rattle.simulation.specs.Followers.{Link, Follower}
-use Rattle.simulation.specs.Moves as moving
-use Rattle.simulation.specs.Moves.{Move, Moved, answers_after, list_in, deliver_on, deliver_all_on, publish_now, closed}
-use Rattle.simulation_laws.specs.FollowerLaws.{IsFollowing, MovesRise}
-use Rattle.simulation_laws.proofs.Staying.{Stays, of_watch, of_stream, of_send, of_bookmark, of_cut}
+use Rattle.spec_api.specs.declared.kinds.Kind.{Kind}
+use Rattle.spec_api.specs.History.{History}
+use Rattle.spec_server.specs.Snapshots.{Snapshot}
+use Rattle.spec_client_go.specs.declared.reflectors.Phase.{Phase}
+use Rattle.spec_client_go.specs.declared.reflectors.Phase.TheVariants.{Listing, Streaming, Watching}
+use Rattle.spec_client_go.specs.Informers.{Informer, all_applied}
+use Rattle.spec_sim_cluster.specs.Followers.{Link, Follower}
+use Rattle.spec_sim_cluster.specs.Moves as moving
+use Rattle.spec_sim_cluster.specs.Moves.{Move, Moved, answers_after, list_in, deliver_on, deliver_all_on, publish_now, closed}
+use Rattle.sim_cluster_laws.specs.FollowerLaws.{IsFollowing, MovesRise}
+use Rattle.sim_cluster_laws.proofs.Staying.{Stays, of_watch, of_stream, of_send, of_bookmark, of_cut}
 
 abbrev named : Follower → ℕ
 named f = f.informer.published.revision

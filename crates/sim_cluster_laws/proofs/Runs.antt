@@ -1,27 +1,27 @@
 -- Whatever steps are taken: the server's history is reached, and each follower follows it.
 use Rattle.std.proofs.Common.{◌≡◌, ◌≤◌, ℕ, List, [], ◌∷◌, codes, refl, sym, ap, subst, arith}
 use Rattle.json.proofs.Printed.Utf8.{IsUtf8-are_ascii}
-use Rattle.definitions.specs.declared.kinds.Kind.{Kind}
-use Rattle.definitions.specs.declared.kinds.Kind.TheVariants.{ConfigMap, Pod, ReplicaSet, Deployment}
-use Rattle.definitions.specs.History.{History, compaction}
-use Rattle.definitions.specs.Reached as reached
-use Rattle.definitions.specs.Reached.{IsReached, IsTimestamp, asks, compacts}
-use Rattle.definitions.specs.Replies.{Session, start}
-use Rattle.definitions.specs.Verbs.{accept, write_of}
-use Rattle.line_protocol.specs.Lines as lines
-use Rattle.line_protocol.specs.Lines.{Line, cut, line_of, session_after}
-use Rattle.server_state.specs.Snapshots.{Snapshot}
-use Rattle.laws.proofs.ReadRequests.{IsTimed, timed_from, by_line}
-use Rattle.laws.proofs.Runs.{Begins, nothing as none_more, begins-write, begins-entry}
-use Rattle.simulation.specs.declared.initial_syncs.InitialSync.{InitialSync}
-use Rattle.simulation.specs.Followers.{Follower, begun}
-use Rattle.simulation.specs.Moves as moving
-use Rattle.simulation.specs.Clusters.{Cluster, with_new_followers, opened, history, follower, with_follower, ClusterStep, request, compact, moves, restart, step, run}
-use Rattle.simulation_laws.specs.FollowerLaws.{IsFollowing}
-use Rattle.simulation_laws.specs.ClusterLaws.{IsFollowed, StepsKeep, RunsAreFollowed, InformersShowServerLists, NoRestart, PublishedRevisionsRise, RestartsBeginAnew}
-use Rattle.simulation_laws.proofs.Growing.{stand}
-use Rattle.simulation_laws.proofs.Moving.{moves_follow}
-use Rattle.simulation_laws.proofs.Rising.{rise}
+use Rattle.spec_api.specs.declared.kinds.Kind.{Kind}
+use Rattle.spec_api.specs.declared.kinds.Kind.TheVariants.{ConfigMap, Pod, ReplicaSet, Deployment}
+use Rattle.spec_api.specs.History.{History, compaction}
+use Rattle.spec_api.specs.Reached as reached
+use Rattle.spec_api.specs.Reached.{IsReached, IsTimestamp, asks, compacts}
+use Rattle.spec_api.specs.Replies.{Session, start}
+use Rattle.spec_api.specs.Verbs.{accept, write_of}
+use Rattle.spec_line_protocol.specs.Lines as lines
+use Rattle.spec_line_protocol.specs.Lines.{Line, cut, line_of, session_after}
+use Rattle.spec_server.specs.Snapshots.{Snapshot}
+use Rattle.spec_laws.proofs.ReadRequests.{IsTimed, timed_from, by_line}
+use Rattle.spec_laws.proofs.Runs.{Begins, nothing as none_more, begins-write, begins-entry}
+use Rattle.spec_sim_cluster.specs.declared.initial_syncs.InitialSync.{InitialSync}
+use Rattle.spec_sim_cluster.specs.Followers.{Follower, begun}
+use Rattle.spec_sim_cluster.specs.Moves as moving
+use Rattle.spec_sim_cluster.specs.Clusters.{Cluster, with_new_followers, opened, history, follower, with_follower, ClusterStep, request, compact, moves, restart, step, run}
+use Rattle.sim_cluster_laws.specs.FollowerLaws.{IsFollowing}
+use Rattle.sim_cluster_laws.specs.ClusterLaws.{IsFollowed, StepsKeep, RunsAreFollowed, InformersShowServerLists, NoRestart, PublishedRevisionsRise, RestartsBeginAnew}
+use Rattle.sim_cluster_laws.proofs.Growing.{stand}
+use Rattle.sim_cluster_laws.proofs.Moving.{moves_follow}
+use Rattle.sim_cluster_laws.proofs.Rising.{rise}
 
 -- ---- parts of a cluster
 

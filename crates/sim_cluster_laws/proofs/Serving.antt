@@ -1,12 +1,12 @@
 -- A server in the place of what has happened.
 use Rattle.std.proofs.Common.{◌≡◌, ℕ, ap}
-use Rattle.definitions.specs.declared.kinds.Kind.{Kind}
-use Rattle.definitions.specs.History.{History, viewed}
-use Rattle.server_state.specs.Servers.{Server, IsServerAfter}
-use Rattle.laws.specs.SentLaws.{whole}
-use Rattle.laws.proofs.ServerAnswers.{watches_held}
-use Rattle.simulation.specs.Moves.{answers_after, answers_by, move_by}
-use Rattle.simulation_laws.specs.FollowerLaws.{ServersServe}
+use Rattle.spec_api.specs.declared.kinds.Kind.{Kind}
+use Rattle.spec_api.specs.History.{History, viewed}
+use Rattle.spec_server.specs.Servers.{Server, IsServerAfter}
+use Rattle.spec_laws.specs.SentLaws.{whole}
+use Rattle.spec_laws.proofs.ServerAnswers.{watches_held}
+use Rattle.spec_sim_cluster.specs.Moves.{answers_after, answers_by, move_by}
+use Rattle.sim_cluster_laws.specs.FollowerLaws.{ServersServe}
 
 pub same_answers : (size : ℕ) (s : Server) (h : History) (k : Kind) → IsServerAfter size s h → answers_by k s ≡ answers_after k size h
 same_answers size s h k is = λ i. record {

@@ -1,16 +1,16 @@
 -- Moves that take nothing in, and publish nothing.
 use Rattle.std.proofs.Common.{◌≡◌, ◌==◌, ℕ, List, [], ◌∷◌, Bool, true, false, cond, Option, Some, None, Result, Ok, Err, refl}
-use Rattle.definitions.specs.declared.kinds.Kind.{Kind}
-use Rattle.definitions.specs.History.{History, present}
-use Rattle.definitions.specs.Refusals.{Refusal}
-use Rattle.definitions.specs.Streams.{Line, bookmark}
-use Rattle.definitions.specs.Versions.{Watched, watched_from}
-use Rattle.controllers.specs.declared.reflectors.Phase.{Phase}
-use Rattle.controllers.specs.declared.reflectors.Phase.TheVariants.{Listing, Streaming, Watching}
-use Rattle.laws.specs.SentLaws.{whole}
-use Rattle.simulation.specs.Followers.{Link, Follower}
-use Rattle.simulation.specs.Moves as moving
-use Rattle.simulation.specs.Moves.{Moved, answers_after, watch_in, open_by, stream_in, after_lines, with_link, write_changes, send_next, send_on, write_bookmark, bookmark_next, bookmark_on, cut_on, closed}
+use Rattle.spec_api.specs.declared.kinds.Kind.{Kind}
+use Rattle.spec_api.specs.History.{History, present}
+use Rattle.spec_api.specs.Refusals.{Refusal}
+use Rattle.spec_api.specs.Streams.{Line, bookmark}
+use Rattle.spec_api.specs.Versions.{Watched, watched_from}
+use Rattle.spec_client_go.specs.declared.reflectors.Phase.{Phase}
+use Rattle.spec_client_go.specs.declared.reflectors.Phase.TheVariants.{Listing, Streaming, Watching}
+use Rattle.spec_laws.specs.SentLaws.{whole}
+use Rattle.spec_sim_cluster.specs.Followers.{Link, Follower}
+use Rattle.spec_sim_cluster.specs.Moves as moving
+use Rattle.spec_sim_cluster.specs.Moves.{Moved, answers_after, watch_in, open_by, stream_in, after_lines, with_link, write_changes, send_next, send_on, write_bookmark, bookmark_next, bookmark_on, cut_on, closed}
 
 module _ (k : Kind) (h : History) (f : Follower) where
   -- what is published, and what waits, stays

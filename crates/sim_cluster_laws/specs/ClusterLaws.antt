@@ -1,28 +1,28 @@
 -- Whatever steps are taken: what a cluster's informers have published, and what its conditional writes replaced.
 use Rattle.std.specs.Prelude.{◌≡◌, ◌≤◌, ℕ, List, [], ◌∷◌, Some, Ok}
 use Rattle.serde_json.specs.Data.{Data}
-use Rattle.definitions.specs.declared.kinds.Kind.{Kind}
-use Rattle.definitions.specs.declared.methods.Method.{Method}
-use Rattle.definitions.specs.DeleteOptions.{Options}
-use Rattle.definitions.specs.History.{History, present, state, list}
-use Rattle.definitions.specs.Keys.{Key}
-use Rattle.definitions.specs.Metadata.{version}
-use Rattle.definitions.specs.ObjectRequests.{Request, update_object, update_status, patch_object, delete_object}
-use Rattle.definitions.specs.Reached.{IsReached, IsTimestamp}
-use Rattle.definitions.specs.Reading.{reading}
-use Rattle.definitions.specs.Replies.{outcome}
-use Rattle.definitions.specs.Targets as asked
-use Rattle.definitions.specs.Targets.{read_request}
-use Rattle.definitions.specs.Values.{merged}
-use Rattle.definitions.specs.Verbs.{accept, history_after, object_in}
-use Rattle.line_protocol.specs.Lines.{line_of, ask, reply_text}
-use Rattle.laws.specs.LifecycleLaws.{ReplacesVersion}
-use Rattle.laws.specs.SentLaws.{whole}
-use Rattle.simulation.specs.declared.initial_syncs.InitialSync.{InitialSync}
-use Rattle.simulation.specs.Followers.{begun}
-use Rattle.simulation.specs.Moves.{replied}
-use Rattle.simulation.specs.Clusters.{Cluster, opened, history, follower, ClusterStep, request, restart, step, run}
-use Rattle.simulation_laws.specs.FollowerLaws.{IsFollowing}
+use Rattle.spec_api.specs.declared.kinds.Kind.{Kind}
+use Rattle.spec_api.specs.declared.methods.Method.{Method}
+use Rattle.spec_api.specs.DeleteOptions.{Options}
+use Rattle.spec_api.specs.History.{History, present, state, list}
+use Rattle.spec_api.specs.Keys.{Key}
+use Rattle.spec_api.specs.Metadata.{version}
+use Rattle.spec_api.specs.ObjectRequests.{Request, update_object, update_status, patch_object, delete_object}
+use Rattle.spec_api.specs.Reached.{IsReached, IsTimestamp}
+use Rattle.spec_api.specs.Reading.{reading}
+use Rattle.spec_api.specs.Replies.{outcome}
+use Rattle.spec_api.specs.Targets as asked
+use Rattle.spec_api.specs.Targets.{read_request}
+use Rattle.spec_api.specs.Values.{merged}
+use Rattle.spec_api.specs.Verbs.{accept, history_after, object_in}
+use Rattle.spec_line_protocol.specs.Lines.{line_of, ask, reply_text}
+use Rattle.spec_laws.specs.LifecycleLaws.{ReplacesVersion}
+use Rattle.spec_laws.specs.SentLaws.{whole}
+use Rattle.spec_sim_cluster.specs.declared.initial_syncs.InitialSync.{InitialSync}
+use Rattle.spec_sim_cluster.specs.Followers.{begun}
+use Rattle.spec_sim_cluster.specs.Moves.{replied}
+use Rattle.spec_sim_cluster.specs.Clusters.{Cluster, opened, history, follower, ClusterStep, request, restart, step, run}
+use Rattle.sim_cluster_laws.specs.FollowerLaws.{IsFollowing}
 
 -- ---- what informers publish
 

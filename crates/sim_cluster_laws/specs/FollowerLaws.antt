@@ -1,22 +1,22 @@
 -- What a follower has published, and what it has still to publish, by what has happened at the server.
 use Rattle.std.specs.Prelude.{◌≡◌, ◌≤◌, ℕ, List, [], ◌++◌, true, Option, Some, None, IfSome, is_some}
 use Rattle.std.specs.List.{AllByRecursion}
-use Rattle.definitions.specs.declared.kinds.Kind.{Kind}
-use Rattle.definitions.specs.Frames.{frame_text, error_frame}
-use Rattle.definitions.specs.History.{History, present, list}
-use Rattle.definitions.specs.Reached.{IsReached}
-use Rattle.definitions.specs.Refusals.{Refusal}
-use Rattle.definitions.specs.Streams.{Line, IsStream, text_of_lines}
-use Rattle.definitions.specs.WatchReplies.{opening_lines}
-use Rattle.server_state.specs.Servers.{Server, IsServerAfter}
-use Rattle.server_state.specs.Snapshots.{Snapshot}
-use Rattle.controllers.specs.Informers.{all_applied}
-use Rattle.controllers.specs.Reflectors.{Reflector, none_yet, fed}
-use Rattle.laws.specs.SentLaws.{whole}
+use Rattle.spec_api.specs.declared.kinds.Kind.{Kind}
+use Rattle.spec_api.specs.Frames.{frame_text, error_frame}
+use Rattle.spec_api.specs.History.{History, present, list}
+use Rattle.spec_api.specs.Reached.{IsReached}
+use Rattle.spec_api.specs.Refusals.{Refusal}
+use Rattle.spec_api.specs.Streams.{Line, IsStream, text_of_lines}
+use Rattle.spec_api.specs.WatchReplies.{opening_lines}
+use Rattle.spec_server.specs.Servers.{Server, IsServerAfter}
+use Rattle.spec_server.specs.Snapshots.{Snapshot}
+use Rattle.spec_client_go.specs.Informers.{all_applied}
+use Rattle.spec_client_go.specs.Reflectors.{Reflector, none_yet, fed}
+use Rattle.spec_laws.specs.SentLaws.{whole}
 use Rattle.framing.specs.Texts.{ReadsAs}
 use Rattle.reflector.specs.Laws.{IsReadBack, IsAt, IsAtStart}
-use Rattle.simulation.specs.Followers.{Link, Follower}
-use Rattle.simulation.specs.Moves.{Move, answers_by, move_by, move}
+use Rattle.spec_sim_cluster.specs.Followers.{Link, Follower}
+use Rattle.spec_sim_cluster.specs.Moves.{Move, answers_by, move_by, move}
 
 -- ---- what a follower is
 

@@ -1,5 +1,5 @@
 //! Laws of a cluster.
-ghost use Rattle.simulation_laws.specs.ClusterLaws.{StepsKeep, RunsAreFollowed, InformersShowServerLists, PublishedRevisionsRise, RestartsBeginAnew, NamedVersionsAreReplaced};
+ghost use Rattle.sim_cluster_laws.specs.ClusterLaws.{StepsKeep, RunsAreFollowed, InformersShowServerLists, PublishedRevisionsRise, RestartsBeginAnew, NamedVersionsAreReplaced};
 
 /// Each step leaves the server with what can have happened, and each follower following it.
 pub fn steps_keep()

@@ -1,5 +1,5 @@
 //! Laws of one follower.
-ghost use Rattle.simulation_laws.specs.FollowerLaws.{MovesFollow, FollowersStand, MovesRise, ServersServe};
+ghost use Rattle.sim_cluster_laws.specs.FollowerLaws.{MovesFollow, FollowersStand, MovesRise, ServersServe};
 
 /// Each move leaves what is published the server's list at the revision that is published, and what waits what makes of it the
 /// list at the reflector's revision.

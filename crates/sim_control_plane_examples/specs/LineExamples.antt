@@ -1,19 +1,19 @@
 -- Worked facts of lines, computed from the definitions: which lines ask for which steps, and how outcomes are told.
 use Rattle.std.specs.Prelude.{◌≡◌, ℕ, List, [], ◌∷◌, ◌++◌, true, false, Some, None, codes, unwrap_or}
 use Rattle.serde_json.specs.Data.{Data, null}
-use Rattle.definitions.specs.declared.kinds.Kind.TheVariants.{ConfigMap, Pod, ReplicaSet, Deployment}
-use Rattle.definitions.specs.Keys.{Key}
-use Rattle.definitions.specs.Values.{data_of}
-use Rattle.controllers.specs.declared.controller.Controller.TheVariants as controller
-use Rattle.controllers.specs.Commands.{create, update, update_status, delete}
-use Rattle.simulation.specs.Clusters.{restart, request, moves}
-use Rattle.simulation.specs.Moves.{publish}
-use Rattle.reconciling.specs.ControlPlanes.{in_cluster, handle, works, tick}
-use Rattle.reconciling.specs.Managers.{take, look, ask_satisfied, read_live, expect, issue, finish, delivered, answer_lost, dropped}
-use Rattle.reconciling.specs.Outcomes.{handled, took, looked, satisfied, read, expected, issued, finished, time, no_step}
-use Rattle.reconciling.specs.OutcomeTexts.{outcome_text}
-use Rattle.reconciling.specs.StepLines.{step_of_line}
-use Rattle.reconciling.specs.Turns.{accepted, refused, lost}
+use Rattle.spec_api.specs.declared.kinds.Kind.TheVariants.{ConfigMap, Pod, ReplicaSet, Deployment}
+use Rattle.spec_api.specs.Keys.{Key}
+use Rattle.spec_api.specs.Values.{data_of}
+use Rattle.spec_client_go.specs.declared.controller.Controller.TheVariants as controller
+use Rattle.spec_client_go.specs.Commands.{create, update, update_status, delete}
+use Rattle.spec_sim_cluster.specs.Clusters.{restart, request, moves}
+use Rattle.spec_sim_cluster.specs.Moves.{publish}
+use Rattle.spec_sim_control_plane.specs.ControlPlanes.{in_cluster, handle, works, tick}
+use Rattle.spec_sim_control_plane.specs.Managers.{take, look, ask_satisfied, read_live, expect, issue, finish, delivered, answer_lost, dropped}
+use Rattle.spec_sim_control_plane.specs.Outcomes.{handled, took, looked, satisfied, read, expected, issued, finished, time, no_step}
+use Rattle.spec_sim_control_plane.specs.OutcomeTexts.{outcome_text}
+use Rattle.spec_sim_control_plane.specs.StepLines.{step_of_line}
+use Rattle.spec_sim_control_plane.specs.Turns.{accepted, refused, lost}
 
 -- an action with the number of a worker, and what it is of
 abbrev pub ActionsAreRead : Type 0

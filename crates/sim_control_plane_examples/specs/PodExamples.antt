@@ -1,12 +1,12 @@
 -- Worked facts of pods, computed from the definitions: what changes show of pods that are expected.
 use Rattle.std.specs.Prelude.{◌≡◌, ℕ, List, [], ◌∷◌, ◌++◌, Bool, true, false, Option, Some, None, codes, unwrap_or}
 use Rattle.serde_json.specs.Data.{Data, null}
-use Rattle.definitions.specs.declared.kinds.Kind.TheVariants.{ConfigMap, Pod, ReplicaSet}
-use Rattle.definitions.specs.Keys.{Key}
-use Rattle.definitions.specs.Values.{data_of}
-use Rattle.controllers.specs.Expectations.{Owner}
-use Rattle.control.specs.Boards.{Observation, creation_observed, deletion_observed}
-use Rattle.reconciling.specs.PodObservations.{observations}
+use Rattle.spec_api.specs.declared.kinds.Kind.TheVariants.{ConfigMap, Pod, ReplicaSet}
+use Rattle.spec_api.specs.Keys.{Key}
+use Rattle.spec_api.specs.Values.{data_of}
+use Rattle.spec_client_go.specs.Expectations.{Owner}
+use Rattle.spec_work_board.specs.Boards.{Observation, creation_observed, deletion_observed}
+use Rattle.spec_sim_control_plane.specs.PodObservations.{observations}
 
 -- a pod with a uid, these members more in its metadata, and an owner reference to the ReplicaSet `web`
 abbrev pod_by : List ℕ → List ℕ → List ℕ → Data

@@ -1,14 +1,14 @@
 -- Worked turns, computed from the definitions: what is told of a worker's steps, whatever the board.
 use Rattle.std.specs.Prelude.{◌≡◌, ℕ, List, [], ◌∷◌, ◌++◌, map, flat_map, Bool, true, false, Some, None, codes}
-use Rattle.definitions.specs.declared.kinds.Kind.TheVariants.{Pod, ReplicaSet}
-use Rattle.controllers.specs.declared.controller.Controller.TheVariants as controller
-use Rattle.controllers.specs.WorkQueues.{WorkKey}
-use Rattle.control.specs.Boards.{Board}
-use Rattle.simulation.specs.Clusters.{follower}
-use Rattle.simulation.specs.declared.initial_syncs.InitialSync.TheVariants as sync
-use Rattle.reconciling.specs.ControlPlanes.{ControlPlane, opened, run}
-use Rattle.reconciling.specs.StepLines.{step_asked, outcome_lines}
-use Rattle.reconciling.specs.Turns.{Turn, begun, looked, satisfied, with_sight}
+use Rattle.spec_api.specs.declared.kinds.Kind.TheVariants.{Pod, ReplicaSet}
+use Rattle.spec_client_go.specs.declared.controller.Controller.TheVariants as controller
+use Rattle.spec_client_go.specs.WorkQueues.{WorkKey}
+use Rattle.spec_work_board.specs.Boards.{Board}
+use Rattle.spec_sim_cluster.specs.Clusters.{follower}
+use Rattle.spec_sim_cluster.specs.declared.initial_syncs.InitialSync.TheVariants as sync
+use Rattle.spec_sim_control_plane.specs.ControlPlanes.{ControlPlane, opened, run}
+use Rattle.spec_sim_control_plane.specs.StepLines.{step_asked, outcome_lines}
+use Rattle.spec_sim_control_plane.specs.Turns.{Turn, begun, looked, satisfied, with_sight}
 
 abbrev text : List (List ℕ) → List ℕ
 text ls = flat_map (λ l. l ++ 10 ∷ []) ls

@@ -1,25 +1,25 @@
 -- What workers ask of the server can be read of bytes.
 use Rattle.std.proofs.Common.{◌<◌, ◌^◌, ◌==◌, ℕ, List, [], ◌∷◌, ◌++◌, length, Bool, true, false, cond, Option, Some, None, IfSome, sym, subst, arith}
 use Rattle.std.specs.List.{AllByRecursion}
-use Rattle.definitions.specs.declared.kinds.Kind.{Kind}
-use Rattle.definitions.specs.declared.kinds.Kind.TheVariants.{ConfigMap, Pod, ReplicaSet, Deployment}
-use Rattle.definitions.specs.Kinds.{rank}
-use Rattle.definitions.specs.Reached.{IsParsed, CanBeRead}
-use Rattle.server_state.specs.Snapshots.{Snapshot}
-use Rattle.controllers.specs.declared.controller.Controller.{Controller}
-use Rattle.controllers.specs.declared.controller.Controller.TheVariants as controller
-use Rattle.controllers.specs.Commands.{Command, create, update, update_status, delete}
-use Rattle.controllers.specs.Hands.{Hand, Read}
-use Rattle.controllers.specs.WorkQueues.{WorkKey, handed}
-use Rattle.plan_laws.specs.AskedLaws.{AreStored, IsOfServer, CanBeAsked, AllCanBeAsked}
-use Rattle.plan_laws.proofs.AskedPlans.{plans_asked}
-use Rattle.reconciling.specs.Managers.{Client, Manager, Action, Acted, Delivery, delivered, answer_lost, dropped, take_key, carry_out, act, reaching, requested}
-use Rattle.reconciling.specs.NextSteps.{NextStep, look, ask_satisfied, read, expect, issue, finish, next}
-use Rattle.reconciling.specs.Turns.{Turn, Sight, looked, satisfied, hand, shown, commands, plan_by}
-use Rattle.reconciling_laws.specs.IssuedLaws.{IsSeen, commands_of}
-use Rattle.reconciling_laws.proofs.Acting.{by_act}
-use Rattle.reconciling_laws.proofs.Following.{Follows, AllFollow, at_place}
-use Rattle.reconciling_laws.proofs.Nexts.{Stands, to_look, to_ask, to_read, to_expect, to_issue, to_finish, stands}
+use Rattle.spec_api.specs.declared.kinds.Kind.{Kind}
+use Rattle.spec_api.specs.declared.kinds.Kind.TheVariants.{ConfigMap, Pod, ReplicaSet, Deployment}
+use Rattle.spec_api.specs.Kinds.{rank}
+use Rattle.spec_api.specs.Reached.{IsParsed, CanBeRead}
+use Rattle.spec_server.specs.Snapshots.{Snapshot}
+use Rattle.spec_client_go.specs.declared.controller.Controller.{Controller}
+use Rattle.spec_client_go.specs.declared.controller.Controller.TheVariants as controller
+use Rattle.spec_client_go.specs.Commands.{Command, create, update, update_status, delete}
+use Rattle.spec_client_go.specs.Hands.{Hand, Read}
+use Rattle.spec_client_go.specs.WorkQueues.{WorkKey, handed}
+use Rattle.reconcile_laws.specs.AskedLaws.{AreStored, IsOfServer, CanBeAsked, AllCanBeAsked}
+use Rattle.reconcile_laws.proofs.AskedPlans.{plans_asked}
+use Rattle.spec_sim_control_plane.specs.Managers.{Client, Manager, Action, Acted, Delivery, delivered, answer_lost, dropped, take_key, carry_out, act, reaching, requested}
+use Rattle.spec_sim_control_plane.specs.NextSteps.{NextStep, look, ask_satisfied, read, expect, issue, finish, next}
+use Rattle.spec_sim_control_plane.specs.Turns.{Turn, Sight, looked, satisfied, hand, shown, commands, plan_by}
+use Rattle.sim_worker_laws.specs.IssuedLaws.{IsSeen, commands_of}
+use Rattle.sim_worker_laws.proofs.Acting.{by_act}
+use Rattle.sim_worker_laws.proofs.Following.{Follows, AllFollow, at_place}
+use Rattle.sim_worker_laws.proofs.Nexts.{Stands, to_look, to_ask, to_read, to_expect, to_issue, to_finish, stands}
 
 -- ---- what was seen is as the server stores it
 

@@ -1,32 +1,32 @@
 -- Whatever steps are taken: the server's history is reached, each follower follows it, and workers look at what its lists were.
 use Rattle.std.proofs.Common.{◌≡◌, ℕ, List, [], ◌∷◌, ◌++◌, Option, Some, None, IfSome, refl, sym, ap, ◌∙◌, subst, arith, append_assoc}
 use Rattle.std.specs.List.{AllByRecursion}
-use Rattle.definitions.specs.declared.kinds.Kind.{Kind}
-use Rattle.definitions.specs.History.{History}
-use Rattle.definitions.specs.ObjectRequests.{Request}
-use Rattle.definitions.specs.Reached.{IsReached, IsTimestamp, CanBeRead, asks}
-use Rattle.definitions.specs.Verbs.{accept, history_after, write_of}
-use Rattle.laws.proofs.Runs.{Begins, nothing, begins-write}
-use Rattle.server_state.specs.Snapshots.{Snapshot}
-use Rattle.simulation.specs.declared.initial_syncs.InitialSync.{InitialSync}
-use Rattle.simulation.specs.Clusters.{Cluster, history, follower, with_follower, request, compact, moves, restart}
-use Rattle.simulation.specs.Followers.{Follower, Notification}
-use Rattle.simulation_laws.specs.ClusterLaws.{IsFollowed, ShowsServerLists}
-use Rattle.simulation_laws.specs.FollowerLaws.{IsFollowing}
-use Rattle.simulation_laws.proofs.Growing.{stand}
-use Rattle.simulation_laws.proofs.Runs.{keeps, opens, with_moved, with_session, same_session}
-use Rattle.reconciling.specs.ControlPlanes.{ControlPlane, Step, in_cluster, handle, works, tick, opened, client, after_request, handle_in, step_in, step, run}
-use Rattle.reconciling.specs.Managers.{Manager, Issued, act}
-use Rattle.reconciling.specs.Turns.{Sight, looked, satisfied}
-use Rattle.reconciling_laws.specs.IssuedLaws.{WasPublished, WasThere, IsSeen, IsNext}
-use Rattle.reconciling_laws.proofs.Counting.{by_counted, by_tick}
-use Rattle.reconciling_laws.proofs.Following.{AllFollow, act_follows, none_begun, none_restarted}
-use Rattle.reconciling_laws.proofs.Growing.{step_begins}
-use Rattle.reconciling_laws.proofs.IssuedRuns.{issued_next}
-use Rattle.reconciling_laws.proofs.Lists.{all_map}
-use Rattle.control_plane_laws.specs.PlaneLaws.{PlanesAreFollowed, InformersShowServerLists, IsServerList, LooksAreServerLists}
-use Rattle.control_plane_laws.proofs.Asking.{IsStoredLook, IsStoredRead, asks_readable}
-use Rattle.control_plane_laws.proofs.StoredLists.{listed_stored, listed_few, found_parsed}
+use Rattle.spec_api.specs.declared.kinds.Kind.{Kind}
+use Rattle.spec_api.specs.History.{History}
+use Rattle.spec_api.specs.ObjectRequests.{Request}
+use Rattle.spec_api.specs.Reached.{IsReached, IsTimestamp, CanBeRead, asks}
+use Rattle.spec_api.specs.Verbs.{accept, history_after, write_of}
+use Rattle.spec_laws.proofs.Runs.{Begins, nothing, begins-write}
+use Rattle.spec_server.specs.Snapshots.{Snapshot}
+use Rattle.spec_sim_cluster.specs.declared.initial_syncs.InitialSync.{InitialSync}
+use Rattle.spec_sim_cluster.specs.Clusters.{Cluster, history, follower, with_follower, request, compact, moves, restart}
+use Rattle.spec_sim_cluster.specs.Followers.{Follower, Notification}
+use Rattle.sim_cluster_laws.specs.ClusterLaws.{IsFollowed, ShowsServerLists}
+use Rattle.sim_cluster_laws.specs.FollowerLaws.{IsFollowing}
+use Rattle.sim_cluster_laws.proofs.Growing.{stand}
+use Rattle.sim_cluster_laws.proofs.Runs.{keeps, opens, with_moved, with_session, same_session}
+use Rattle.spec_sim_control_plane.specs.ControlPlanes.{ControlPlane, Step, in_cluster, handle, works, tick, opened, client, after_request, handle_in, step_in, step, run}
+use Rattle.spec_sim_control_plane.specs.Managers.{Manager, Issued, act}
+use Rattle.spec_sim_control_plane.specs.Turns.{Sight, looked, satisfied}
+use Rattle.sim_worker_laws.specs.IssuedLaws.{WasPublished, WasThere, IsSeen, IsNext}
+use Rattle.sim_worker_laws.proofs.Counting.{by_counted, by_tick}
+use Rattle.sim_worker_laws.proofs.Following.{AllFollow, act_follows, none_begun, none_restarted}
+use Rattle.sim_worker_laws.proofs.Growing.{step_begins}
+use Rattle.sim_worker_laws.proofs.IssuedRuns.{issued_next}
+use Rattle.sim_worker_laws.proofs.Lists.{all_map}
+use Rattle.sim_control_plane_laws.specs.PlaneLaws.{PlanesAreFollowed, InformersShowServerLists, IsServerList, LooksAreServerLists}
+use Rattle.sim_control_plane_laws.proofs.Asking.{IsStoredLook, IsStoredRead, asks_readable}
+use Rattle.sim_control_plane_laws.proofs.StoredLists.{listed_stored, listed_few, found_parsed}
 
 -- ---- the cluster after a step
 

@@ -1,16 +1,16 @@
 -- What a worker's request that names a version replaces.
 use Rattle.std.proofs.Common.{◌≡◌, Some, ap}
-use Rattle.definitions.specs.Replies.{outcome}
-use Rattle.definitions.specs.Verbs.{accept, history_after}
-use Rattle.line_protocol.specs.Lines.{reply_text}
-use Rattle.simulation.specs.Clusters.{history, request}
-use Rattle.simulation.specs.Moves.{replied}
-use Rattle.simulation_laws.proofs.Requests as clients
-use Rattle.simulation_laws.proofs.Requests.{replaces}
-use Rattle.reconciling.specs.ControlPlanes.{after_request, step_in, in_cluster, works}
-use Rattle.reconciling.specs.Outcomes.{of_cluster}
-use Rattle.reconciling_laws.proofs.Counting.{by_counted}
-use Rattle.control_plane_laws.specs.PlaneLaws.{NamedVersionsAreReplaced, IssuedVersionsAreReplaced}
+use Rattle.spec_api.specs.Replies.{outcome}
+use Rattle.spec_api.specs.Verbs.{accept, history_after}
+use Rattle.spec_line_protocol.specs.Lines.{reply_text}
+use Rattle.spec_sim_cluster.specs.Clusters.{history, request}
+use Rattle.spec_sim_cluster.specs.Moves.{replied}
+use Rattle.sim_cluster_laws.proofs.Requests as clients
+use Rattle.sim_cluster_laws.proofs.Requests.{replaces}
+use Rattle.spec_sim_control_plane.specs.ControlPlanes.{after_request, step_in, in_cluster, works}
+use Rattle.spec_sim_control_plane.specs.Outcomes.{of_cluster}
+use Rattle.sim_worker_laws.proofs.Counting.{by_counted}
+use Rattle.sim_control_plane_laws.specs.PlaneLaws.{NamedVersionsAreReplaced, IssuedVersionsAreReplaced}
 
 pub replaced : IssuedVersionsAreReplaced
 replaced p w a q k named is names = (

@@ -1,19 +1,19 @@
 -- Between two restarts the revisions that are published never fall.
 use Rattle.std.proofs.Common.{◌≤◌, ℕ, List, [], ◌∷◌, Option, Some, None, arith}
-use Rattle.definitions.specs.declared.kinds.Kind.{Kind}
-use Rattle.definitions.specs.ObjectRequests.{Request}
-use Rattle.definitions.specs.Verbs.{accept, history_after}
-use Rattle.simulation.specs.Clusters.{Cluster, history, follower, request, compact, moves, restart}
-use Rattle.simulation.specs.Followers.{Follower, Notification}
-use Rattle.simulation_laws.specs.ClusterLaws.{IsFollowed}
-use Rattle.simulation_laws.proofs.Runs.{rise_all, with_moved, with_session}
-use Rattle.reconciling.specs.ControlPlanes.{ControlPlane, Step, in_cluster, handle, works, tick, opened, client, after_request, handle_in, step_in, step, run}
-use Rattle.reconciling.specs.Managers.{act}
-use Rattle.reconciling_laws.specs.OwedLaws.{NoRestart}
-use Rattle.reconciling_laws.proofs.Counting.{by_counted, by_tick}
-use Rattle.reconciling_laws.proofs.Owed.{first_of_none}
-use Rattle.control_plane_laws.specs.PlaneLaws.{PublishedRevisionsRise}
-use Rattle.control_plane_laws.proofs.PlaneRuns.{Well, well_step, all_well}
+use Rattle.spec_api.specs.declared.kinds.Kind.{Kind}
+use Rattle.spec_api.specs.ObjectRequests.{Request}
+use Rattle.spec_api.specs.Verbs.{accept, history_after}
+use Rattle.spec_sim_cluster.specs.Clusters.{Cluster, history, follower, request, compact, moves, restart}
+use Rattle.spec_sim_cluster.specs.Followers.{Follower, Notification}
+use Rattle.sim_cluster_laws.specs.ClusterLaws.{IsFollowed}
+use Rattle.sim_cluster_laws.proofs.Runs.{rise_all, with_moved, with_session}
+use Rattle.spec_sim_control_plane.specs.ControlPlanes.{ControlPlane, Step, in_cluster, handle, works, tick, opened, client, after_request, handle_in, step_in, step, run}
+use Rattle.spec_sim_control_plane.specs.Managers.{act}
+use Rattle.sim_worker_laws.specs.OwedLaws.{NoRestart}
+use Rattle.sim_worker_laws.proofs.Counting.{by_counted, by_tick}
+use Rattle.sim_worker_laws.proofs.Owed.{first_of_none}
+use Rattle.sim_control_plane_laws.specs.PlaneLaws.{PublishedRevisionsRise}
+use Rattle.sim_control_plane_laws.proofs.PlaneRuns.{Well, well_step, all_well}
 
 abbrev at : Kind → Cluster → ℕ
 at k c = (follower k c).informer.published.revision

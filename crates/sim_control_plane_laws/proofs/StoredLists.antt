@@ -4,17 +4,17 @@ use Rattle.std.specs.BTreeMap.{insert_entry, is_at}
 use Rattle.std.specs.Map.{remove_entry}
 use Rattle.std.specs.Ordering.{match_ordering}
 use Rattle.serde_json.specs.Data.{Data}
-use Rattle.definitions.specs.declared.kinds.Kind.{Kind}
-use Rattle.definitions.specs.History.{History, Write, Entries, writes, present, state, up_to, after_all, put_or_remove, entries_at, in_view, list}
-use Rattle.definitions.specs.Keys.{Key, key_cmp}
-use Rattle.definitions.specs.Reached.{IsReached, IsParsed}
-use Rattle.laws.specs.SentLaws.{whole}
-use Rattle.laws.proofs.EachWrite.{AllPut, listed_put}
-use Rattle.laws.proofs.Limited.{limited}
-use Rattle.laws.proofs.ParsedEdits.{IsParsedAt, all_put, stored_parsed}
-use Rattle.laws.proofs.ValidNames.{IsValidAt, all_valid}
-use Rattle.plan_laws.specs.AskedLaws.{IsStoredAs, AreStored}
-use Rattle.plan_laws.proofs.AskedReplicaSets.{fewer}
+use Rattle.spec_api.specs.declared.kinds.Kind.{Kind}
+use Rattle.spec_api.specs.History.{History, Write, Entries, writes, present, state, up_to, after_all, put_or_remove, entries_at, in_view, list}
+use Rattle.spec_api.specs.Keys.{Key, key_cmp}
+use Rattle.spec_api.specs.Reached.{IsReached, IsParsed}
+use Rattle.spec_laws.specs.SentLaws.{whole}
+use Rattle.spec_laws.proofs.EachWrite.{AllPut, listed_put}
+use Rattle.spec_laws.proofs.Limited.{limited}
+use Rattle.spec_laws.proofs.ParsedEdits.{IsParsedAt, all_put, stored_parsed}
+use Rattle.spec_laws.proofs.ValidNames.{IsValidAt, all_valid}
+use Rattle.reconcile_laws.specs.AskedLaws.{IsStoredAs, AreStored}
+use Rattle.reconcile_laws.proofs.AskedReplicaSets.{fewer}
 
 -- ---- what is written
 

@@ -1,25 +1,25 @@
 -- Whatever steps are taken by clients, controllers, reflectors and workers, with cut streams, compactions and restarts: what informers have published, what workers looked at, and what conditional writes replaced.
 use Rattle.std.specs.Prelude.{◌≡◌, ◌≤◌, ℕ, List, Some}
 use Rattle.std.specs.List.{AllByRecursion}
-use Rattle.definitions.specs.declared.kinds.Kind.{Kind}
-use Rattle.definitions.specs.History.{History, present, list}
-use Rattle.definitions.specs.Keys.{Key}
-use Rattle.definitions.specs.ObjectRequests.{Request}
-use Rattle.definitions.specs.Replies.{outcome}
-use Rattle.definitions.specs.Verbs.{accept, history_after}
-use Rattle.line_protocol.specs.Lines.{reply_text}
-use Rattle.laws.specs.LifecycleLaws.{ReplacesVersion}
-use Rattle.laws.specs.SentLaws.{whole}
-use Rattle.server_state.specs.Snapshots.{Snapshot}
-use Rattle.simulation.specs.declared.initial_syncs.InitialSync.{InitialSync}
-use Rattle.simulation.specs.Clusters.{history, follower, request}
-use Rattle.simulation.specs.Moves.{replied}
-use Rattle.simulation_laws.specs.ClusterLaws.{IsFollowed, ShowsServerLists, Asks, NamesVersion}
-use Rattle.reconciling.specs.ControlPlanes.{ControlPlane, Step, in_cluster, works, opened, client, step, run}
-use Rattle.reconciling.specs.Managers.{Issued, Action, act}
-use Rattle.reconciling.specs.Outcomes.{of_cluster}
-use Rattle.reconciling_laws.specs.IssuedLaws.{IsSeen}
-use Rattle.reconciling_laws.specs.OwedLaws.{NoRestart}
+use Rattle.spec_api.specs.declared.kinds.Kind.{Kind}
+use Rattle.spec_api.specs.History.{History, present, list}
+use Rattle.spec_api.specs.Keys.{Key}
+use Rattle.spec_api.specs.ObjectRequests.{Request}
+use Rattle.spec_api.specs.Replies.{outcome}
+use Rattle.spec_api.specs.Verbs.{accept, history_after}
+use Rattle.spec_line_protocol.specs.Lines.{reply_text}
+use Rattle.spec_laws.specs.LifecycleLaws.{ReplacesVersion}
+use Rattle.spec_laws.specs.SentLaws.{whole}
+use Rattle.spec_server.specs.Snapshots.{Snapshot}
+use Rattle.spec_sim_cluster.specs.declared.initial_syncs.InitialSync.{InitialSync}
+use Rattle.spec_sim_cluster.specs.Clusters.{history, follower, request}
+use Rattle.spec_sim_cluster.specs.Moves.{replied}
+use Rattle.sim_cluster_laws.specs.ClusterLaws.{IsFollowed, ShowsServerLists, Asks, NamesVersion}
+use Rattle.spec_sim_control_plane.specs.ControlPlanes.{ControlPlane, Step, in_cluster, works, opened, client, step, run}
+use Rattle.spec_sim_control_plane.specs.Managers.{Issued, Action, act}
+use Rattle.spec_sim_control_plane.specs.Outcomes.{of_cluster}
+use Rattle.sim_worker_laws.specs.IssuedLaws.{IsSeen}
+use Rattle.sim_worker_laws.specs.OwedLaws.{NoRestart}
 
 -- what has happened at the server can happen, and each follower follows it
 abbrev pub PlanesAreFollowed : Type 0

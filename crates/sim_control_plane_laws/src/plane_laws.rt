@@ -1,5 +1,5 @@
 //! Laws of a control plane.
-ghost use Rattle.control_plane_laws.specs.PlaneLaws.{PlanesAreFollowed, InformersShowServerLists, PublishedRevisionsRise, LooksAreServerLists, NamedVersionsAreReplaced, IssuedVersionsAreReplaced};
+ghost use Rattle.sim_control_plane_laws.specs.PlaneLaws.{PlanesAreFollowed, InformersShowServerLists, PublishedRevisionsRise, LooksAreServerLists, NamedVersionsAreReplaced, IssuedVersionsAreReplaced};
 
 /// Over every list of steps, what has happened at the server can happen, and each follower follows it.
 pub fn planes_are_followed()

@@ -1,9 +1,9 @@
 -- The lines of initial events that a server gives are those with which a stream begins.
 use Rattle.std.proofs.Common.{◌≡◌, ℕ, [], ◌∷◌, true, refl, ap}
-use Rattle.definitions.specs.History.{Entries}
-use Rattle.definitions.specs.Streams.{initial}
-use Rattle.definitions.specs.WatchReplies.{added_events, opening_lines}
-use Rattle.links.specs.Openings.{initial_lines}
+use Rattle.spec_api.specs.History.{Entries}
+use Rattle.spec_api.specs.Streams.{initial}
+use Rattle.spec_api.specs.WatchReplies.{added_events, opening_lines}
+use Rattle.sim_links.specs.Openings.{initial_lines}
 
 pub opening_is : (r : ℕ) (ms : Entries) → initial_lines (added_events r ms) r ≡ opening_lines true r ms
 opening_is r [] = refl

@@ -1,13 +1,13 @@
 -- What a server answers who follows it.
 use Rattle.std.specs.Prelude.{◌≡◌, Some, None}
-use Rattle.definitions.specs.declared.kinds.Kind.{Kind}
-use Rattle.definitions.specs.History.{unfiltered}
-use Rattle.definitions.specs.Verbs.{Outcome, answered, refused}
-use Rattle.definitions.specs.Texts.Values.{compact_text}
-use Rattle.definitions.specs.declared.versions.At.TheVariants.{Present}
-use Rattle.controllers.specs.Reflectors.{list_of}
-use Rattle.server_state.specs.Servers.{Server, list_served}
-use Rattle.simulation.specs.Moves.{answers_by, listed_of}
+use Rattle.spec_api.specs.declared.kinds.Kind.{Kind}
+use Rattle.spec_api.specs.History.{unfiltered}
+use Rattle.spec_api.specs.Verbs.{Outcome, answered, refused}
+use Rattle.spec_api.specs.Texts.Values.{compact_text}
+use Rattle.spec_api.specs.declared.versions.At.TheVariants.{Present}
+use Rattle.spec_client_go.specs.Reflectors.{list_of}
+use Rattle.spec_server.specs.Servers.{Server, list_served}
+use Rattle.spec_sim_cluster.specs.Moves.{answers_by, listed_of}
 
 -- a body that is read as the present list of the kind
 abbrev pub IsListBody : Kind → Server → Outcome → Type 0

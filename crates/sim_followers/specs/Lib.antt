@@ -1,4 +1,4 @@
 pub mod Answered
 pub mod Listed
-pub use Rattle.notifications.specs.Notified
+pub use Rattle.sim_notifications.specs.Notified
 pub mod Outcomes

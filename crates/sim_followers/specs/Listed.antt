@@ -1,6 +1,6 @@
 -- How many objects a list has that is taken in.
 use Rattle.std.specs.Prelude.{ℕ, length}
-use Rattle.controllers.specs.Reflectors.{Delta, replace, put, remove, mark}
+use Rattle.spec_client_go.specs.Reflectors.{Delta, replace, put, remove, mark}
 
 abbrev pub listed_count : Delta → ℕ
 listed_count (replace r os) = length os

@@ -1,7 +1,7 @@
 -- Outcomes as code has them.
-use Rattle.simulation.specs.Moves as moves
-use Rattle.followers.specs.declared.outcomes.ClusterOutcome.{ClusterOutcome}
-use Rattle.followers.specs.declared.outcomes.ClusterOutcome.TheVariants as code
+use Rattle.spec_sim_cluster.specs.Moves as moves
+use Rattle.sim_followers.specs.declared.outcomes.ClusterOutcome.{ClusterOutcome}
+use Rattle.sim_followers.specs.declared.outcomes.ClusterOutcome.TheVariants as code
 
 abbrev pub outcome_of : ClusterOutcome → moves.Outcome
 outcome_of (code.Replied text) = moves.replied text.items

@@ -1,31 +1,31 @@
 //! What follows one kind.
 ghost use Rattle.std.specs.Prelude.{◌≡◌};
 ghost use Rattle.reflector.specs.Deltas.{delta_of};
-ghost use Rattle.followers.specs.Listed.{listed_count};
+ghost use Rattle.sim_followers.specs.Listed.{listed_count};
 
 use crate::beginnings::{begun, streaming};
 use crate::outcomes::ClusterOutcome;
-use controllers::reflectors::Ask;
-use definitions::versions::At;
-use desk::Server;
 use indexer::Indexed;
-use keys::Fault;
-use links::Link;
 use meta::Kind;
-use notifications::{Notification, apply_all};
+use object_keys::Fault;
 use reflector::{Delta, Fed, Reflector};
-use revisions::Watched;
+use revisions::WatchedEvents;
 use selector::View;
-use simulation::initial_syncs::InitialSync;
+use server::Server;
+use sim_links::Link;
+use sim_notifications::{Notification, apply_all};
+use sim_steps::Move;
+use spec_api::versions::At;
+use spec_client_go::reflectors::Ask;
+use spec_sim_cluster::initial_syncs::InitialSync;
 use std::alloc::{AllocError, Global};
 use std::collections::VecDeque;
 use std::marker::Model;
-use steps::Move;
 
 /// A link, where a watch is open; a reflector; what is published, and the deltas that wait to be; the published changes that are
 /// still to be handled, the oldest first; and whether the first list was published.
 #[derive(Drop)]
-pub struct Follower {
+pub struct SimulatedFollower {
     kind: Kind,
     link: Option<Link>,
     reflector: Reflector,
@@ -35,12 +35,12 @@ pub struct Follower {
     has_listed: bool,
 }
 
-impl Model for Follower {
+impl Model for SimulatedFollower {
     ghost use Rattle.std.specs.Prelude.{◌≡◌, map};
     ghost use Rattle.reflector.specs.Deltas.{deltas_of};
-    ghost use Rattle.simulation.specs.Followers as followers;
-    ghost use Rattle.simulation.specs.Codes.{coded_follower};
-    ghost use Rattle.notifications.specs.Notified.{notification_of};
+    ghost use Rattle.spec_sim_cluster.specs.Followers as followers;
+    ghost use Rattle.spec_sim_cluster.specs.Codes.{coded_follower};
+    ghost use Rattle.sim_notifications.specs.Notified.{notification_of};
 
     ghost Value = { followers.Follower };
 
@@ -57,23 +57,23 @@ impl Model for Follower {
     ghost invariant = { λ f. f.reflector.kind ≡ f.kind };
 }
 
-impl Follower {
+impl SimulatedFollower {
     ghost use Rattle.std.specs.Prelude.{◌≡◌, OnOk, OnErr, IfOk, Ok, Some, None, drop, length, option_map, slice_get};
-    ghost use Rattle.controllers.specs.Reflectors.{list_of};
-    ghost use Rattle.simulation.specs.Followers.{begun};
-    ghost use Rattle.simulation.specs.Moves.{Answers, answers_by, listed_of, list_in, watch_in, stream_in, send_on, bookmark_on, deliver_on, deliver_all_on, cut_on, publish_by, move_by};
-    ghost use Rattle.definitions.specs.History.{unfiltered};
+    ghost use Rattle.spec_client_go.specs.Reflectors.{list_of};
+    ghost use Rattle.spec_sim_cluster.specs.Followers.{begun};
+    ghost use Rattle.spec_sim_cluster.specs.Moves.{Answers, answers_by, listed_of, list_in, watch_in, stream_in, send_on, bookmark_on, deliver_on, deliver_all_on, cut_on, publish_by, move_by};
+    ghost use Rattle.spec_api.specs.History.{unfiltered};
     ghost use Rattle.selector.specs.Views.{view_of};
-    ghost use Rattle.followers.specs.Answered.{AnswersLists};
-    ghost use Rattle.notifications.specs.Notified.{notification_of};
-    ghost use Rattle.followers.specs.Outcomes.{outcome_of};
-    ghost use Rattle.steps.specs.Steps.{move_of};
+    ghost use Rattle.sim_followers.specs.Answered.{AnswersLists};
+    ghost use Rattle.sim_notifications.specs.Notified.{notification_of};
+    ghost use Rattle.sim_followers.specs.Outcomes.{outcome_of};
+    ghost use Rattle.sim_steps.specs.Steps.{move_of};
 
     /// Returns what follows a kind and has seen nothing yet, and begins so.
-    pub fn new(alloc: Global, kind: Kind, initial: InitialSync) -> Follower
+    pub fn new(alloc: Global, kind: Kind, initial: InitialSync) -> SimulatedFollower
         ensures { result ≡ begun initial kind }
     {
-        Follower {
+        SimulatedFollower {
             kind,
             link: None,
             reflector: begun(alloc, kind, initial),
@@ -226,7 +226,7 @@ impl Follower {
             return Ok(ClusterOutcome::Sent(kind, count));
         }
         match server.watch_from(alloc, &view, link.stands(), most) {
-            Ok(Watched { events, stands }) => {
+            Ok(WatchedEvents { events, stands }) => {
                 link.write_changes(alloc, kind, events.as_slice(), stands)?;
                 Ok(ClusterOutcome::Sent(kind, events.len() as u64))
             }

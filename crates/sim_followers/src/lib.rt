@@ -8,7 +8,7 @@ mod beginnings;
 pub mod followers;
 pub mod outcomes;
 
-pub use followers::Follower;
-pub use links::Link;
-pub use notifications::Notification;
+pub use followers::SimulatedFollower;
 pub use outcomes::ClusterOutcome;
+pub use sim_links::Link;
+pub use sim_notifications::Notification;

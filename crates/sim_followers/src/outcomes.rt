@@ -1,6 +1,6 @@
 //! What is told of a step.
-use controllers::reflectors::End;
 use meta::Kind;
+use spec_client_go::reflectors::End;
 
 /// What is told of a step.
 #[derive(Drop)]

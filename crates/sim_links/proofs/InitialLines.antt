@@ -1,11 +1,11 @@
 -- The next initial lines, and those after them.
 use Rattle.std.proofs.Common.{◌≡◌, ◌≤◌, ◌<◌, ◌+◌, ℕ, zero, suc, List, [], ◌∷◌, ◌++◌, length, map, take, drop, Bool, true, false, refl, sym, ap, ◌∙◌, arith, append_assoc, append-nil}
 use Rattle.std.proofs.lemmas.List.{take-map, drop-map, drop-drop, length-map, length-drop}
-use Rattle.definitions.specs.declared.kinds.Kind.{Kind}
-use Rattle.definitions.specs.Events.{Event}
-use Rattle.definitions.specs.Frames.{frame_text, bookmark_frame}
-use Rattle.definitions.specs.Streams.{Line, initial_end, frame_of, text_of_lines}
-use Rattle.links.specs.Openings.{initial_line, initial_lines, lines_left, added_text}
+use Rattle.spec_api.specs.declared.kinds.Kind.{Kind}
+use Rattle.spec_api.specs.Events.{Event}
+use Rattle.spec_api.specs.Frames.{frame_text, bookmark_frame}
+use Rattle.spec_api.specs.Streams.{Line, initial_end, frame_of, text_of_lines}
+use Rattle.sim_links.specs.Openings.{initial_line, initial_lines, lines_left, added_text}
 
 -- ---- objects alone
 

@@ -1,9 +1,9 @@
 -- Initial lines as code has them: events of what is there, and the bookmark after them.
 use Rattle.std.specs.Prelude.{ℕ, List, [], ◌∷◌, ◌++◌, map, flat_map, Bool, true, false}
-use Rattle.definitions.specs.declared.frames.FrameKind.TheVariants.{Added}
-use Rattle.definitions.specs.Events.{Event}
-use Rattle.definitions.specs.Frames.{frame_text}
-use Rattle.definitions.specs.Streams.{Line, initial, initial_end}
+use Rattle.spec_api.specs.declared.frames.FrameKind.TheVariants.{Added}
+use Rattle.spec_api.specs.Events.{Event}
+use Rattle.spec_api.specs.Frames.{frame_text}
+use Rattle.spec_api.specs.Streams.{Line, initial, initial_end}
 
 -- the line of an object that is there
 abbrev pub initial_line : Event → Line

@@ -5,4 +5,4 @@ pub mod links;
 pub mod openings;
 
 pub use links::Link;
-pub use openings::Opening;
+pub use openings::InitialBacklog;

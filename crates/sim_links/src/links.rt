@@ -1,16 +1,16 @@
 //! Links.
 ghost use Rattle.std.specs.Prelude.{◌≡◌, ◌++◌, ◌≤◌, nat_lt, drop, take, length, ◌∷◌, [], IfOk, OnOk, OnErr, map, string_bytes, false};
-ghost use Rattle.definitions.specs.Frames.{frame_text, error_frame, bookmark_frame};
-ghost use Rattle.definitions.specs.Streams.{bookmark, event as change, text_of_lines};
-ghost use Rattle.keys.specs.Faults.{refusal_of};
+ghost use Rattle.spec_api.specs.Frames.{frame_text, error_frame, bookmark_frame};
+ghost use Rattle.spec_api.specs.Streams.{bookmark, event as change, text_of_lines};
+ghost use Rattle.object_keys.specs.Faults.{refusal_of};
 ghost use Rattle.revisions.specs.Events.{event_seen};
-ghost use Rattle.simulation.specs.Followers.{opened_at};
-ghost use Rattle.simulation.specs.Moves.{after_lines, after_initial, after_refusal};
-ghost use Rattle.links.specs.Openings.{initial_lines};
+ghost use Rattle.spec_sim_cluster.specs.Followers.{opened_at};
+ghost use Rattle.spec_sim_cluster.specs.Moves.{after_lines, after_initial, after_refusal};
+ghost use Rattle.sim_links.specs.Openings.{initial_lines};
 
-use crate::openings::Opening;
-use keys::Fault;
+use crate::openings::InitialBacklog;
 use meta::Kind;
+use object_keys::Fault;
 use revisions::Event;
 use std::alloc::{AllocError, Global};
 use std::marker::Model;
@@ -20,7 +20,7 @@ use std::marker::Model;
 #[derive(Drop)]
 pub struct Link {
     stands: u64,
-    opening: Opening,
+    opening: InitialBacklog,
     written: Vec<u8>,
     read: usize,
     is_refused: bool,
@@ -28,8 +28,8 @@ pub struct Link {
 
 impl Model for Link {
     ghost use Rattle.std.specs.Prelude.{◌≤◌, drop, length};
-    ghost use Rattle.simulation.specs.Followers as followers;
-    ghost use Rattle.simulation.specs.Codes.{coded_link};
+    ghost use Rattle.spec_sim_cluster.specs.Followers as followers;
+    ghost use Rattle.spec_sim_cluster.specs.Codes.{coded_link};
 
     ghost Value = { followers.Link };
 
@@ -52,7 +52,7 @@ impl Link {
     {
         Link {
             stands: revision,
-            opening: Opening::none(alloc),
+            opening: InitialBacklog::none(alloc),
             written: Vec::new(alloc),
             read: 0,
             is_refused: false,
@@ -71,7 +71,7 @@ impl Link {
     {
         Link {
             stands: revision,
-            opening: Opening::of(events, revision),
+            opening: InitialBacklog::of(events, revision),
             written: Vec::new(alloc),
             read: 0,
             is_refused: false,

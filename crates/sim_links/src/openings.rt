@@ -1,9 +1,9 @@
 //! The lines with which a watch begins.
 ghost use Rattle.std.specs.Prelude.{◌≡◌, ◌++◌, drop, take, length, [], true, IfOk, map, string_bytes};
-ghost use Rattle.definitions.specs.Frames.{frame_text, bookmark_frame};
-ghost use Rattle.definitions.specs.Streams.{text_of_lines};
+ghost use Rattle.spec_api.specs.Frames.{frame_text, bookmark_frame};
+ghost use Rattle.spec_api.specs.Streams.{text_of_lines};
 ghost use Rattle.revisions.specs.Events.{event_seen};
-ghost use Rattle.links.specs.Openings.{initial_lines, added_text};
+ghost use Rattle.sim_links.specs.Openings.{initial_lines, added_text};
 
 use meta::Kind;
 use revisions::Event;
@@ -12,20 +12,20 @@ use std::marker::Model;
 
 /// The initial lines of a watch that are still to be written: objects that are there, and the bookmark that closes them.
 #[derive(Drop)]
-pub struct Opening {
+pub struct InitialBacklog {
     events: Vec<Event>,
     written: usize,
     revision: u64,
     is_closed: bool,
 }
 
-impl Model for Opening {
+impl Model for InitialBacklog {
     ghost use Rattle.std.specs.Prelude.{◌≤◌, List, drop, length, map};
     ghost use Rattle.std.specs.Coded.{coded_list};
-    ghost use Rattle.definitions.specs.Streams.{Line};
-    ghost use Rattle.links.specs.Openings.{lines_left};
+    ghost use Rattle.spec_api.specs.Streams.{Line};
+    ghost use Rattle.sim_links.specs.Openings.{lines_left};
     ghost use Rattle.revisions.specs.Events.{event_seen};
-    ghost use Rattle.simulation.specs.LineCodes.{coded_line};
+    ghost use Rattle.spec_sim_cluster.specs.LineCodes.{coded_line};
 
     ghost Value = { List Line };
 
@@ -36,12 +36,12 @@ impl Model for Opening {
     ghost invariant = { λ o. o.written ≤ length o.events.items };
 }
 
-impl Opening {
+impl InitialBacklog {
     /// Returns no lines.
-    pub fn none(alloc: Global) -> Opening
+    pub fn none(alloc: Global) -> InitialBacklog
         ensures { result ≡ [] }
     {
-        Opening {
+        InitialBacklog {
             events: Vec::new(alloc),
             written: 0,
             revision: 0,
@@ -50,10 +50,10 @@ impl Opening {
     }
 
     /// Returns a line for each of these objects, and the bookmark that closes them, at a revision.
-    pub fn of(events: Vec<Event>, revision: u64) -> Opening
+    pub fn of(events: Vec<Event>, revision: u64) -> InitialBacklog
         ensures { result ≡ initial_lines (map event_seen events.items) revision }
     {
-        Opening {
+        InitialBacklog {
             events,
             written: 0,
             revision,

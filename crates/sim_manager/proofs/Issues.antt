@@ -2,23 +2,23 @@
 use Rattle.std.proofs.Common.{◌≡◌, ◌<◌, refl, sym, ap, subst, ◌∙◌, ℕ, [], ◌∷◌, ◌++◌, Option, Some, None, option_map, length, IfSome, Result, Ok, Err, OnOk, IfOk}
 use Rattle.std.specs.Prelude.{slice_get, slice_set, if◌then◌else◌}
 use Rattle.std.proofs.lemmas.Option.{slice_get_within}
-use Rattle.controllers.specs.Commands.{Command}
-use Rattle.cluster.specs.ClusterStates.{ClusterState}
-use Rattle.cluster.specs.Requested.{IsWriteOf, written}
-use Rattle.definitions.specs.History.{Write}
-use Rattle.definitions.specs.ObjectRequests.{Request}
-use Rattle.definitions.specs.Verbs.{write_of}
-use Rattle.definitions.specs.Reached.{CanBeRead}
-use Rattle.reconciling.specs.Managers.{Client, Manager, Delivery, Acted, act, act_in, carry_out, closed, issue, issue_command, is_for}
-use Rattle.reconciling.specs.NextSteps as steps
-use Rattle.reconciling.specs.NextSteps.{NextStep, next}
-use Rattle.reconciling.specs.Outcomes.{Outcome}
-use Rattle.reconciling.specs.Turns.{Turn}
-use Rattle.session.specs.SessionStates.{SessionState, accepted}
-use Rattle.workers.specs.Seen.{command_issued}
-use Rattle.managers.specs.Issuing.{Coming, coming}
-use Rattle.managers.specs.Reached.{client_of, after_request, write_reaching}
-use Rattle.worker_slots.specs.Slots.{Slots, in_slot, turn_of}
+use Rattle.spec_client_go.specs.Commands.{Command}
+use Rattle.sim_cluster.specs.ClusterStates.{ClusterState}
+use Rattle.sim_cluster.specs.Requested.{IsWriteOf, written}
+use Rattle.spec_api.specs.History.{Write}
+use Rattle.spec_api.specs.ObjectRequests.{Request}
+use Rattle.spec_api.specs.Verbs.{write_of}
+use Rattle.spec_api.specs.Reached.{CanBeRead}
+use Rattle.spec_sim_control_plane.specs.Managers.{Client, Manager, Delivery, Acted, act, act_in, carry_out, closed, issue, issue_command, is_for}
+use Rattle.spec_sim_control_plane.specs.NextSteps as steps
+use Rattle.spec_sim_control_plane.specs.NextSteps.{NextStep, next}
+use Rattle.spec_sim_control_plane.specs.Outcomes.{Outcome}
+use Rattle.spec_sim_control_plane.specs.Turns.{Turn}
+use Rattle.line_session.specs.SessionStates.{SessionState, accepted}
+use Rattle.reconcile_turn.specs.Seen.{command_issued}
+use Rattle.sim_manager.specs.Issuing.{Coming, coming}
+use Rattle.sim_manager.specs.Reached.{client_of, after_request, write_reaching}
+use Rattle.sim_worker_slots.specs.Slots.{Slots, in_slot, turn_of}
 
 -- ---- a turn in its slot
 

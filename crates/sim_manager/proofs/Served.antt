@@ -1,17 +1,17 @@
 -- What a worker learns of its command.
 use Rattle.std.proofs.Common.{◌≡◌, ℕ, List, Option, Ok, refl, option_map}
 use Rattle.std.specs.Prelude.{string_bytes}
-use Rattle.answer_laws.specs.AnswerLaws.{IsOfObject}
-use Rattle.answers.specs.Serves.{Serves}
-use Rattle.cluster.specs.Requested.{IsRead}
-use Rattle.controllers.specs.Commands.{Command, create, update, update_status, delete, request_of}
-use Rattle.definitions.specs.Verbs.{Outcome, answered, refused, write_of}
+use Rattle.reply_laws.specs.AnswerLaws.{IsOfObject}
+use Rattle.verb_parts.specs.Serves.{Serves}
+use Rattle.sim_cluster.specs.Requested.{IsRead}
+use Rattle.spec_client_go.specs.Commands.{Command, create, update, update_status, delete, request_of}
+use Rattle.spec_api.specs.Verbs.{Outcome, answered, refused, write_of}
 use Rattle.meta.specs.Writes as writes
 use Rattle.meta.specs.declared.writes.Write.{Write}
-use Rattle.reconciling.specs.Managers.{answer_of}
-use Rattle.reconciling.specs.Turns.{accepted}
+use Rattle.spec_sim_control_plane.specs.Managers.{answer_of}
+use Rattle.spec_sim_control_plane.specs.Turns.{accepted}
 use Rattle.reply.specs.declared.reply.Reply.{Reply}
-use Rattle.workers.specs.Seen.{data_of}
+use Rattle.reconcile_turn.specs.Seen.{data_of}
 
 -- the reply to a command that is accepted is read as the answer
 pub acceptance_of : (o : Outcome) (r : Reply) (w : Option Write) → IsRead o → Serves o (Ok (r, w)) → accepted r.code (data_of (string_bytes r.text)) ≡ answer_of o

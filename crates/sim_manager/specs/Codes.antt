@@ -1,12 +1,12 @@
 -- A code by which a model may store a manager.
 use Rattle.std.specs.Prelude.{List, refl}
 use Rattle.std.specs.Coded.{Coded, code_by, coded×, coded_list}
-use Rattle.control.specs.Boards.{Board}
-use Rattle.control_desk.specs.Seen.{board_code}
-use Rattle.reconciling.specs.Codes.{coded_issued}
-use Rattle.reconciling.specs.Managers.{Issued, Manager}
-use Rattle.worker_slots.specs.Codes.{coded_slots}
-use Rattle.worker_slots.specs.Slots.{Slots}
+use Rattle.spec_work_board.specs.Boards.{Board}
+use Rattle.work_board.specs.Seen.{board_code}
+use Rattle.spec_sim_control_plane.specs.Codes.{coded_issued}
+use Rattle.spec_sim_control_plane.specs.Managers.{Issued, Manager}
+use Rattle.sim_worker_slots.specs.Codes.{coded_slots}
+use Rattle.sim_worker_slots.specs.Slots.{Slots}
 
 abbrev pub coded_manager : Coded Manager
 coded_manager =

@@ -1,17 +1,17 @@
 -- What comes of the command that a turn issues next.
 use Rattle.std.specs.Prelude.{ℕ, Option, option_map}
 use Rattle.std.specs.Arc.{arc_value}
-use Rattle.definitions.specs.History.{Write}
-use Rattle.controllers.specs.Commands.{Command}
+use Rattle.spec_api.specs.History.{Write}
+use Rattle.spec_client_go.specs.Commands.{Command}
 use Rattle.meta.specs.Writes.{write_of}
-use Rattle.reconciling.specs.Managers.{Delivery, Issued, learnt, reaching, requested}
-use Rattle.reconciling.specs.Outcomes as outcomes
-use Rattle.reconciling.specs.Turns.{Turn, with_issue}
-use Rattle.session.specs.SessionStates.{SessionState, accepted}
-use Rattle.managers.specs.Outcomes.{outcome_of}
-use Rattle.managers.specs.Reached.{write_reaching}
-use Rattle.worker_slots.specs.Seen.{issued_of}
-use Rattle.managers.specs.declared.issuing.Issuing.{Issuing}
+use Rattle.spec_sim_control_plane.specs.Managers.{Delivery, Issued, learnt, reaching, requested}
+use Rattle.spec_sim_control_plane.specs.Outcomes as outcomes
+use Rattle.spec_sim_control_plane.specs.Turns.{Turn, with_issue}
+use Rattle.line_session.specs.SessionStates.{SessionState, accepted}
+use Rattle.sim_manager.specs.Outcomes.{outcome_of}
+use Rattle.sim_manager.specs.Reached.{write_reaching}
+use Rattle.sim_worker_slots.specs.Seen.{issued_of}
+use Rattle.sim_manager.specs.declared.issuing.Issuing.{Issuing}
 
 -- the turn after it, what is recorded of it, what the server writes, if it writes anything, and what is told of it
 pub record Coming : Type 0 where

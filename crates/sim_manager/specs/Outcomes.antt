@@ -1,13 +1,13 @@
 -- What comes of what workers do, as the definitions have it.
 use Rattle.std.specs.Prelude.{ℕ, option_map, string_bytes}
 use Rattle.std.specs.Arc.{arc_value}
-use Rattle.keys.specs.Keys.{key_of}
-use Rattle.reconciling.specs.Managers as managers
-use Rattle.reconciling.specs.Outcomes as outcomes
+use Rattle.object_keys.specs.Keys.{key_of}
+use Rattle.spec_sim_control_plane.specs.Managers as managers
+use Rattle.spec_sim_control_plane.specs.Outcomes as outcomes
 use Rattle.work_keys.specs.WorkKeys.{work_key_of}
-use Rattle.worker_slots.specs.Seen.{issued_of}
-use Rattle.managers.specs.declared.outcomes.WorkOutcome.{WorkOutcome}
-use Rattle.managers.specs.declared.outcomes.WorkOutcome.TheVariants as code
+use Rattle.sim_worker_slots.specs.Seen.{issued_of}
+use Rattle.sim_manager.specs.declared.outcomes.WorkOutcome.{WorkOutcome}
+use Rattle.sim_manager.specs.declared.outcomes.WorkOutcome.TheVariants as code
 
 -- a command with its answer
 abbrev pub of_issued : ℕ → managers.Issued → outcomes.Outcome

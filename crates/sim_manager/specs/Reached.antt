@@ -1,16 +1,16 @@
 -- What workers reach of a stored cluster, and the cluster after a request of theirs.
 use Rattle.std.specs.Prelude.{ℕ, Option, Some, None, IfSome, option_and_then}
-use Rattle.definitions.specs.History.{Write, found}
-use Rattle.definitions.specs.ObjectRequests.{Request}
-use Rattle.definitions.specs.Reached.{CanBeRead}
-use Rattle.definitions.specs.Verbs.{write_of}
-use Rattle.reconciling.specs.Managers.{Client, Manager, Action, Delivery, act, reaching, requested}
-use Rattle.reconciling.specs.NextSteps.{next}
-use Rattle.reconciling.specs.Turns.{Turn}
-use Rattle.workers.specs.Seen.{command_issued}
-use Rattle.session.specs.SessionStates.{SessionState, accepted}
-use Rattle.cluster.specs.Requested.{have_all_listed, written}
-use Rattle.cluster.specs.ClusterStates.{ClusterState, published}
+use Rattle.spec_api.specs.History.{Write, found}
+use Rattle.spec_api.specs.ObjectRequests.{Request}
+use Rattle.spec_api.specs.Reached.{CanBeRead}
+use Rattle.spec_api.specs.Verbs.{write_of}
+use Rattle.spec_sim_control_plane.specs.Managers.{Client, Manager, Action, Delivery, act, reaching, requested}
+use Rattle.spec_sim_control_plane.specs.NextSteps.{next}
+use Rattle.spec_sim_control_plane.specs.Turns.{Turn}
+use Rattle.reconcile_turn.specs.Seen.{command_issued}
+use Rattle.line_session.specs.SessionStates.{SessionState, accepted}
+use Rattle.sim_cluster.specs.Requested.{have_all_listed, written}
+use Rattle.sim_cluster.specs.ClusterStates.{ClusterState, published}
 
 -- whether each kind has been published, what is published of each, what is there under a key, and what a request is answered
 abbrev pub client_of : ClusterState → Client

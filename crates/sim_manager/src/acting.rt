@@ -2,19 +2,19 @@
 use crate::manager::Manager;
 use crate::outcomes::WorkOutcome;
 use crate::told_outcomes::{ToldOutcome, key_copy};
-use cluster::Cluster;
+use reconcile_turn::{Expected, Turn};
+use sim_cluster::Cluster;
+use sim_steps::Action;
+use sim_worker_slots::is_next;
 use std::alloc::{AllocError, Global};
-use steps::Action;
-use worker_slots::is_next;
-use workers::{Expected, Turn};
 
 impl Manager {
     ghost use Rattle.std.specs.Prelude.{◌≡◌, IfOk, OnOk, OnErr};
-    ghost use Rattle.reconciling.specs.Managers as managers;
-    ghost use Rattle.reconciling.specs.Managers.{act};
-    ghost use Rattle.steps.specs.Actions.{action_of};
-    ghost use Rattle.managers.specs.Outcomes.{outcome_of};
-    ghost use Rattle.managers.specs.Reached.{client_of, after_request, CanBeAsked};
+    ghost use Rattle.spec_sim_control_plane.specs.Managers as managers;
+    ghost use Rattle.spec_sim_control_plane.specs.Managers.{act};
+    ghost use Rattle.sim_steps.specs.Actions.{action_of};
+    ghost use Rattle.sim_manager.specs.Outcomes.{outcome_of};
+    ghost use Rattle.sim_manager.specs.Reached.{client_of, after_request, CanBeAsked};
 
     /// Has a worker that is in no turn take the key that waits longest, if one waits, once each kind has been published, and tells
     /// of it. The error is running out of memory, and then nothing has changed.

@@ -1,41 +1,41 @@
 //! Commands that workers issue.
 ghost use Rattle.std.specs.Prelude.{◌≡◌, IfOk, OnOk, OnErr, IfSome, Some, option_map};
 ghost use Rattle.std.specs.Arc.{arc_value};
-ghost use Rattle.answer_laws.specs.AnswerLaws.{IsOfObject};
-ghost use Rattle.cluster.specs.Requested.{IsWriteOf, written};
-ghost use Rattle.definitions.specs.Reached.{CanBeRead};
-ghost use Rattle.definitions.specs.Verbs as verbs;
-ghost use Rattle.managers.specs.Issuing.{coming, coming_of};
-ghost use Rattle.managers.specs.Reached.{asked_by, write_reaching};
-ghost use Rattle.worker_slots.specs.Seen.{issued_of};
+ghost use Rattle.reply_laws.specs.AnswerLaws.{IsOfObject};
+ghost use Rattle.sim_cluster.specs.Requested.{IsWriteOf, written};
+ghost use Rattle.spec_api.specs.Reached.{CanBeRead};
+ghost use Rattle.spec_api.specs.Verbs as verbs;
+ghost use Rattle.sim_manager.specs.Issuing.{coming, coming_of};
+ghost use Rattle.sim_manager.specs.Reached.{asked_by, write_reaching};
+ghost use Rattle.sim_worker_slots.specs.Seen.{issued_of};
 ghost use Rattle.meta.specs.Writes.{write_of};
-ghost use Rattle.reconciling.specs.Managers as managers;
-ghost use Rattle.reconciling.specs.Managers.{learnt, reaching};
-ghost use Rattle.reconciling.specs.NextSteps.{next};
-ghost use Rattle.requests.specs.Requests.{request_of};
-ghost use Rattle.session.specs.SessionStates.{accepted};
-ghost use Rattle.steps.specs.Actions.{delivery_of};
-ghost use Rattle.workers.specs.Seen.{answer_of, command_issued};
+ghost use Rattle.spec_sim_control_plane.specs.Managers as managers;
+ghost use Rattle.spec_sim_control_plane.specs.Managers.{learnt, reaching};
+ghost use Rattle.spec_sim_control_plane.specs.NextSteps.{next};
+ghost use Rattle.request_parts.specs.Requests.{request_of};
+ghost use Rattle.line_session.specs.SessionStates.{accepted};
+ghost use Rattle.sim_steps.specs.Actions.{delivery_of};
+ghost use Rattle.reconcile_turn.specs.Seen.{answer_of, command_issued};
 
 use crate::manager::Manager;
 use crate::outcomes::WorkOutcome;
 use crate::told_outcomes::ToldOutcome;
-use cluster::Cluster;
-use keys::Fault;
 use meta::Write;
-use requests::Request;
+use object_keys::Fault;
+use reconcile_turn::{CommandAnswer, NextStep, Turn};
+use request_parts::Request;
+use sim_cluster::Cluster;
+use sim_steps::Delivery;
+use sim_worker_slots::Issued;
+use sim_worker_slots::answering::{acceptance, answered_turn};
+use sim_worker_slots::issued::recorded;
 use std::alloc::{AllocError, Global};
 use std::sync::Arc;
-use steps::Delivery;
-use worker_slots::Issued;
-use worker_slots::answering::{acceptance, answered_turn};
-use worker_slots::issued::recorded;
-use workers::{Answer, NextStep, Turn};
 
 /// What a worker learns of its command, and what the server is to write.
 #[derive(Drop)]
 struct Answered {
-    answer: Answer,
+    answer: CommandAnswer,
     write: Option<Write>,
 }
 
@@ -54,7 +54,7 @@ fn ask(alloc: Global, cluster: &Cluster, request: Request) -> Result<Answered, A
         }),
         Err(Fault::NoMemory) => Err(AllocError),
         Err(fault) => Ok(Answered {
-            answer: Answer::Refused {
+            answer: CommandAnswer::Refused {
                 code: reply::code(&fault),
             },
             write: None,
@@ -79,12 +79,12 @@ fn deliver(
         Delivery::AnswerLost => {
             let answered = ask(alloc, cluster, request)?;
             Ok(Answered {
-                answer: Answer::Lost,
+                answer: CommandAnswer::Lost,
                 write: answered.write,
             })
         }
         Delivery::Dropped => Ok(Answered {
-            answer: Answer::Lost,
+            answer: CommandAnswer::Lost,
             write: None,
         }),
     }
@@ -149,14 +149,14 @@ fn next_issue(
 impl Manager {
     ghost use Rattle.std.specs.Prelude.{◌≡◌, ◌<◌, ◌++◌, ◌∷◌, [], IfOk, IfSome, OnOk, OnErr, Some, length, option_map, slice_set};
     ghost use Rattle.std.specs.Arc.{arc_value};
-    ghost use Rattle.cluster.specs.Requested.{IsWriteOf, written};
+    ghost use Rattle.sim_cluster.specs.Requested.{IsWriteOf, written};
     ghost use Rattle.meta.specs.Writes.{write_of};
-    ghost use Rattle.worker_slots.specs.Seen.{issued_of};
-    ghost use Rattle.reconciling.specs.Managers as managers;
-    ghost use Rattle.reconciling.specs.Managers.{act};
-    ghost use Rattle.managers.specs.Outcomes.{outcome_of};
-    ghost use Rattle.steps.specs.Actions.{delivery_of};
-    ghost use Rattle.managers.specs.Reached.{client_of, after_request, CanBeAsked};
+    ghost use Rattle.sim_worker_slots.specs.Seen.{issued_of};
+    ghost use Rattle.spec_sim_control_plane.specs.Managers as managers;
+    ghost use Rattle.spec_sim_control_plane.specs.Managers.{act};
+    ghost use Rattle.sim_manager.specs.Outcomes.{outcome_of};
+    ghost use Rattle.sim_steps.specs.Actions.{delivery_of};
+    ghost use Rattle.sim_manager.specs.Reached.{client_of, after_request, CanBeAsked};
 
     /// Makes what comes of a command of a worker's. The error is running out of memory, and then nothing has changed, at the server neither.
     fn make(

@@ -11,5 +11,5 @@ pub mod told_outcomes;
 
 pub use manager::Manager;
 pub use outcomes::WorkOutcome;
+pub use sim_worker_slots::Issued;
 pub use told_outcomes::ToldOutcome;
-pub use worker_slots::Issued;

@@ -1,12 +1,12 @@
 //! The controller manager.
 use crate::outcomes::WorkOutcome;
 use crate::told_outcomes::ToldOutcome;
-use control_desk::{Board, Observation};
+use sim_worker_slots::{Issued, Slots};
 use std::alloc::{AllocError, Global};
 use std::marker::Model;
 use std::sync::Arc;
+use work_board::{Board, Observation};
 use work_keys::WorkKey;
-use worker_slots::{Issued, Slots};
 
 /// The board, for each worker its turn or none, and all commands that were issued, in order.
 #[derive(Drop)]
@@ -19,9 +19,9 @@ pub struct Manager {
 impl Model for Manager {
     ghost use Rattle.std.specs.Prelude.{map};
     ghost use Rattle.std.specs.Arc.{arc_value};
-    ghost use Rattle.reconciling.specs.Managers as managers;
-    ghost use Rattle.managers.specs.Codes.{coded_manager};
-    ghost use Rattle.worker_slots.specs.Seen.{issued_of};
+    ghost use Rattle.spec_sim_control_plane.specs.Managers as managers;
+    ghost use Rattle.sim_manager.specs.Codes.{coded_manager};
+    ghost use Rattle.sim_worker_slots.specs.Seen.{issued_of};
 
     ghost Value = { managers.Manager };
 
@@ -33,12 +33,12 @@ impl Model for Manager {
 impl Manager {
     ghost use Rattle.std.specs.Prelude.{◌≡◌, IfOk, OnOk, OnErr, map};
     ghost use Rattle.std.specs.Arc.{arc_value};
-    ghost use Rattle.control.specs.Boards.{observed, ticked};
-    ghost use Rattle.control_desk.specs.Seen.{observation_of};
-    ghost use Rattle.reconciling.specs.Managers.{begun, restarted};
-    ghost use Rattle.worker_slots.specs.Seen.{issued_of};
-    ghost use Rattle.managers.specs.Told.{told_of_tick};
-    ghost use Rattle.managers.specs.Outcomes.{outcome_of};
+    ghost use Rattle.spec_work_board.specs.Boards.{observed, ticked};
+    ghost use Rattle.work_board.specs.Seen.{observation_of};
+    ghost use Rattle.spec_sim_control_plane.specs.Managers.{begun, restarted};
+    ghost use Rattle.sim_worker_slots.specs.Seen.{issued_of};
+    ghost use Rattle.sim_manager.specs.Told.{told_of_tick};
+    ghost use Rattle.sim_manager.specs.Outcomes.{outcome_of};
     ghost use Rattle.work_keys.specs.WorkKeys.{work_key_of};
 
     /// Returns a manager with so many workers, none of which is in a turn. The error is running out of memory.

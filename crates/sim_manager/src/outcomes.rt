@@ -1,11 +1,11 @@
 //! What comes of what workers do.
 
-use definitions::kinds::Kind;
-use keys::Key;
+use object_keys::Key;
+use sim_worker_slots::Issued;
+use spec_api::kinds::Kind;
 use std::alloc::Global;
 use std::sync::Arc;
 use work_keys::WorkKey;
-use worker_slots::Issued;
 
 /// What came of a worker's action, of a change that was handled, or of time that passes.
 #[derive(Drop)]

@@ -1,20 +1,20 @@
 //! What workers see, and read live.
 ghost use Rattle.std.specs.Prelude.{◌≡◌, IfOk, option_map, option_and_then, string_bytes};
-ghost use Rattle.definitions.specs.Metadata.{version};
-ghost use Rattle.keys.specs.Keys.{key_of};
-ghost use Rattle.managers.specs.Reached.{client_of};
+ghost use Rattle.spec_api.specs.Metadata.{version};
+ghost use Rattle.object_keys.specs.Keys.{key_of};
+ghost use Rattle.sim_manager.specs.Reached.{client_of};
 
 use crate::manager::Manager;
 use crate::outcomes::WorkOutcome;
 use crate::told_outcomes::{ToldOutcome, text_copy};
-use cluster::Cluster;
-use definitions::kinds::Kind;
-use keys::Key;
 use meta::Object;
+use object_keys::Key;
+use reconcile_turn::{NextStep, Sight};
+use sim_cluster::Cluster;
+use sim_steps::Action;
+use sim_worker_slots::is_next;
+use spec_api::kinds::Kind;
 use std::alloc::{AllocError, Global};
-use steps::Action;
-use worker_slots::is_next;
-use workers::{NextStep, Sight};
 
 /// Returns what is there under a key at a cluster's server. The error is running out of memory.
 fn live_object(alloc: Global, cluster: &Cluster, key: &Key) -> Result<Option<Object>, AllocError>
@@ -38,10 +38,10 @@ fn version_in(object: &Option<Object>) -> Option<&str>
 
 impl Manager {
     ghost use Rattle.std.specs.Prelude.{◌≡◌, IfOk, OnOk, OnErr};
-    ghost use Rattle.reconciling.specs.Managers as managers;
-    ghost use Rattle.reconciling.specs.Managers.{act};
-    ghost use Rattle.managers.specs.Outcomes.{outcome_of};
-    ghost use Rattle.managers.specs.Reached.{client_of};
+    ghost use Rattle.spec_sim_control_plane.specs.Managers as managers;
+    ghost use Rattle.spec_sim_control_plane.specs.Managers.{act};
+    ghost use Rattle.sim_manager.specs.Outcomes.{outcome_of};
+    ghost use Rattle.sim_manager.specs.Reached.{client_of};
 
     /// Has a worker look at what is published of a kind, where that comes next in its turn. The error is running out of memory, and then
     /// nothing has changed.

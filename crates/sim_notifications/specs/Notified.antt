@@ -1,9 +1,9 @@
 -- Notifications as code has them.
 use Rattle.std.specs.Prelude.{Bool, true, false}
-use Rattle.controllers.specs.Reflectors.{Delta, replace, put, remove, mark}
+use Rattle.spec_client_go.specs.Reflectors.{Delta, replace, put, remove, mark}
 use Rattle.indexer.specs.Shifted.{shift_of}
-use Rattle.simulation.specs.Followers as followers
-use Rattle.notifications.specs.declared.notifications.Notification.{Notification}
+use Rattle.spec_sim_cluster.specs.Followers as followers
+use Rattle.sim_notifications.specs.declared.notifications.Notification.{Notification}
 
 abbrev pub notification_of : Notification → followers.Notification
 notification_of n = record { shift = shift_of n.shift; is_in_initial_list = n.is_in_initial_list }

@@ -1,11 +1,11 @@
 //! Published changes that are still to be handled.
 ghost use Rattle.std.specs.Prelude.{◌≡◌, ◌++◌, ◌&&◌, not, OnOk, IfOk, map};
-ghost use Rattle.controllers.specs.Informers.{all_applied, applied};
-ghost use Rattle.controllers.specs.Shifts.{shifts_of};
+ghost use Rattle.spec_client_go.specs.Informers.{all_applied, applied};
+ghost use Rattle.spec_client_go.specs.Shifts.{shifts_of};
 ghost use Rattle.indexer.specs.Shifted.{shift_of};
 ghost use Rattle.reflector.specs.Deltas.{delta_of, deltas_of};
-ghost use Rattle.simulation.specs.Followers.{notifications, notified};
-ghost use Rattle.notifications.specs.Notified.{is_replace, notification_of};
+ghost use Rattle.spec_sim_cluster.specs.Followers.{notifications, notified};
+ghost use Rattle.sim_notifications.specs.Notified.{is_replace, notification_of};
 
 use indexer::{Indexed, Shift};
 use reflector::Delta;

@@ -1,15 +1,15 @@
 //! The lines by which outcomes are told, written into memory that was made ready before the step.
 ghost use Rattle.std.specs.Prelude.{◌≡◌, codes, ◌++◌, ◌∷◌, ◌+◌, ◌≤◌, [], IfOk, length, decimal, vec_len, vec_capacity};
-ghost use Rattle.definitions.specs.Kinds.{plural};
-ghost use Rattle.simulation.specs.OutcomeTexts.{outcome_text, end_words, words_line};
-ghost use Rattle.followers.specs.Outcomes.{outcome_of};
-ghost use Rattle.outcome_lines.specs.Texts.{after_words};
-ghost use Rattle.outcome_lines.specs.Ready.{IsReady};
+ghost use Rattle.spec_api.specs.Kinds.{plural};
+ghost use Rattle.spec_sim_cluster.specs.OutcomeTexts.{outcome_text, end_words, words_line};
+ghost use Rattle.sim_followers.specs.Outcomes.{outcome_of};
+ghost use Rattle.sim_outcome_lines.specs.Texts.{after_words};
+ghost use Rattle.sim_outcome_lines.specs.Ready.{IsReady};
 
-use controllers::reflectors::End;
-use definitions::kinds::Kind;
-use followers::ClusterOutcome;
 use itoa::Buffer;
+use sim_followers::ClusterOutcome;
+use spec_api::kinds::Kind;
+use spec_client_go::reflectors::End;
 use std::alloc::{AllocError, Global};
 
 /// The greatest length of a line that is no reply.

@@ -2,34 +2,34 @@
 use Rattle.std.proofs.Common.{◌≡◌, ◌≤◌, ◌⊎◌, inl, inr, ◌+◌, ◌-◌, ◌&&◌, ℕ, List, [], ◌∷◌, ◌++◌, length, take, drop, Bool, true, false, cond, not, IfSome, Option, Some, None, refl, sym, ap, ◌∙◌, subst, append-nil, append_assoc, arith}
 use Rattle.std.proofs.lemmas.List.{take-append-le, drop-append-le, take-append-drop, drop_all, length-append}
 use Rattle.serde_json.specs.Data.{Data}
-use Rattle.definitions.proofs.Truths.{both_true}
-use Rattle.definitions.specs.declared.kinds.Kind.TheVariants.{Pod}
-use Rattle.definitions.specs.History.{History, Entries, Write, write, writes, present, last_of, state, after_all, found, viewed, list, unfiltered, seen}
-use Rattle.definitions.specs.Keys.{Key}
-use Rattle.definitions.specs.Metadata.{uid}
-use Rattle.definitions.specs.Reached.{IsReached}
-use Rattle.definitions.specs.SelectorValues.{is_some_and}
-use Rattle.definitions.specs.Verbs.{accept, write_of}
-use Rattle.laws.proofs.Past.{writes-append}
-use Rattle.laws.proofs.Traced.{stand}
-use Rattle.controllers.specs.Commands.{Command, create, update, update_status, delete, request_of}
-use Rattle.controllers.specs.Expectations.{Owner}
-use Rattle.controllers.specs.OwnerReferences.{is_text}
-use Rattle.plans.specs.PodClaims.{have_one_uid}
-use Rattle.reconciling.specs.PodObservations.{is_same_pod}
-use Rattle.reconciling.specs.Turns.{is_pod}
-use Rattle.overshoot_laws.specs.Overshoot.{each_of_pods, keeps_claims, have_same_labels}
-use Rattle.overshoot_laws.specs.Reserves.{is_controlled, born_after, born}
-use Rattle.overshoot_laws.specs.ShowLaws.{IsClaimed}
-use Rattle.overshoot_laws.proofs.Asking.{just, one_write}
-use Rattle.overshoot_laws.proofs.Births.{le_or}
-use Rattle.overshoot_laws.proofs.Bounding.{lists_show}
-use Rattle.overshoot_laws.proofs.Finishing.{now_is}
-use Rattle.overshoot_laws.proofs.KeptPods.{same_uid, in_pods}
-use Rattle.overshoot_laws.proofs.KeptReferences.{references_kept}
-use Rattle.overshoot_laws.proofs.LookedPods.{IsStanding}
-use Rattle.overshoot_laws.proofs.PodWrites.{Edits}
-use Rattle.overshoot_laws.proofs.TurnWrites.{edits_replace}
+use Rattle.spec_api.proofs.Truths.{both_true}
+use Rattle.spec_api.specs.declared.kinds.Kind.TheVariants.{Pod}
+use Rattle.spec_api.specs.History.{History, Entries, Write, write, writes, present, last_of, state, after_all, found, viewed, list, unfiltered, seen}
+use Rattle.spec_api.specs.Keys.{Key}
+use Rattle.spec_api.specs.Metadata.{uid}
+use Rattle.spec_api.specs.Reached.{IsReached}
+use Rattle.spec_api.specs.SelectorValues.{is_some_and}
+use Rattle.spec_api.specs.Verbs.{accept, write_of}
+use Rattle.spec_laws.proofs.Past.{writes-append}
+use Rattle.spec_laws.proofs.Traced.{stand}
+use Rattle.spec_client_go.specs.Commands.{Command, create, update, update_status, delete, request_of}
+use Rattle.spec_client_go.specs.Expectations.{Owner}
+use Rattle.spec_client_go.specs.OwnerReferences.{is_text}
+use Rattle.spec_reconcile.specs.PodClaims.{have_one_uid}
+use Rattle.spec_sim_control_plane.specs.PodObservations.{is_same_pod}
+use Rattle.spec_sim_control_plane.specs.Turns.{is_pod}
+use Rattle.sim_overshoot_laws.specs.Overshoot.{each_of_pods, keeps_claims, have_same_labels}
+use Rattle.sim_overshoot_laws.specs.Reserves.{is_controlled, born_after, born}
+use Rattle.sim_overshoot_laws.specs.ShowLaws.{IsClaimed}
+use Rattle.sim_overshoot_laws.proofs.Asking.{just, one_write}
+use Rattle.sim_overshoot_laws.proofs.Births.{le_or}
+use Rattle.sim_overshoot_laws.proofs.Bounding.{lists_show}
+use Rattle.sim_overshoot_laws.proofs.Finishing.{now_is}
+use Rattle.sim_overshoot_laws.proofs.KeptPods.{same_uid, in_pods}
+use Rattle.sim_overshoot_laws.proofs.KeptReferences.{references_kept}
+use Rattle.sim_overshoot_laws.proofs.LookedPods.{IsStanding}
+use Rattle.sim_overshoot_laws.proofs.PodWrites.{Edits}
+use Rattle.sim_overshoot_laws.proofs.TurnWrites.{edits_replace}
 
 -- ---- what is claimed
 

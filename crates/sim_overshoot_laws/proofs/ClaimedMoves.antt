@@ -2,42 +2,42 @@
 use Rattle.std.proofs.Common.{◌≡◌, ◌≤◌, ◌⊎◌, inl, inr, ◌+◌, ◌-◌, ◌==◌, ◌&&◌, ℕ, List, [], ◌∷◌, ◌++◌, length, Bool, true, false, Option, Some, None, slice_get, refl, sym, ap, ◌∙◌, subst, arith, append_assoc}
 use Rattle.std.proofs.lemmas.List.{drop_all}
 use mathlib.Core.Bool.{true≢false}
-use Rattle.definitions.specs.declared.kinds.Kind.{Kind}
-use Rattle.definitions.specs.declared.kinds.Kind.TheVariants.{ConfigMap, Pod, ReplicaSet, Deployment}
-use Rattle.definitions.specs.History.{History, Write, writes, present, list as listed}
-use Rattle.definitions.specs.ObjectRequests.{Request}
-use Rattle.definitions.specs.Reached.{IsReached}
-use Rattle.definitions.specs.Streams.{text_of_lines}
-use Rattle.controllers.specs.Expectations.{Owner}
-use Rattle.controllers.specs.Informers.{applied, all_applied}
-use Rattle.controllers.specs.declared.reflectors.End.{End}
-use Rattle.controllers.specs.declared.reflectors.Phase.{Phase}
-use Rattle.controllers.specs.declared.reflectors.Phase.TheVariants.{Listing, Streaming, Watching}
-use Rattle.controllers.specs.Reflectors.{Delta, replace, Listed, list_delta, Fed, fed, fed_in, nothing}
-use Rattle.controllers.specs.WorkQueues.{handed}
-use Rattle.server_state.specs.Snapshots.{Snapshot}
-use Rattle.laws.specs.SentLaws.{whole}
+use Rattle.spec_api.specs.declared.kinds.Kind.{Kind}
+use Rattle.spec_api.specs.declared.kinds.Kind.TheVariants.{ConfigMap, Pod, ReplicaSet, Deployment}
+use Rattle.spec_api.specs.History.{History, Write, writes, present, list as listed}
+use Rattle.spec_api.specs.ObjectRequests.{Request}
+use Rattle.spec_api.specs.Reached.{IsReached}
+use Rattle.spec_api.specs.Streams.{text_of_lines}
+use Rattle.spec_client_go.specs.Expectations.{Owner}
+use Rattle.spec_client_go.specs.Informers.{applied, all_applied}
+use Rattle.spec_client_go.specs.declared.reflectors.End.{End}
+use Rattle.spec_client_go.specs.declared.reflectors.Phase.{Phase}
+use Rattle.spec_client_go.specs.declared.reflectors.Phase.TheVariants.{Listing, Streaming, Watching}
+use Rattle.spec_client_go.specs.Reflectors.{Delta, replace, Listed, list_delta, Fed, fed, fed_in, nothing}
+use Rattle.spec_client_go.specs.WorkQueues.{handed}
+use Rattle.spec_server.specs.Snapshots.{Snapshot}
+use Rattle.spec_laws.specs.SentLaws.{whole}
 use Rattle.reflector.specs.Laws.{IsAtStart}
-use Rattle.simulation.specs.declared.initial_syncs.InitialSync.{InitialSync}
-use Rattle.simulation.specs.declared.initial_syncs.InitialSync.TheVariants as sync
-use Rattle.simulation.specs.Clusters.{Cluster, history, follower, with_follower, request, compact, moves, restart}
-use Rattle.simulation.specs.Followers.{Link, Follower, Notification, begun, streaming_at, after_list, after_open, after_expiry, after_bytes, after_cut}
-use Rattle.simulation.specs.Moves.{Move, answers_after, left_open, listed_of, with_link, move, move_by}
-use Rattle.simulation_laws.specs.ClusterLaws.{IsFollowed}
-use Rattle.simulation_laws.specs.FollowerLaws.{IsLinked, IsFollowing}
-use Rattle.simulation_laws.specs.LeadLaws.{Leads, IsLed}
-use Rattle.reconciling.specs.ControlPlanes.{ControlPlane, Step, in_cluster, handle, works, tick, client, after_request, handle_in, step_in, step}
-use Rattle.reconciling.specs.Managers.{Manager, Acted, Action, take_key, carry_out, act}
-use Rattle.reconciling.specs.NextSteps.{next}
-use Rattle.reconciling.specs.Turns.{Turn}
-use Rattle.reconciling_laws.proofs.Acting.{by_act}
-use Rattle.reconciling_laws.proofs.Counting.{by_counted, by_tick}
-use Rattle.overshoot_laws.specs.Reserves.{born_after}
-use Rattle.overshoot_laws.proofs.Asking.{none_after}
-use Rattle.overshoot_laws.proofs.Claimed.{ClaimsIn, born_in, none_since, claims_later}
-use Rattle.overshoot_laws.proofs.ClaimedSteps.{IsComing, IsAsking, IsBegun, IsSettled}
-use Rattle.overshoot_laws.proofs.FirstStreams.{ReplacesAt, Closes, AsksForAll, StaysQuiet, written, read_on, stays_quiet, opened_closes}
-use Rattle.overshoot_laws.proofs.OpenMoves.{coming, by_linked_move}
+use Rattle.spec_sim_cluster.specs.declared.initial_syncs.InitialSync.{InitialSync}
+use Rattle.spec_sim_cluster.specs.declared.initial_syncs.InitialSync.TheVariants as sync
+use Rattle.spec_sim_cluster.specs.Clusters.{Cluster, history, follower, with_follower, request, compact, moves, restart}
+use Rattle.spec_sim_cluster.specs.Followers.{Link, Follower, Notification, begun, streaming_at, after_list, after_open, after_expiry, after_bytes, after_cut}
+use Rattle.spec_sim_cluster.specs.Moves.{Move, answers_after, left_open, listed_of, with_link, move, move_by}
+use Rattle.sim_cluster_laws.specs.ClusterLaws.{IsFollowed}
+use Rattle.sim_cluster_laws.specs.FollowerLaws.{IsLinked, IsFollowing}
+use Rattle.sim_cluster_laws.specs.LeadLaws.{Leads, IsLed}
+use Rattle.spec_sim_control_plane.specs.ControlPlanes.{ControlPlane, Step, in_cluster, handle, works, tick, client, after_request, handle_in, step_in, step}
+use Rattle.spec_sim_control_plane.specs.Managers.{Manager, Acted, Action, take_key, carry_out, act}
+use Rattle.spec_sim_control_plane.specs.NextSteps.{next}
+use Rattle.spec_sim_control_plane.specs.Turns.{Turn}
+use Rattle.sim_worker_laws.proofs.Acting.{by_act}
+use Rattle.sim_worker_laws.proofs.Counting.{by_counted, by_tick}
+use Rattle.sim_overshoot_laws.specs.Reserves.{born_after}
+use Rattle.sim_overshoot_laws.proofs.Asking.{none_after}
+use Rattle.sim_overshoot_laws.proofs.Claimed.{ClaimsIn, born_in, none_since, claims_later}
+use Rattle.sim_overshoot_laws.proofs.ClaimedSteps.{IsComing, IsAsking, IsBegun, IsSettled}
+use Rattle.sim_overshoot_laws.proofs.FirstStreams.{ReplacesAt, Closes, AsksForAll, StaysQuiet, written, read_on, stays_quiet, opened_closes}
+use Rattle.sim_overshoot_laws.proofs.OpenMoves.{coming, by_linked_move}
 
 le : (a b c : ℕ) → a ≤ b → b ≤ c → a ≤ c
 le a b c e f = omega arith

@@ -3,37 +3,37 @@ use Rattle.std.proofs.Common.{◌≡◌, ◌⊎◌, inl, inr, ℕ, List, [], ◌
 use Rattle.std.proofs.lemmas.List.{drop-append-le, drop_all}
 use mathlib.Core.Bool.{true≢false}
 use Rattle.std.specs.List.{AllByRecursion}
-use Rattle.definitions.specs.declared.kinds.Kind.TheVariants.{Pod}
-use Rattle.definitions.specs.History.{History, Write, write, writes, found, list, unfiltered}
-use Rattle.definitions.specs.Objects.{Object}
-use Rattle.definitions.specs.Reached.{IsReached}
-use Rattle.definitions.specs.Verbs.{accept, write_of, with_write}
-use Rattle.laws.proofs.Past.{writes-append}
-use Rattle.controllers.specs.declared.controller.Controller.{Controller}
-use Rattle.controllers.specs.declared.controller.Controller.TheVariants as controller
-use Rattle.controllers.specs.declared.reflectors.Phase.TheVariants.{Listing, Streaming}
-use Rattle.controllers.specs.Commands.{Command}
-use Rattle.controllers.specs.Expectations.{Owner}
-use Rattle.controllers.specs.Reflectors.{Reflector, Delta, replace}
-use Rattle.controllers.specs.WorkQueues.{WorkKey, handed}
-use Rattle.simulation.specs.Clusters.{Cluster, history}
-use Rattle.simulation.specs.Followers.{Link, Follower}
-use Rattle.reconciling.specs.ControlPlanes.{ControlPlane, Step, in_cluster, handle, works, tick, client, after_request, step_in, step}
-use Rattle.reconciling.specs.Managers.{Acted, Action, Delivery, delivered, answer_lost, dropped, requested, take_key, carry_out, act}
-use Rattle.reconciling.specs.NextSteps.{NextStep, next, look, ask_satisfied, read, expect, issue, finish}
-use Rattle.reconciling.specs.Turns.{Turn, hand, commands, version_answered}
-use Rattle.reconciling_laws.proofs.Acting.{by_act}
-use Rattle.reconciling_laws.proofs.Counting.{by_counted}
-use Rattle.reconciling_laws.proofs.Growing.{step_begins}
-use Rattle.reconciling_laws.proofs.Nexts.{Stands, to_look, to_ask, to_read, to_expect, to_issue, to_finish, stands}
-use Rattle.overshoot_laws.specs.Overshoot.{turn_of, written, each_of_pods, keeps_claims, is_replica_sets, LetsAlone}
-use Rattle.overshoot_laws.specs.Reserves.{turn_at}
-use Rattle.overshoot_laws.proofs.Claimed.{ClaimsIn, IsClaim, Claim, born_in, claims_one, claims_many, born_many, commands_claim}
-use Rattle.overshoot_laws.proofs.Finishing.{now_is}
-use Rattle.overshoot_laws.proofs.FirstStreams.{Closes}
-use Rattle.overshoot_laws.proofs.LookedPods.{IsStanding}
-use Rattle.overshoot_laws.proofs.OpenMoves.{coming}
-use Rattle.overshoot_laws.proofs.PodWrites.{next_edits}
+use Rattle.spec_api.specs.declared.kinds.Kind.TheVariants.{Pod}
+use Rattle.spec_api.specs.History.{History, Write, write, writes, found, list, unfiltered}
+use Rattle.spec_api.specs.Objects.{Object}
+use Rattle.spec_api.specs.Reached.{IsReached}
+use Rattle.spec_api.specs.Verbs.{accept, write_of, with_write}
+use Rattle.spec_laws.proofs.Past.{writes-append}
+use Rattle.spec_client_go.specs.declared.controller.Controller.{Controller}
+use Rattle.spec_client_go.specs.declared.controller.Controller.TheVariants as controller
+use Rattle.spec_client_go.specs.declared.reflectors.Phase.TheVariants.{Listing, Streaming}
+use Rattle.spec_client_go.specs.Commands.{Command}
+use Rattle.spec_client_go.specs.Expectations.{Owner}
+use Rattle.spec_client_go.specs.Reflectors.{Reflector, Delta, replace}
+use Rattle.spec_client_go.specs.WorkQueues.{WorkKey, handed}
+use Rattle.spec_sim_cluster.specs.Clusters.{Cluster, history}
+use Rattle.spec_sim_cluster.specs.Followers.{Link, Follower}
+use Rattle.spec_sim_control_plane.specs.ControlPlanes.{ControlPlane, Step, in_cluster, handle, works, tick, client, after_request, step_in, step}
+use Rattle.spec_sim_control_plane.specs.Managers.{Acted, Action, Delivery, delivered, answer_lost, dropped, requested, take_key, carry_out, act}
+use Rattle.spec_sim_control_plane.specs.NextSteps.{NextStep, next, look, ask_satisfied, read, expect, issue, finish}
+use Rattle.spec_sim_control_plane.specs.Turns.{Turn, hand, commands, version_answered}
+use Rattle.sim_worker_laws.proofs.Acting.{by_act}
+use Rattle.sim_worker_laws.proofs.Counting.{by_counted}
+use Rattle.sim_worker_laws.proofs.Growing.{step_begins}
+use Rattle.sim_worker_laws.proofs.Nexts.{Stands, to_look, to_ask, to_read, to_expect, to_issue, to_finish, stands}
+use Rattle.sim_overshoot_laws.specs.Overshoot.{turn_of, written, each_of_pods, keeps_claims, is_replica_sets, LetsAlone}
+use Rattle.sim_overshoot_laws.specs.Reserves.{turn_at}
+use Rattle.sim_overshoot_laws.proofs.Claimed.{ClaimsIn, IsClaim, Claim, born_in, claims_one, claims_many, born_many, commands_claim}
+use Rattle.sim_overshoot_laws.proofs.Finishing.{now_is}
+use Rattle.sim_overshoot_laws.proofs.FirstStreams.{Closes}
+use Rattle.sim_overshoot_laws.proofs.LookedPods.{IsStanding}
+use Rattle.sim_overshoot_laws.proofs.OpenMoves.{coming}
+use Rattle.sim_overshoot_laws.proofs.PodWrites.{next_edits}
 
 -- ---- what is kept
 

@@ -2,41 +2,41 @@
 use Rattle.std.proofs.Common.{◌≡◌, ◌≤◌, inl, inr, ◌+◌, ◌-◌, ◌==◌, ℕ, zero, suc, List, [], ◌∷◌, ◌++◌, drop, true, false, IfSome, Option, Some, None, slice_get, refl, sym, ap, ◌∙◌, subst, arith}
 use mathlib.Core.Bool.{true≢false}
 use Rattle.serde_json.specs.Data.{Data}
-use Rattle.definitions.specs.Checks.{controllers}
-use Rattle.definitions.specs.declared.kinds.Kind.TheVariants.{Pod}
-use Rattle.definitions.specs.History.{History, Entries, Write, writes, up_to}
-use Rattle.definitions.specs.Keys.{Key}
-use Rattle.definitions.specs.Metadata.{owners}
-use Rattle.definitions.specs.Reached.{IsReached}
-use Rattle.laws.proofs.EachWrite.{AllPut}
-use Rattle.controllers.specs.Expectations.{Owner}
-use Rattle.controllers.specs.Informers.{applied, all_applied}
-use Rattle.controllers.specs.Reflectors.{Delta, replace}
-use Rattle.controllers.specs.Shifts.{Shift, shifts_of, all_shifts}
-use Rattle.server_state.specs.Snapshots.{Snapshot}
-use Rattle.simulation.specs.declared.initial_syncs.InitialSync.{InitialSync}
-use Rattle.simulation.specs.Clusters.{Cluster, history, with_follower}
-use Rattle.simulation.specs.Followers.{Notification, notified, notifications, after_publishing}
-use Rattle.simulation_laws.specs.LeadLaws.{Leads}
-use Rattle.reconciling.specs.ControlPlanes.{ControlPlane, Step, opened, step, run}
-use Rattle.reconciling.specs.Managers.{Manager}
-use Rattle.reconciling.specs.Turns.{Turn}
-use Rattle.control_plane_laws.proofs.PlaneRuns.{followed, run_append}
-use Rattle.overshoot_laws.specs.ClaimLaws.{LetAloneIsClaimed, LetAloneIsFair}
-use Rattle.overshoot_laws.specs.Overshoot.{LetAlone}
-use Rattle.overshoot_laws.specs.Reserves.{born, to_be_seen, to_come, outstanding}
-use Rattle.overshoot_laws.specs.ShowLaws.{AreClaimed, AreClaimedSince}
-use Rattle.overshoot_laws.specs.StepLaws.{IsFair, AreFair}
-use Rattle.overshoot_laws.proofs.Claimed.{Claims, ClaimsIn}
-use Rattle.overshoot_laws.proofs.ClaimedMoves.{settled_step, begins_asking}
-use Rattle.overshoot_laws.proofs.ClaimedSteps.{IsBegun, IsWaiting, IsSettled, grown}
-use Rattle.overshoot_laws.proofs.Claiming.{claimed_adds, claimed_show}
-use Rattle.overshoot_laws.proofs.Forgetting.{none_begun}
-use Rattle.overshoot_laws.proofs.KeptReferences.{all_single, single_shown}
-use Rattle.overshoot_laws.proofs.LookedPods.{looked_standing}
-use Rattle.overshoot_laws.proofs.PlanesLed.{have_uids, planes_lead}
-use Rattle.overshoot_laws.proofs.Publishing.{deltas, seen-append}
-use Rattle.overshoot_laws.proofs.Showing.{leading_shows}
+use Rattle.spec_api.specs.Checks.{controllers}
+use Rattle.spec_api.specs.declared.kinds.Kind.TheVariants.{Pod}
+use Rattle.spec_api.specs.History.{History, Entries, Write, writes, up_to}
+use Rattle.spec_api.specs.Keys.{Key}
+use Rattle.spec_api.specs.Metadata.{owners}
+use Rattle.spec_api.specs.Reached.{IsReached}
+use Rattle.spec_laws.proofs.EachWrite.{AllPut}
+use Rattle.spec_client_go.specs.Expectations.{Owner}
+use Rattle.spec_client_go.specs.Informers.{applied, all_applied}
+use Rattle.spec_client_go.specs.Reflectors.{Delta, replace}
+use Rattle.spec_client_go.specs.Shifts.{Shift, shifts_of, all_shifts}
+use Rattle.spec_server.specs.Snapshots.{Snapshot}
+use Rattle.spec_sim_cluster.specs.declared.initial_syncs.InitialSync.{InitialSync}
+use Rattle.spec_sim_cluster.specs.Clusters.{Cluster, history, with_follower}
+use Rattle.spec_sim_cluster.specs.Followers.{Notification, notified, notifications, after_publishing}
+use Rattle.sim_cluster_laws.specs.LeadLaws.{Leads}
+use Rattle.spec_sim_control_plane.specs.ControlPlanes.{ControlPlane, Step, opened, step, run}
+use Rattle.spec_sim_control_plane.specs.Managers.{Manager}
+use Rattle.spec_sim_control_plane.specs.Turns.{Turn}
+use Rattle.sim_control_plane_laws.proofs.PlaneRuns.{followed, run_append}
+use Rattle.sim_overshoot_laws.specs.ClaimLaws.{LetAloneIsClaimed, LetAloneIsFair}
+use Rattle.sim_overshoot_laws.specs.Overshoot.{LetAlone}
+use Rattle.sim_overshoot_laws.specs.Reserves.{born, to_be_seen, to_come, outstanding}
+use Rattle.sim_overshoot_laws.specs.ShowLaws.{AreClaimed, AreClaimedSince}
+use Rattle.sim_overshoot_laws.specs.StepLaws.{IsFair, AreFair}
+use Rattle.sim_overshoot_laws.proofs.Claimed.{Claims, ClaimsIn}
+use Rattle.sim_overshoot_laws.proofs.ClaimedMoves.{settled_step, begins_asking}
+use Rattle.sim_overshoot_laws.proofs.ClaimedSteps.{IsBegun, IsWaiting, IsSettled, grown}
+use Rattle.sim_overshoot_laws.proofs.Claiming.{claimed_adds, claimed_show}
+use Rattle.sim_overshoot_laws.proofs.Forgetting.{none_begun}
+use Rattle.sim_overshoot_laws.proofs.KeptReferences.{all_single, single_shown}
+use Rattle.sim_overshoot_laws.proofs.LookedPods.{looked_standing}
+use Rattle.sim_overshoot_laws.proofs.PlanesLed.{have_uids, planes_lead}
+use Rattle.sim_overshoot_laws.proofs.Publishing.{deltas, seen-append}
+use Rattle.sim_overshoot_laws.proofs.Showing.{leading_shows}
 
 -- ---- what is claimed, with one reference at most
 

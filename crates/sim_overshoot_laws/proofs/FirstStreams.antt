@@ -1,26 +1,26 @@
 -- A stream of initial events gives nothing until it is closed, and then all at the revision at which it was opened.
 use Rattle.std.proofs.Common.{◌≡◌, ◌≤◌, ◌⊎◌, inl, inr, ◌+◌, ℕ, List, [], ◌∷◌, ◌++◌, suc, length, map, Bool, true, false, Option, Some, None, Result, Ok, Err, refl, sym, ap, ◌∙◌, subst, arith, append-nil, append_assoc}
-use Rattle.definitions.specs.declared.kinds.Kind.{Kind}
-use Rattle.definitions.specs.Frames.{Frame}
-use Rattle.definitions.specs.History.{History, Entries, present, list}
-use Rattle.definitions.specs.Objects.{Object}
-use Rattle.definitions.specs.Reached.{IsReached}
-use Rattle.definitions.specs.Streams.{Line, initial_end, added_lines, frame_of, text_of_lines}
-use Rattle.definitions.specs.WatchReplies.{opening_lines}
-use Rattle.controllers.specs.declared.reflectors.End.{End}
-use Rattle.controllers.specs.declared.reflectors.Phase.{Phase}
-use Rattle.controllers.specs.declared.reflectors.Phase.TheVariants.{Listing, Streaming}
-use Rattle.controllers.specs.ReadFrames.{Read, reading}
-use Rattle.controllers.specs.Reflectors.{Reflector, Delta, replace, Fed, Initial, none_yet, objects_of, Opening, under_way, closed, opening_step, opens_on, open_run, run, Course, first_phase, phase_after, watched, fed, fed_in, joined}
-use Rattle.laws.specs.SentLaws.{whole}
-use Rattle.laws.proofs.Limited.{limited}
-use Rattle.laws.proofs.Streamed.{list_ascending}
+use Rattle.spec_api.specs.declared.kinds.Kind.{Kind}
+use Rattle.spec_api.specs.Frames.{Frame}
+use Rattle.spec_api.specs.History.{History, Entries, present, list}
+use Rattle.spec_api.specs.Objects.{Object}
+use Rattle.spec_api.specs.Reached.{IsReached}
+use Rattle.spec_api.specs.Streams.{Line, initial_end, added_lines, frame_of, text_of_lines}
+use Rattle.spec_api.specs.WatchReplies.{opening_lines}
+use Rattle.spec_client_go.specs.declared.reflectors.End.{End}
+use Rattle.spec_client_go.specs.declared.reflectors.Phase.{Phase}
+use Rattle.spec_client_go.specs.declared.reflectors.Phase.TheVariants.{Listing, Streaming}
+use Rattle.spec_client_go.specs.ReadFrames.{Read, reading}
+use Rattle.spec_client_go.specs.Reflectors.{Reflector, Delta, replace, Fed, Initial, none_yet, objects_of, Opening, under_way, closed, opening_step, opens_on, open_run, run, Course, first_phase, phase_after, watched, fed, fed_in, joined}
+use Rattle.spec_laws.specs.SentLaws.{whole}
+use Rattle.spec_laws.proofs.Limited.{limited}
+use Rattle.spec_laws.proofs.Streamed.{list_ascending}
 use Rattle.reflector.specs.Laws.{IsAtStart}
 use Rattle.reflector.proofs.Cutting.{fed_twice}
 use Rattle.reflector.proofs.Opened.{IsClosed, Plays, all_listed, plays}
 use Rattle.reflector.proofs.Streamed.{all_back}
-use Rattle.simulation_laws.proofs.Feeding.{Beginning, before, whole_of, begun_frames, refused_opening}
-use Rattle.simulation_laws.proofs.OpeningsRead.{opening_back}
+use Rattle.sim_cluster_laws.proofs.Feeding.{Beginning, before, whole_of, begun_frames, refused_opening}
+use Rattle.sim_cluster_laws.proofs.OpeningsRead.{opening_back}
 
 -- all is replaced first, at this revision
 abbrev pub ReplacesAt : ℕ → List Delta → Type 0

@@ -5,39 +5,39 @@ use Rattle.std.specs.List.{filter_map, cons_option, list_any}
 use Rattle.std.specs.Option.{option_and_then, unwrap_or}
 use Rattle.serde_json.specs.Data.{Data, no_items}
 use Rattle.serde_json.specs.Find.{get_member, as_array, as_str}
-use Rattle.definitions.proofs.FirstStatus.{metadata_of-first}
-use Rattle.definitions.proofs.Truths.{right_true}
-use Rattle.definitions.specs.declared.kinds.Kind.TheVariants.{ReplicaSet}
-use Rattle.definitions.specs.Checks as checks
-use Rattle.definitions.specs.Checks.{finalizers, generate_name, is_owner, are_owners_valid, update_fault, adds_no_finalizer, is_selector_kept}
-use Rattle.definitions.specs.Deletion.{left_by, being_deleted}
-use Rattle.definitions.specs.History.{History, writes, present, found, entries_at, state}
-use Rattle.definitions.specs.Keys.{Key}
-use Rattle.definitions.specs.Metadata as metadata
-use Rattle.definitions.specs.Metadata.{owners, owners_in, metadata_of, name, namespace, at_revision, is_being_deleted}
-use Rattle.definitions.specs.NewObjects.{created, with_first_status}
-use Rattle.definitions.specs.ObjectRequests.{Request, get_object, list_objects, create_object, update_object, update_status, patch_object, delete_object}
-use Rattle.definitions.specs.Reached.{IsReached}
-use Rattle.definitions.specs.Reading.{reading}
-use Rattle.definitions.specs.Replacements.{in_place, updated, with_status_in}
-use Rattle.definitions.specs.Verbs.{Outcome, accept, shown, object_in, new_name, write_of}
-use Rattle.controllers.specs.OwnerReferences.{controls_as, refers_to, namespace_of}
-use Rattle.laws.specs.HistoryLaws.{OfStored}
-use Rattle.laws.specs.LifecycleLaws.{OfReplaced}
-use Rattle.laws.proofs.Cases.{of_accept, of_create, of_delete, of_status}
-use Rattle.laws.proofs.CheckLaws.{all_met}
-use Rattle.laws.proofs.Compacted.{same_writes}
-use Rattle.laws.proofs.EachWrite.{AllPut, put_write, there_put}
-use Rattle.laws.proofs.Guards.{there as if_there}
-use Rattle.laws.proofs.Reaching.{by_reached}
-use Rattle.laws.proofs.Removals.{member-updated, member-restated, at_held}
-use Rattle.laws.proofs.VerbLaws.{found-state, none_from, of_none}
-use Rattle.control.specs.Boards.{creation_observed}
-use Rattle.controllers.specs.Expectations.{Owner}
-use Rattle.reconciling.specs.PodObservations.{set_named, sets_of, creation}
-use Rattle.overshoot_laws.specs.Reserves.{is_set, is_controlled, shown as shows}
-use Rattle.overshoot_laws.specs.ClaimLaws.{StoredHaveOneController}
-use Rattle.overshoot_laws.proofs.StoredParts.{member-created, member-marked}
+use Rattle.spec_api.proofs.FirstStatus.{metadata_of-first}
+use Rattle.spec_api.proofs.Truths.{right_true}
+use Rattle.spec_api.specs.declared.kinds.Kind.TheVariants.{ReplicaSet}
+use Rattle.spec_api.specs.Checks as checks
+use Rattle.spec_api.specs.Checks.{finalizers, generate_name, is_owner, are_owners_valid, update_fault, adds_no_finalizer, is_selector_kept}
+use Rattle.spec_api.specs.Deletion.{left_by, being_deleted}
+use Rattle.spec_api.specs.History.{History, writes, present, found, entries_at, state}
+use Rattle.spec_api.specs.Keys.{Key}
+use Rattle.spec_api.specs.Metadata as metadata
+use Rattle.spec_api.specs.Metadata.{owners, owners_in, metadata_of, name, namespace, at_revision, is_being_deleted}
+use Rattle.spec_api.specs.NewObjects.{created, with_first_status}
+use Rattle.spec_api.specs.ObjectRequests.{Request, get_object, list_objects, create_object, update_object, update_status, patch_object, delete_object}
+use Rattle.spec_api.specs.Reached.{IsReached}
+use Rattle.spec_api.specs.Reading.{reading}
+use Rattle.spec_api.specs.Replacements.{in_place, updated, with_status_in}
+use Rattle.spec_api.specs.Verbs.{Outcome, accept, shown, object_in, new_name, write_of}
+use Rattle.spec_client_go.specs.OwnerReferences.{controls_as, refers_to, namespace_of}
+use Rattle.spec_laws.specs.HistoryLaws.{OfStored}
+use Rattle.spec_laws.specs.LifecycleLaws.{OfReplaced}
+use Rattle.spec_laws.proofs.Cases.{of_accept, of_create, of_delete, of_status}
+use Rattle.spec_laws.proofs.CheckLaws.{all_met}
+use Rattle.spec_laws.proofs.Compacted.{same_writes}
+use Rattle.spec_laws.proofs.EachWrite.{AllPut, put_write, there_put}
+use Rattle.spec_laws.proofs.Guards.{there as if_there}
+use Rattle.spec_laws.proofs.Reaching.{by_reached}
+use Rattle.spec_laws.proofs.Removals.{member-updated, member-restated, at_held}
+use Rattle.spec_laws.proofs.VerbLaws.{found-state, none_from, of_none}
+use Rattle.spec_work_board.specs.Boards.{creation_observed}
+use Rattle.spec_client_go.specs.Expectations.{Owner}
+use Rattle.spec_sim_control_plane.specs.PodObservations.{set_named, sets_of, creation}
+use Rattle.sim_overshoot_laws.specs.Reserves.{is_set, is_controlled, shown as shows}
+use Rattle.sim_overshoot_laws.specs.ClaimLaws.{StoredHaveOneController}
+use Rattle.sim_overshoot_laws.proofs.StoredParts.{member-created, member-marked}
 
 abbrev refs : List ℕ
 refs = codes "ownerReferences"

@@ -3,22 +3,22 @@ use Rattle.std.proofs.Common.{◌≡◌, ◌≤◌, ◌+◌, ℕ, List, [], ◌�
 use Rattle.std.specs.Ordering.{ordering_reverse}
 use Rattle.std.specs.BTreeMap.{insert_entry}
 use Rattle.serde_json.specs.Data.{Data}
-use Rattle.definitions.specs.declared.kinds.Kind.{Kind}
-use Rattle.definitions.specs.declared.kinds.Kind.TheVariants.{ConfigMap, Pod, ReplicaSet, Deployment}
-use Rattle.definitions.specs.History.{History, Entries, entries_at, up_to, found, list, unfiltered, in_view}
-use Rattle.definitions.specs.Keys.{Key, key_cmp}
-use Rattle.definitions.specs.Metadata.{uid}
-use Rattle.definitions.proofs.PutLaws.{name_cmp_total, IsAscending, IsAbove, none_above, IsAscending-put, IsAscending-filter, IsAscending-after_all}
-use Rattle.control.specs.Boards.{Observation, deletion_observed}
-use Rattle.controllers.specs.Expectations.{Owner}
-use Rattle.controllers.specs.OwedKeys.{one_of}
-use Rattle.controllers.specs.Shifts.{Shift, overlaid, shift_at, is_change, shifts_between}
-use Rattle.controllers.proofs.WorkKeyOrder.{name_tells}
-use Rattle.reconciling.specs.PodObservations.{observations_by, observations_of_pod, sets_of, deletion}
-use Rattle.simulation.specs.Followers.{notified}
-use Rattle.overshoot_laws.specs.Reserves.{shown, to_be_seen}
-use Rattle.overshoot_laws.specs.StockLaws.{stock, of_one, shown_at, ListsShowWhatIsNew}
-use Rattle.overshoot_laws.proofs.Stocks.{stock_after}
+use Rattle.spec_api.specs.declared.kinds.Kind.{Kind}
+use Rattle.spec_api.specs.declared.kinds.Kind.TheVariants.{ConfigMap, Pod, ReplicaSet, Deployment}
+use Rattle.spec_api.specs.History.{History, Entries, entries_at, up_to, found, list, unfiltered, in_view}
+use Rattle.spec_api.specs.Keys.{Key, key_cmp}
+use Rattle.spec_api.specs.Metadata.{uid}
+use Rattle.spec_api.proofs.PutLaws.{name_cmp_total, IsAscending, IsAbove, none_above, IsAscending-put, IsAscending-filter, IsAscending-after_all}
+use Rattle.spec_work_board.specs.Boards.{Observation, deletion_observed}
+use Rattle.spec_client_go.specs.Expectations.{Owner}
+use Rattle.spec_client_go.specs.OwedKeys.{one_of}
+use Rattle.spec_client_go.specs.Shifts.{Shift, overlaid, shift_at, is_change, shifts_between}
+use Rattle.spec_client_go.proofs.WorkKeyOrder.{name_tells}
+use Rattle.spec_sim_control_plane.specs.PodObservations.{observations_by, observations_of_pod, sets_of, deletion}
+use Rattle.spec_sim_cluster.specs.Followers.{notified}
+use Rattle.sim_overshoot_laws.specs.Reserves.{shown, to_be_seen}
+use Rattle.sim_overshoot_laws.specs.StockLaws.{stock, of_one, shown_at, ListsShowWhatIsNew}
+use Rattle.sim_overshoot_laws.proofs.Stocks.{stock_after}
 
 -- ---- entries over entries
 

@@ -2,24 +2,24 @@
 use Rattle.std.proofs.Common.{◌≡◌, ◌≤◌, ℕ, List, [], ◌∷◌, filter, Bool, true, false, cond, Some, None, slice_get, refl, sym, ap, ◌∙◌, subst}
 use Rattle.std.specs.List.{AllByRecursion}
 use Rattle.serde_json.specs.Data.{Data}
-use Rattle.definitions.proofs.PutLaws.{found-after_all, IsAscending-after_all}
-use Rattle.definitions.specs.declared.kinds.Kind.{Kind}
-use Rattle.definitions.specs.declared.kinds.Kind.TheVariants.{ConfigMap, Pod, ReplicaSet, Deployment}
-use Rattle.definitions.specs.History.{History, Entries, up_to, state, entries_at, found, list, unfiltered, in_view}
-use Rattle.definitions.specs.Keys.{Key}
-use Rattle.server_state.specs.Snapshots.{Snapshot}
-use Rattle.simulation.specs.declared.initial_syncs.InitialSync.{InitialSync}
-use Rattle.simulation.specs.Clusters.{history, follower}
-use Rattle.reconciling.specs.ControlPlanes.{ControlPlane, Step, opened, run}
-use Rattle.reconciling.specs.Turns.{Turn, Sight, looked, satisfied, shown, hand, is_pod}
-use Rattle.reconciling_laws.specs.IssuedLaws.{IsSeen}
-use Rattle.reconciling_laws.specs.LookLaws.{WasPublishedSince}
-use Rattle.reconciling_laws.proofs.Lists.{all_map}
-use Rattle.reconciling_laws.proofs.LookRuns.{under_way}
-use Rattle.control_plane_laws.proofs.PlaneRuns.{look_listed, run_append}
-use Rattle.control_plane_laws.proofs.Rising.{revisions_rise}
-use Rattle.overshoot_laws.proofs.KeptPods.{in_pods}
-use Rattle.overshoot_laws.proofs.Relists.{all_found}
+use Rattle.spec_api.proofs.PutLaws.{found-after_all, IsAscending-after_all}
+use Rattle.spec_api.specs.declared.kinds.Kind.{Kind}
+use Rattle.spec_api.specs.declared.kinds.Kind.TheVariants.{ConfigMap, Pod, ReplicaSet, Deployment}
+use Rattle.spec_api.specs.History.{History, Entries, up_to, state, entries_at, found, list, unfiltered, in_view}
+use Rattle.spec_api.specs.Keys.{Key}
+use Rattle.spec_server.specs.Snapshots.{Snapshot}
+use Rattle.spec_sim_cluster.specs.declared.initial_syncs.InitialSync.{InitialSync}
+use Rattle.spec_sim_cluster.specs.Clusters.{history, follower}
+use Rattle.spec_sim_control_plane.specs.ControlPlanes.{ControlPlane, Step, opened, run}
+use Rattle.spec_sim_control_plane.specs.Turns.{Turn, Sight, looked, satisfied, shown, hand, is_pod}
+use Rattle.sim_worker_laws.specs.IssuedLaws.{IsSeen}
+use Rattle.sim_worker_laws.specs.LookLaws.{WasPublishedSince}
+use Rattle.sim_worker_laws.proofs.Lists.{all_map}
+use Rattle.sim_worker_laws.proofs.LookRuns.{under_way}
+use Rattle.sim_control_plane_laws.proofs.PlaneRuns.{look_listed, run_append}
+use Rattle.sim_control_plane_laws.proofs.Rising.{revisions_rise}
+use Rattle.sim_overshoot_laws.proofs.KeptPods.{in_pods}
+use Rattle.sim_overshoot_laws.proofs.Relists.{all_found}
 
 -- ---- a list of pods
 

@@ -3,27 +3,27 @@ use Rattle.std.proofs.Common.{◌≡◌, ◌≤◌, ◌+◌, ◌-◌, ◌==◌, 
 use Rattle.std.specs.List.{AllByRecursion}
 use Rattle.std.specs.Ordering.{ordering_reverse}
 use Rattle.serde_json.specs.Data.{Data}
-use Rattle.definitions.proofs.PutLaws.{name_cmp_total}
-use Rattle.definitions.specs.declared.kinds.Kind.{Kind}
-use Rattle.definitions.specs.declared.kinds.Kind.TheVariants.{Pod, ReplicaSet}
-use Rattle.definitions.specs.History.{History, Write, writes, present, last_of, state, found, seen, in_view, unfiltered, list}
-use Rattle.definitions.specs.Keys.{Key, key_cmp, is_same_key}
-use Rattle.definitions.specs.Kinds.{rank}
-use Rattle.laws.proofs.SentChanges.{same_kind}
-use Rattle.plans.specs.ReplicaSets.{set_looked_at}
-use Rattle.reconciling.specs.ControlPlanes.{Step, opened, run}
-use Rattle.reconciling.specs.Turns.{Turn, Sight, looked, satisfied, shown, hand}
-use Rattle.reconciling_laws.specs.IssuedLaws.{IsSeen}
-use Rattle.reconciling_laws.specs.LookLaws.{WasPublishedSince}
-use Rattle.reconciling_laws.proofs.Lists.{all_map}
-use Rattle.reconciling_laws.proofs.LookRuns.{under_way}
-use Rattle.control_plane_laws.specs.PlaneLaws.{IsServerList}
-use Rattle.control_plane_laws.proofs.PlaneRuns.{look_listed}
-use Rattle.simulation.specs.declared.initial_syncs.InitialSync.{InitialSync}
-use Rattle.simulation.specs.Clusters.{history}
-use Rattle.overshoot_laws.proofs.Bounding.{lists_show, shows_there}
-use Rattle.overshoot_laws.proofs.LookedPods.{list_standing}
-use Rattle.overshoot_laws.proofs.PodWrites.{WasPod}
+use Rattle.spec_api.proofs.PutLaws.{name_cmp_total}
+use Rattle.spec_api.specs.declared.kinds.Kind.{Kind}
+use Rattle.spec_api.specs.declared.kinds.Kind.TheVariants.{Pod, ReplicaSet}
+use Rattle.spec_api.specs.History.{History, Write, writes, present, last_of, state, found, seen, in_view, unfiltered, list}
+use Rattle.spec_api.specs.Keys.{Key, key_cmp, is_same_key}
+use Rattle.spec_api.specs.Kinds.{rank}
+use Rattle.spec_laws.proofs.SentChanges.{same_kind}
+use Rattle.spec_reconcile.specs.ReplicaSets.{set_looked_at}
+use Rattle.spec_sim_control_plane.specs.ControlPlanes.{Step, opened, run}
+use Rattle.spec_sim_control_plane.specs.Turns.{Turn, Sight, looked, satisfied, shown, hand}
+use Rattle.sim_worker_laws.specs.IssuedLaws.{IsSeen}
+use Rattle.sim_worker_laws.specs.LookLaws.{WasPublishedSince}
+use Rattle.sim_worker_laws.proofs.Lists.{all_map}
+use Rattle.sim_worker_laws.proofs.LookRuns.{under_way}
+use Rattle.sim_control_plane_laws.specs.PlaneLaws.{IsServerList}
+use Rattle.sim_control_plane_laws.proofs.PlaneRuns.{look_listed}
+use Rattle.spec_sim_cluster.specs.declared.initial_syncs.InitialSync.{InitialSync}
+use Rattle.spec_sim_cluster.specs.Clusters.{history}
+use Rattle.sim_overshoot_laws.proofs.Bounding.{lists_show, shows_there}
+use Rattle.sim_overshoot_laws.proofs.LookedPods.{list_standing}
+use Rattle.sim_overshoot_laws.proofs.PodWrites.{WasPod}
 
 -- ---- what a write puts is there after it
 

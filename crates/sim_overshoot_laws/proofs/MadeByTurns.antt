@@ -4,55 +4,55 @@ use Rattle.std.proofs.lemmas.List.{drop_all}
 use Rattle.std.specs.List.{list_any, AllByRecursion}
 use Rattle.std.specs.Option.{unwrap_or}
 use Rattle.serde_json.specs.Data.{Data}
-use Rattle.definitions.proofs.PutLaws.{same_name}
-use Rattle.definitions.specs.declared.kinds.Kind.TheVariants.{Pod, ReplicaSet}
-use Rattle.definitions.specs.History.{History, Write, write, writes, present, last_of, state, found, entries_at}
-use Rattle.definitions.specs.Keys.{Key, is_same_key}
-use Rattle.definitions.specs.Metadata.{uid}
-use Rattle.definitions.specs.NewObjects as new_objects
-use Rattle.definitions.specs.ObjectRequests.{create_object}
-use Rattle.definitions.specs.Reached.{IsReached}
-use Rattle.definitions.specs.Reading.{reading}
-use Rattle.definitions.specs.Verbs.{accept, new_name, object_in, with_write, write_of}
-use Rattle.controllers.specs.declared.controller.Controller.{Controller}
-use Rattle.controllers.specs.declared.controller.Controller.TheVariants as controller
-use Rattle.controllers.specs.Commands.{Command, update, update_status, delete}
-use Rattle.controllers.specs.Expectations.{Owner}
-use Rattle.controllers.specs.Hands.{Hand}
-use Rattle.controllers.specs.OwedKeys.{one_of}
-use Rattle.laws.proofs.Cases.{of_create}
-use Rattle.laws.proofs.Traced.{there_after, traced}
-use Rattle.laws.proofs.VerbLaws.{found-state, none_from, of_none, present-write}
-use Rattle.plans.specs.NewPods.{new_pod}
-use Rattle.plans.specs.PodClaims.{released, adopted}
-use Rattle.plans.specs.ReplicaSets.{set_looked_at}
-use Rattle.simulation.specs.Clusters.{Cluster, history}
-use Rattle.reconciling.specs.ControlPlanes.{ControlPlane, works, client, after_request, step, step_in}
-use Rattle.reconciling.specs.Managers.{Manager, Acted, Action, Delivery, delivered, answer_lost, dropped, requested, carry_out}
-use Rattle.reconciling.specs.NextSteps.{NextStep, next, look, ask_satisfied, read, expect, issue, finish}
-use Rattle.reconciling.specs.Turns.{Turn, hand, left, owner_by, version_answered}
-use Rattle.reconciling_laws.specs.IssuedLaws.{IsSeen}
-use Rattle.reconciling_laws.proofs.Acting.{by_act}
-use Rattle.reconciling_laws.proofs.Counting.{by_counted}
-use Rattle.reconciling_laws.proofs.Growing.{state_stands, present_grows}
-use Rattle.reconciling_laws.proofs.Nexts.{Stands, to_look, to_ask, to_read, to_expect, to_issue, to_finish, stands}
-use Rattle.control_plane_laws.specs.PlaneLaws.{IsServerList}
-use Rattle.overshoot_laws.specs.MadePods.{IsOfSet}
-use Rattle.overshoot_laws.specs.Overshoot.{is_replica_sets, pods_created}
-use Rattle.overshoot_laws.specs.Reserves.{is_set, is_turn_for, created}
-use Rattle.overshoot_laws.proofs.Asking.{just}
-use Rattle.overshoot_laws.proofs.Births.{writes-append}
-use Rattle.overshoot_laws.proofs.Bounding.{has_uid, plan_creates}
-use Rattle.overshoot_laws.proofs.Edits.{edits_are_no_news}
-use Rattle.overshoot_laws.proofs.LooksOfTurns.{is_itself, pods_seen, set_seen}
-use Rattle.overshoot_laws.proofs.Matching.{its_uid}
-use Rattle.overshoot_laws.proofs.PodLabels.{new_pods_match_their_set}
-use Rattle.overshoot_laws.proofs.PodsStay.{Known, Upto, Onward, grown, one_more, replaced_stays, with_new}
-use Rattle.overshoot_laws.proofs.PodWrites.{Planned, releases, adopts, creates, deletes, reports, planned_next, planned_writes, Replaces, WasPod}
-use Rattle.overshoot_laws.proofs.Replaced.{news}
-use Rattle.overshoot_laws.proofs.SameTexts.{stored_reads}
-use Rattle.overshoot_laws.proofs.StoredSets.{sets_match_their_templates}
-use Rattle.overshoot_laws.proofs.Strangers.{new_pods_are_of_their_set, plain}
+use Rattle.spec_api.proofs.PutLaws.{same_name}
+use Rattle.spec_api.specs.declared.kinds.Kind.TheVariants.{Pod, ReplicaSet}
+use Rattle.spec_api.specs.History.{History, Write, write, writes, present, last_of, state, found, entries_at}
+use Rattle.spec_api.specs.Keys.{Key, is_same_key}
+use Rattle.spec_api.specs.Metadata.{uid}
+use Rattle.spec_api.specs.NewObjects as new_objects
+use Rattle.spec_api.specs.ObjectRequests.{create_object}
+use Rattle.spec_api.specs.Reached.{IsReached}
+use Rattle.spec_api.specs.Reading.{reading}
+use Rattle.spec_api.specs.Verbs.{accept, new_name, object_in, with_write, write_of}
+use Rattle.spec_client_go.specs.declared.controller.Controller.{Controller}
+use Rattle.spec_client_go.specs.declared.controller.Controller.TheVariants as controller
+use Rattle.spec_client_go.specs.Commands.{Command, update, update_status, delete}
+use Rattle.spec_client_go.specs.Expectations.{Owner}
+use Rattle.spec_client_go.specs.Hands.{Hand}
+use Rattle.spec_client_go.specs.OwedKeys.{one_of}
+use Rattle.spec_laws.proofs.Cases.{of_create}
+use Rattle.spec_laws.proofs.Traced.{there_after, traced}
+use Rattle.spec_laws.proofs.VerbLaws.{found-state, none_from, of_none, present-write}
+use Rattle.spec_reconcile.specs.NewPods.{new_pod}
+use Rattle.spec_reconcile.specs.PodClaims.{released, adopted}
+use Rattle.spec_reconcile.specs.ReplicaSets.{set_looked_at}
+use Rattle.spec_sim_cluster.specs.Clusters.{Cluster, history}
+use Rattle.spec_sim_control_plane.specs.ControlPlanes.{ControlPlane, works, client, after_request, step, step_in}
+use Rattle.spec_sim_control_plane.specs.Managers.{Manager, Acted, Action, Delivery, delivered, answer_lost, dropped, requested, carry_out}
+use Rattle.spec_sim_control_plane.specs.NextSteps.{NextStep, next, look, ask_satisfied, read, expect, issue, finish}
+use Rattle.spec_sim_control_plane.specs.Turns.{Turn, hand, left, owner_by, version_answered}
+use Rattle.sim_worker_laws.specs.IssuedLaws.{IsSeen}
+use Rattle.sim_worker_laws.proofs.Acting.{by_act}
+use Rattle.sim_worker_laws.proofs.Counting.{by_counted}
+use Rattle.sim_worker_laws.proofs.Growing.{state_stands, present_grows}
+use Rattle.sim_worker_laws.proofs.Nexts.{Stands, to_look, to_ask, to_read, to_expect, to_issue, to_finish, stands}
+use Rattle.sim_control_plane_laws.specs.PlaneLaws.{IsServerList}
+use Rattle.sim_overshoot_laws.specs.MadePods.{IsOfSet}
+use Rattle.sim_overshoot_laws.specs.Overshoot.{is_replica_sets, pods_created}
+use Rattle.sim_overshoot_laws.specs.Reserves.{is_set, is_turn_for, created}
+use Rattle.sim_overshoot_laws.proofs.Asking.{just}
+use Rattle.sim_overshoot_laws.proofs.Births.{writes-append}
+use Rattle.sim_overshoot_laws.proofs.Bounding.{has_uid, plan_creates}
+use Rattle.sim_overshoot_laws.proofs.Edits.{edits_are_no_news}
+use Rattle.sim_overshoot_laws.proofs.LooksOfTurns.{is_itself, pods_seen, set_seen}
+use Rattle.sim_overshoot_laws.proofs.Matching.{its_uid}
+use Rattle.sim_overshoot_laws.proofs.PodLabels.{new_pods_match_their_set}
+use Rattle.sim_overshoot_laws.proofs.PodsStay.{Known, Upto, Onward, grown, one_more, replaced_stays, with_new}
+use Rattle.sim_overshoot_laws.proofs.PodWrites.{Planned, releases, adopts, creates, deletes, reports, planned_next, planned_writes, Replaces, WasPod}
+use Rattle.sim_overshoot_laws.proofs.Replaced.{news}
+use Rattle.sim_overshoot_laws.proofs.SameTexts.{stored_reads}
+use Rattle.sim_overshoot_laws.proofs.StoredSets.{sets_match_their_templates}
+use Rattle.sim_overshoot_laws.proofs.Strangers.{new_pods_are_of_their_set, plain}
 
 -- these pods were there, and whenever they are they are the set's own
 abbrev pub Stays : Owner → List Data → History → Type 0

@@ -3,50 +3,50 @@ use Rattle.std.proofs.Common.{◌≡◌, ◌≤◌, ◌+◌, ◌-◌, inl, inr, 
 use Rattle.std.specs.List.{list_any, AllByRecursion}
 use Rattle.std.proofs.lemmas.Slice.Eq.{bytes_eq-Decides}
 use Rattle.serde_json.specs.Data.{Data}
-use Rattle.definitions.proofs.Truths.{both_true, right_true}
-use Rattle.definitions.specs.declared.kinds.Kind.TheVariants.{Pod, ReplicaSet}
-use Rattle.definitions.specs.History.{History, Entries, Write, write, writes, present, last_of, state}
-use Rattle.definitions.specs.Keys.{Key}
-use Rattle.definitions.specs.Metadata.{uid}
-use Rattle.definitions.specs.Reached.{IsReached}
-use Rattle.definitions.specs.SelectorValues.{is_some_and}
-use Rattle.controllers.specs.declared.controller.Controller.{Controller}
-use Rattle.controllers.specs.declared.controller.Controller.TheVariants as controller
-use Rattle.controllers.specs.Expectations.{Owner}
-use Rattle.controllers.specs.OwedKeys.{one_of}
-use Rattle.controllers.specs.OwnerReferences.{is_text}
-use Rattle.laws.proofs.Traced.{traced}
-use Rattle.plans.specs.PodClaims.{have_one_uid}
-use Rattle.plans.specs.Pods.{is_active, matches}
-use Rattle.plans.specs.ReplicaSets.{set_looked_at}
-use Rattle.simulation.specs.declared.initial_syncs.InitialSync.{InitialSync}
-use Rattle.simulation.specs.Clusters.{history}
-use Rattle.reconciling.specs.ControlPlanes.{ControlPlane, Step, in_cluster, handle, works, tick, opened, step, run}
-use Rattle.reconciling.specs.Managers.{Action}
-use Rattle.reconciling.specs.Turns.{Turn, begun, hand, owner_by, is_pod}
-use Rattle.reconciling_laws.specs.IssuedLaws.{IsSeen}
-use Rattle.reconciling_laws.proofs.Growing.{present_grows, state_stands, step_begins}
-use Rattle.control_plane_laws.specs.PlaneLaws.{IsServerList}
-use Rattle.control_plane_laws.proofs.PlaneRuns.{run_append}
-use Rattle.overshoot_laws.specs.BoundLaws.{is_counted}
-use Rattle.overshoot_laws.specs.BoundRuns.{made_by, AreKept, AllAreKept}
-use Rattle.overshoot_laws.specs.KeptPods.{is_among, Along, AllMatch, ArePutFor}
-use Rattle.overshoot_laws.specs.MadePods.{IsOfSet, StayOfSet, MadePodsStayOfSet, MadePodsAreKept}
-use Rattle.overshoot_laws.specs.Overshoot.{turn_of, made, written, pods_created, each_of_pods, keeps_claims, have_same_labels, is_replica_sets, LetsAlone, LetAlone, NoOvershoot}
-use Rattle.overshoot_laws.specs.Reserves.{is_set, is_controlled, is_turn_for, turn_at}
-use Rattle.overshoot_laws.proofs.Births.{writes-append}
-use Rattle.overshoot_laws.proofs.Bounding.{has_uid, plan_creates}
-use Rattle.overshoot_laws.proofs.Finishing.{now_is, since}
-use Rattle.overshoot_laws.proofs.KeptBounds.{kept_pods_are_few}
-use Rattle.overshoot_laws.proofs.LookedPods.{is_kind}
-use Rattle.overshoot_laws.proofs.LooksOfTurns.{take_past, put_there, pods_seen, set_seen, turn_listed}
-use Rattle.overshoot_laws.proofs.MadeByTurns.{Stays, stays_still, acted}
-use Rattle.overshoot_laws.proofs.Matching.{its_uid}
-use Rattle.overshoot_laws.proofs.OneSelector.{Next, along_at}
-use Rattle.overshoot_laws.proofs.PodsStay.{Onward, known_later, matches_set, many_more, with_labels}
-use Rattle.overshoot_laws.proofs.PodWrites.{WasPod}
-use Rattle.overshoot_laws.proofs.SameTexts.{same_labels, stored_plain}
-use Rattle.overshoot_laws.proofs.Sound.{planes_are_sound}
+use Rattle.spec_api.proofs.Truths.{both_true, right_true}
+use Rattle.spec_api.specs.declared.kinds.Kind.TheVariants.{Pod, ReplicaSet}
+use Rattle.spec_api.specs.History.{History, Entries, Write, write, writes, present, last_of, state}
+use Rattle.spec_api.specs.Keys.{Key}
+use Rattle.spec_api.specs.Metadata.{uid}
+use Rattle.spec_api.specs.Reached.{IsReached}
+use Rattle.spec_api.specs.SelectorValues.{is_some_and}
+use Rattle.spec_client_go.specs.declared.controller.Controller.{Controller}
+use Rattle.spec_client_go.specs.declared.controller.Controller.TheVariants as controller
+use Rattle.spec_client_go.specs.Expectations.{Owner}
+use Rattle.spec_client_go.specs.OwedKeys.{one_of}
+use Rattle.spec_client_go.specs.OwnerReferences.{is_text}
+use Rattle.spec_laws.proofs.Traced.{traced}
+use Rattle.spec_reconcile.specs.PodClaims.{have_one_uid}
+use Rattle.spec_reconcile.specs.Pods.{is_active, matches}
+use Rattle.spec_reconcile.specs.ReplicaSets.{set_looked_at}
+use Rattle.spec_sim_cluster.specs.declared.initial_syncs.InitialSync.{InitialSync}
+use Rattle.spec_sim_cluster.specs.Clusters.{history}
+use Rattle.spec_sim_control_plane.specs.ControlPlanes.{ControlPlane, Step, in_cluster, handle, works, tick, opened, step, run}
+use Rattle.spec_sim_control_plane.specs.Managers.{Action}
+use Rattle.spec_sim_control_plane.specs.Turns.{Turn, begun, hand, owner_by, is_pod}
+use Rattle.sim_worker_laws.specs.IssuedLaws.{IsSeen}
+use Rattle.sim_worker_laws.proofs.Growing.{present_grows, state_stands, step_begins}
+use Rattle.sim_control_plane_laws.specs.PlaneLaws.{IsServerList}
+use Rattle.sim_control_plane_laws.proofs.PlaneRuns.{run_append}
+use Rattle.sim_overshoot_laws.specs.BoundLaws.{is_counted}
+use Rattle.sim_overshoot_laws.specs.BoundRuns.{made_by, AreKept, AllAreKept}
+use Rattle.sim_overshoot_laws.specs.KeptPods.{is_among, Along, AllMatch, ArePutFor}
+use Rattle.sim_overshoot_laws.specs.MadePods.{IsOfSet, StayOfSet, MadePodsStayOfSet, MadePodsAreKept}
+use Rattle.sim_overshoot_laws.specs.Overshoot.{turn_of, made, written, pods_created, each_of_pods, keeps_claims, have_same_labels, is_replica_sets, LetsAlone, LetAlone, NoOvershoot}
+use Rattle.sim_overshoot_laws.specs.Reserves.{is_set, is_controlled, is_turn_for, turn_at}
+use Rattle.sim_overshoot_laws.proofs.Births.{writes-append}
+use Rattle.sim_overshoot_laws.proofs.Bounding.{has_uid, plan_creates}
+use Rattle.sim_overshoot_laws.proofs.Finishing.{now_is, since}
+use Rattle.sim_overshoot_laws.proofs.KeptBounds.{kept_pods_are_few}
+use Rattle.sim_overshoot_laws.proofs.LookedPods.{is_kind}
+use Rattle.sim_overshoot_laws.proofs.LooksOfTurns.{take_past, put_there, pods_seen, set_seen, turn_listed}
+use Rattle.sim_overshoot_laws.proofs.MadeByTurns.{Stays, stays_still, acted}
+use Rattle.sim_overshoot_laws.proofs.Matching.{its_uid}
+use Rattle.sim_overshoot_laws.proofs.OneSelector.{Next, along_at}
+use Rattle.sim_overshoot_laws.proofs.PodsStay.{Onward, known_later, matches_set, many_more, with_labels}
+use Rattle.sim_overshoot_laws.proofs.PodWrites.{WasPod}
+use Rattle.sim_overshoot_laws.proofs.SameTexts.{same_labels, stored_plain}
+use Rattle.sim_overshoot_laws.proofs.Sound.{planes_are_sound}
 
 -- ---- where anybody else writes
 

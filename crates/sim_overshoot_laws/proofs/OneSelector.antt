@@ -2,22 +2,22 @@
 use Rattle.std.proofs.Common.{◌≡◌, ◌≤◌, ◌+◌, ◌-◌, ◌⊎◌, inl, inr, ℕ, zero, suc, List, [], ◌∷◌, ◌++◌, length, take, Bool, true, false, cond, codes, IfSome, Option, Some, None, option_and_then, refl, sym, ap, ◌∙◌, subst, append_assoc, append-nil, arith}
 use Rattle.std.specs.Result.{result_ok}
 use Rattle.serde_json.specs.Data.{Data}
-use Rattle.definitions.proofs.PutLaws.{same_name}
-use Rattle.definitions.specs.declared.kinds.Kind.TheVariants.{ReplicaSet}
-use Rattle.definitions.specs.Checks.{in_spec, is_template_valid, text_or_empty, requirements, is_selected}
-use Rattle.definitions.specs.History.{History, Write, writes, present, state, last_of}
-use Rattle.definitions.specs.Keys.{Key, is_same_key}
-use Rattle.definitions.specs.Metadata.{uid}
-use Rattle.definitions.specs.Reached.{IsReached}
-use Rattle.definitions.specs.Selectors.{Requirement}
-use Rattle.definitions.specs.SelectorValues.{is_some_and, selector_of_value}
-use Rattle.laws.proofs.Traced.{once, stand}
-use Rattle.laws.proofs.Versions.{tells}
-use Rattle.overshoot_laws.specs.KeptPods.{Along}
-use Rattle.overshoot_laws.specs.SetLaws.{SelectorsStay}
-use Rattle.overshoot_laws.proofs.Births.{le_or}
-use Rattle.overshoot_laws.proofs.SameTexts.{Plain, one_text, stored_plain, plain_in_spec}
-use Rattle.overshoot_laws.proofs.StoredSets.{KeepsSelector, selector_text, selectors_kept, sets_match_their_templates}
+use Rattle.spec_api.proofs.PutLaws.{same_name}
+use Rattle.spec_api.specs.declared.kinds.Kind.TheVariants.{ReplicaSet}
+use Rattle.spec_api.specs.Checks.{in_spec, is_template_valid, text_or_empty, requirements, is_selected}
+use Rattle.spec_api.specs.History.{History, Write, writes, present, state, last_of}
+use Rattle.spec_api.specs.Keys.{Key, is_same_key}
+use Rattle.spec_api.specs.Metadata.{uid}
+use Rattle.spec_api.specs.Reached.{IsReached}
+use Rattle.spec_api.specs.Selectors.{Requirement}
+use Rattle.spec_api.specs.SelectorValues.{is_some_and, selector_of_value}
+use Rattle.spec_laws.proofs.Traced.{once, stand}
+use Rattle.spec_laws.proofs.Versions.{tells}
+use Rattle.sim_overshoot_laws.specs.KeptPods.{Along}
+use Rattle.sim_overshoot_laws.specs.SetLaws.{SelectorsStay}
+use Rattle.sim_overshoot_laws.proofs.Births.{le_or}
+use Rattle.sim_overshoot_laws.proofs.SameTexts.{Plain, one_text, stored_plain, plain_in_spec}
+use Rattle.sim_overshoot_laws.proofs.StoredSets.{KeepsSelector, selector_text, selectors_kept, sets_match_their_templates}
 
 -- ---- from one revision to the next
 

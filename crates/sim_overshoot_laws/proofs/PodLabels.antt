@@ -3,29 +3,29 @@ use Rattle.std.proofs.Common.{◌≡◌, ℕ, List, ◌++◌, true, false, true�
 use Rattle.serde_json.specs.Data.{Data, string, array, item, no_items, Members, no_members, put}
 use Rattle.serde_json.specs.Find.{get, get_member}
 use Rattle.serde_json.proofs.Views.{get_member-put, get_member-put_other}
-use Rattle.definitions.proofs.JsonMembers.{apart}
-use Rattle.definitions.proofs.Truths.{right_true}
-use Rattle.definitions.specs.declared.kinds.Kind.TheVariants.{Pod, ReplicaSet}
-use Rattle.definitions.specs.declared.schemas.Schema.TheVariants.{Root, Metadata as TheMetadata, Template, TemplateMetadata, ReplicaSetSpec}
-use Rattle.definitions.specs.Checks.{are_labels_valid, in_spec, is_selected, is_template_valid, requirements}
-use Rattle.definitions.specs.Keys.{Key}
-use Rattle.definitions.specs.Metadata.{labels_of, metadata, metadata_of}
-use Rattle.definitions.specs.NewObjects as new_objects
-use Rattle.definitions.specs.Reading.{is_absent, reading, tidied, tidied_members}
-use Rattle.definitions.specs.Replacements.{as_stored}
-use Rattle.definitions.specs.Schemas.{property_at}
-use Rattle.definitions.specs.Selectors.{Requirement, meets_all}
-use Rattle.definitions.specs.SelectorValues.{is_some_and}
-use Rattle.definitions.specs.Values.{inner_of, without}
-use Rattle.laws.proofs.NeatMembers.{Neat-get, opens}
-use Rattle.laws.proofs.ReadAgain.{filled_members}
-use Rattle.plans.specs.MetadataEdits.{controller_reference}
-use Rattle.plans.specs.NewPods.{new_pod, template}
-use Rattle.plans.specs.Pods.{matches}
-use Rattle.overshoot_laws.specs.SetLaws.{NewPodsMatchTheirSet}
-use Rattle.overshoot_laws.proofs.StoredParts.{member-created}
-use Rattle.overshoot_laws.proofs.StoredPods.{Under, under_put, under_without, under_stored, under_tidied, has_tidied, one_found, metadata_read}
-use Rattle.overshoot_laws.proofs.TidyMembers.{Fine, tidy_in, inner_get, then_some, tidied_fine, none_at}
+use Rattle.spec_api.proofs.JsonMembers.{apart}
+use Rattle.spec_api.proofs.Truths.{right_true}
+use Rattle.spec_api.specs.declared.kinds.Kind.TheVariants.{Pod, ReplicaSet}
+use Rattle.spec_api.specs.declared.schemas.Schema.TheVariants.{Root, Metadata as TheMetadata, Template, TemplateMetadata, ReplicaSetSpec}
+use Rattle.spec_api.specs.Checks.{are_labels_valid, in_spec, is_selected, is_template_valid, requirements}
+use Rattle.spec_api.specs.Keys.{Key}
+use Rattle.spec_api.specs.Metadata.{labels_of, metadata, metadata_of}
+use Rattle.spec_api.specs.NewObjects as new_objects
+use Rattle.spec_api.specs.Reading.{is_absent, reading, tidied, tidied_members}
+use Rattle.spec_api.specs.Replacements.{as_stored}
+use Rattle.spec_api.specs.Schemas.{property_at}
+use Rattle.spec_api.specs.Selectors.{Requirement, meets_all}
+use Rattle.spec_api.specs.SelectorValues.{is_some_and}
+use Rattle.spec_api.specs.Values.{inner_of, without}
+use Rattle.spec_laws.proofs.NeatMembers.{Neat-get, opens}
+use Rattle.spec_laws.proofs.ReadAgain.{filled_members}
+use Rattle.spec_reconcile.specs.MetadataEdits.{controller_reference}
+use Rattle.spec_reconcile.specs.NewPods.{new_pod, template}
+use Rattle.spec_reconcile.specs.Pods.{matches}
+use Rattle.sim_overshoot_laws.specs.SetLaws.{NewPodsMatchTheirSet}
+use Rattle.sim_overshoot_laws.proofs.StoredParts.{member-created}
+use Rattle.sim_overshoot_laws.proofs.StoredPods.{Under, under_put, under_without, under_stored, under_tidied, has_tidied, one_found, metadata_read}
+use Rattle.sim_overshoot_laws.proofs.TidyMembers.{Fine, tidy_in, inner_get, then_some, tidied_fine, none_at}
 
 -- ---- the labels of a set's template
 

@@ -2,36 +2,36 @@
 use Rattle.std.proofs.Common.{◌≡◌, ◌+◌, ◌⊎◌, inl, inr, ◌&&◌, not, ℕ, zero, suc, List, [], ◌∷◌, ◌++◌, length, map, flat_map, filter, replicate, drop, Bool, true, false, cond, codes, bytes_eq, IfSome, Option, Some, None, refl, sym, ap, ◌∙◌, subst}
 use Rattle.std.specs.List.{AllByRecursion}
 use Rattle.serde_json.specs.Data.{Data, Items, object}
-use Rattle.definitions.specs.declared.kinds.Kind.TheVariants.{Pod}
-use Rattle.definitions.specs.Checks.{finalizers}
-use Rattle.definitions.specs.Deletion.{being_deleted, left_by}
-use Rattle.definitions.specs.History.{History, Entries, Write, found, entries_at, present, state}
-use Rattle.definitions.specs.Keys.{Key}
-use Rattle.definitions.specs.Metadata.{metadata, metadata_of, at_revision, is_being_deleted}
-use Rattle.definitions.specs.NewObjects as new_objects
-use Rattle.definitions.specs.ObjectRequests.{update_object}
-use Rattle.definitions.specs.Reached.{IsReached}
-use Rattle.definitions.specs.Reading.{reading}
-use Rattle.definitions.specs.Replacements.{says_the_same, with_status_in}
-use Rattle.definitions.specs.Verbs.{Outcome, accept, new_name, object_in, write_of}
-use Rattle.controllers.specs.declared.controller.Controller.{Controller}
-use Rattle.controllers.specs.declared.controller.Controller.TheVariants as controller
-use Rattle.controllers.specs.Commands.{Command, create, update, update_status, delete, request_of}
-use Rattle.controllers.specs.Hands.{Hand, live}
-use Rattle.laws.specs.LifecycleLaws.{OfReplaced}
-use Rattle.laws.proofs.Cases.{of_create, of_status, of_delete}
-use Rattle.laws.proofs.Removals.{member-restated}
-use Rattle.laws.proofs.VerbLaws.{found-state, none_from, of_held, of_none}
-use Rattle.plans.specs.NewPods.{new_pod}
-use Rattle.plans.specs.MetadataEdits.{with_list}
-use Rattle.plans.specs.PodClaims.{claim, claims, is_released, released, is_adoptable, adopted, may_adopt, own_pods}
-use Rattle.plans.specs.PodRanks.{missing, victims}
-use Rattle.plans.specs.ReplicaSets.{set_looked_at, pods_looked_at, replicas, status, with_status, delete_pod, scale, scale_if, report, new_status, plan_with, plan_of}
-use Rattle.reconciling.specs.Turns.{Turn, begun, hand, plan_by, left as still_left}
-use Rattle.overshoot_laws.specs.Overshoot.{is_replica_sets}
-use Rattle.overshoot_laws.proofs.LookedPods.{IsStanding}
-use Rattle.overshoot_laws.proofs.StoredParts.{member-marked}
-use Rattle.overshoot_laws.proofs.TurnWrites.{edits_replace}
+use Rattle.spec_api.specs.declared.kinds.Kind.TheVariants.{Pod}
+use Rattle.spec_api.specs.Checks.{finalizers}
+use Rattle.spec_api.specs.Deletion.{being_deleted, left_by}
+use Rattle.spec_api.specs.History.{History, Entries, Write, found, entries_at, present, state}
+use Rattle.spec_api.specs.Keys.{Key}
+use Rattle.spec_api.specs.Metadata.{metadata, metadata_of, at_revision, is_being_deleted}
+use Rattle.spec_api.specs.NewObjects as new_objects
+use Rattle.spec_api.specs.ObjectRequests.{update_object}
+use Rattle.spec_api.specs.Reached.{IsReached}
+use Rattle.spec_api.specs.Reading.{reading}
+use Rattle.spec_api.specs.Replacements.{says_the_same, with_status_in}
+use Rattle.spec_api.specs.Verbs.{Outcome, accept, new_name, object_in, write_of}
+use Rattle.spec_client_go.specs.declared.controller.Controller.{Controller}
+use Rattle.spec_client_go.specs.declared.controller.Controller.TheVariants as controller
+use Rattle.spec_client_go.specs.Commands.{Command, create, update, update_status, delete, request_of}
+use Rattle.spec_client_go.specs.Hands.{Hand, live}
+use Rattle.spec_laws.specs.LifecycleLaws.{OfReplaced}
+use Rattle.spec_laws.proofs.Cases.{of_create, of_status, of_delete}
+use Rattle.spec_laws.proofs.Removals.{member-restated}
+use Rattle.spec_laws.proofs.VerbLaws.{found-state, none_from, of_held, of_none}
+use Rattle.spec_reconcile.specs.NewPods.{new_pod}
+use Rattle.spec_reconcile.specs.MetadataEdits.{with_list}
+use Rattle.spec_reconcile.specs.PodClaims.{claim, claims, is_released, released, is_adoptable, adopted, may_adopt, own_pods}
+use Rattle.spec_reconcile.specs.PodRanks.{missing, victims}
+use Rattle.spec_reconcile.specs.ReplicaSets.{set_looked_at, pods_looked_at, replicas, status, with_status, delete_pod, scale, scale_if, report, new_status, plan_with, plan_of}
+use Rattle.spec_sim_control_plane.specs.Turns.{Turn, begun, hand, plan_by, left as still_left}
+use Rattle.sim_overshoot_laws.specs.Overshoot.{is_replica_sets}
+use Rattle.sim_overshoot_laws.proofs.LookedPods.{IsStanding}
+use Rattle.sim_overshoot_laws.proofs.StoredParts.{member-marked}
+use Rattle.sim_overshoot_laws.proofs.TurnWrites.{edits_replace}
 
 -- ---- what a plan commands, of pods that are so
 

@@ -4,32 +4,32 @@ use Rattle.std.proofs.lemmas.Slice.Eq.{bytes_eq-Decides}
 use Rattle.std.specs.List.{list_any, AllByRecursion}
 use Rattle.std.specs.Result.{result_ok}
 use Rattle.serde_json.specs.Data.{Data}
-use Rattle.definitions.proofs.Truths.{both_true, left_true, right_true}
-use Rattle.definitions.specs.declared.kinds.Kind.TheVariants.{Pod, ReplicaSet}
-use Rattle.definitions.specs.Checks.{controllers, in_spec}
-use Rattle.definitions.specs.History.{History, present, state}
-use Rattle.definitions.specs.Keys.{Key}
-use Rattle.definitions.specs.Metadata as metadata
-use Rattle.definitions.specs.Metadata.{uid, owners, owners_in, is_being_deleted}
-use Rattle.definitions.specs.Reached.{IsReached}
-use Rattle.definitions.specs.Selectors.{Requirement, meets_all}
-use Rattle.definitions.specs.SelectorValues.{is_some_and, selector_of_value}
-use Rattle.definitions.specs.Values.{inner_of}
-use Rattle.controllers.specs.Expectations.{Owner}
-use Rattle.controllers.specs.OwnerReferences.{is_text, is_controlled_by, has_controller, namespace_of}
-use Rattle.laws.proofs.Traced.{once, stand}
-use Rattle.plans.specs.PodClaims.{have_one_uid, is_released, is_adoptable}
-use Rattle.plans.specs.Pods.{is_active, is_owned, is_orphan, matches}
-use Rattle.reconciling_laws.proofs.Growing.{state_stands, present_grows}
-use Rattle.overshoot_laws.specs.KeptPods.{is_among}
-use Rattle.overshoot_laws.specs.MadePods.{IsOfSet}
-use Rattle.overshoot_laws.specs.Reserves.{is_controlled}
-use Rattle.overshoot_laws.proofs.Births.{le_or}
-use Rattle.overshoot_laws.proofs.KeptPods.{same_uid}
-use Rattle.overshoot_laws.proofs.OneSelector.{selectors_stay}
-use Rattle.overshoot_laws.proofs.OwnPods.{has_reference}
-use Rattle.overshoot_laws.proofs.PodWrites.{Replaces}
-use Rattle.overshoot_laws.proofs.KeptReferences.{have_one_controller, same_controlled}
+use Rattle.spec_api.proofs.Truths.{both_true, left_true, right_true}
+use Rattle.spec_api.specs.declared.kinds.Kind.TheVariants.{Pod, ReplicaSet}
+use Rattle.spec_api.specs.Checks.{controllers, in_spec}
+use Rattle.spec_api.specs.History.{History, present, state}
+use Rattle.spec_api.specs.Keys.{Key}
+use Rattle.spec_api.specs.Metadata as metadata
+use Rattle.spec_api.specs.Metadata.{uid, owners, owners_in, is_being_deleted}
+use Rattle.spec_api.specs.Reached.{IsReached}
+use Rattle.spec_api.specs.Selectors.{Requirement, meets_all}
+use Rattle.spec_api.specs.SelectorValues.{is_some_and, selector_of_value}
+use Rattle.spec_api.specs.Values.{inner_of}
+use Rattle.spec_client_go.specs.Expectations.{Owner}
+use Rattle.spec_client_go.specs.OwnerReferences.{is_text, is_controlled_by, has_controller, namespace_of}
+use Rattle.spec_laws.proofs.Traced.{once, stand}
+use Rattle.spec_reconcile.specs.PodClaims.{have_one_uid, is_released, is_adoptable}
+use Rattle.spec_reconcile.specs.Pods.{is_active, is_owned, is_orphan, matches}
+use Rattle.sim_worker_laws.proofs.Growing.{state_stands, present_grows}
+use Rattle.sim_overshoot_laws.specs.KeptPods.{is_among}
+use Rattle.sim_overshoot_laws.specs.MadePods.{IsOfSet}
+use Rattle.sim_overshoot_laws.specs.Reserves.{is_controlled}
+use Rattle.sim_overshoot_laws.proofs.Births.{le_or}
+use Rattle.sim_overshoot_laws.proofs.KeptPods.{same_uid}
+use Rattle.sim_overshoot_laws.proofs.OneSelector.{selectors_stay}
+use Rattle.sim_overshoot_laws.proofs.OwnPods.{has_reference}
+use Rattle.sim_overshoot_laws.proofs.PodWrites.{Replaces}
+use Rattle.sim_overshoot_laws.proofs.KeptReferences.{have_one_controller, same_controlled}
 
 -- ---- one controller
 

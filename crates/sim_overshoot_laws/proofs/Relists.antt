@@ -2,26 +2,26 @@
 use Rattle.std.proofs.Common.{◌≡◌, ◌≤◌, ◌+◌, ◌&&◌, ℕ, List, [], ◌∷◌, ◌++◌, filter, not, Bool, true, false, cond, is_some, Option, Some, None, Greater, is_eq, refl, sym, ap, ◌∙◌, subst, arith}
 use Rattle.std.specs.Cmp.{tied_itself}
 use Rattle.std.specs.List.{AllByRecursion}
-use Rattle.definitions.specs.SelectorValues.{is_some_and}
+use Rattle.spec_api.specs.SelectorValues.{is_some_and}
 use Rattle.std.proofs.lemmas.Slice.Eq.{bytes_eq-Decides}
 use Rattle.std.specs.Ordering.{ordering_reverse}
 use Rattle.serde_json.specs.Data.{Data}
-use Rattle.definitions.specs.declared.kinds.Kind.{Kind}
-use Rattle.definitions.specs.declared.kinds.Kind.TheVariants.{ConfigMap, Pod, ReplicaSet, Deployment}
-use Rattle.definitions.specs.History.{History, Entries, present, state, up_to, entries_at, found, list, unfiltered, in_view, seen}
-use Rattle.definitions.specs.Keys.{Key, key_cmp}
-use Rattle.definitions.specs.Metadata.{uid, is_being_deleted}
-use Rattle.definitions.proofs.PutLaws.{name_cmp_total, IsAscending, IsAbove, IsAscending-after_all, found-after_all, found-viewed}
-use Rattle.controllers.specs.Expectations.{Owner}
-use Rattle.controllers.specs.OwedKeys.{one_of}
-use Rattle.controllers.specs.OwnerReferences.{is_text}
-use Rattle.controllers.specs.Shifts.{shifts_between}
-use Rattle.simulation.specs.Followers.{notified}
-use Rattle.reconciling.specs.PodObservations.{observations_by, observations_of_pod, creation, deletion, is_same_pod, was_being_deleted}
-use Rattle.overshoot_laws.specs.Reserves.{shown, to_be_seen, born}
-use Rattle.overshoot_laws.specs.StockLaws.{stock, shown_at, new_at, RelistsShowBirths}
-use Rattle.overshoot_laws.proofs.ListedAgain.{ascending, lists_show, no_creation, shown-append}
-use Rattle.overshoot_laws.proofs.Stocks.{stocks_grow}
+use Rattle.spec_api.specs.declared.kinds.Kind.{Kind}
+use Rattle.spec_api.specs.declared.kinds.Kind.TheVariants.{ConfigMap, Pod, ReplicaSet, Deployment}
+use Rattle.spec_api.specs.History.{History, Entries, present, state, up_to, entries_at, found, list, unfiltered, in_view, seen}
+use Rattle.spec_api.specs.Keys.{Key, key_cmp}
+use Rattle.spec_api.specs.Metadata.{uid, is_being_deleted}
+use Rattle.spec_api.proofs.PutLaws.{name_cmp_total, IsAscending, IsAbove, IsAscending-after_all, found-after_all, found-viewed}
+use Rattle.spec_client_go.specs.Expectations.{Owner}
+use Rattle.spec_client_go.specs.OwedKeys.{one_of}
+use Rattle.spec_client_go.specs.OwnerReferences.{is_text}
+use Rattle.spec_client_go.specs.Shifts.{shifts_between}
+use Rattle.spec_sim_cluster.specs.Followers.{notified}
+use Rattle.spec_sim_control_plane.specs.PodObservations.{observations_by, observations_of_pod, creation, deletion, is_same_pod, was_being_deleted}
+use Rattle.sim_overshoot_laws.specs.Reserves.{shown, to_be_seen, born}
+use Rattle.sim_overshoot_laws.specs.StockLaws.{stock, shown_at, new_at, RelistsShowBirths}
+use Rattle.sim_overshoot_laws.proofs.ListedAgain.{ascending, lists_show, no_creation, shown-append}
+use Rattle.sim_overshoot_laws.proofs.Stocks.{stocks_grow}
 
 -- ---- each entry is found
 

@@ -8,25 +8,25 @@ use Rattle.serde_json.specs.Data.{Data, null, boolean, number, string, array, ob
 use Rattle.serde_json.specs.Find.{get, get_member, as_object}
 use Rattle.serde_json.specs.Read.{read}
 use Rattle.serde_json.specs.Written.{compact_text, has_float, members_have_float}
-use Rattle.definitions.proofs.NoFloatsRead.{has_float-is_body}
-use Rattle.definitions.proofs.Truths.{both_true, both_false}
-use Rattle.definitions.specs.declared.schemas.Shape.TheVariants.{Object}
-use Rattle.definitions.specs.declared.schemas.Schema.TheVariants.{Root}
-use Rattle.definitions.specs.Checks.{in_spec}
-use Rattle.definitions.specs.History.{History, Write, writes, state}
-use Rattle.definitions.specs.Keys.{Key}
-use Rattle.definitions.specs.Metadata.{metadata, metadata_of, labels_of}
-use Rattle.definitions.specs.Reached.{IsParsed, IsReached}
-use Rattle.definitions.specs.Reading.{reading, filled, fits, is_body, tidied}
-use Rattle.definitions.specs.Values.{inner_of}
-use Rattle.laws.specs.SentLaws.{IsKept, AreKept}
-use Rattle.laws.proofs.EachWrite.{AllPut, there_put}
-use Rattle.laws.proofs.Parsed.{found}
-use Rattle.laws.proofs.ParsedEdits.{stored_parsed}
-use Rattle.laws.proofs.ReadAgain.{opened}
-use Rattle.laws.proofs.ReadBack.{read_back}
-use Rattle.laws.proofs.Stored.{all_are_kept}
-use Rattle.overshoot_laws.specs.Overshoot.{have_same_labels}
+use Rattle.spec_api.proofs.NoFloatsRead.{has_float-is_body}
+use Rattle.spec_api.proofs.Truths.{both_true, both_false}
+use Rattle.spec_api.specs.declared.schemas.Shape.TheVariants.{Object}
+use Rattle.spec_api.specs.declared.schemas.Schema.TheVariants.{Root}
+use Rattle.spec_api.specs.Checks.{in_spec}
+use Rattle.spec_api.specs.History.{History, Write, writes, state}
+use Rattle.spec_api.specs.Keys.{Key}
+use Rattle.spec_api.specs.Metadata.{metadata, metadata_of, labels_of}
+use Rattle.spec_api.specs.Reached.{IsParsed, IsReached}
+use Rattle.spec_api.specs.Reading.{reading, filled, fits, is_body, tidied}
+use Rattle.spec_api.specs.Values.{inner_of}
+use Rattle.spec_laws.specs.SentLaws.{IsKept, AreKept}
+use Rattle.spec_laws.proofs.EachWrite.{AllPut, there_put}
+use Rattle.spec_laws.proofs.Parsed.{found}
+use Rattle.spec_laws.proofs.ParsedEdits.{stored_parsed}
+use Rattle.spec_laws.proofs.ReadAgain.{opened}
+use Rattle.spec_laws.proofs.ReadBack.{read_back}
+use Rattle.spec_laws.proofs.Stored.{all_are_kept}
+use Rattle.sim_overshoot_laws.specs.Overshoot.{have_same_labels}
 
 -- ---- what is stored reads as itself
 

@@ -3,19 +3,19 @@ use Rattle.std.proofs.Common.{◌≡◌, ℕ, List, [], ◌∷◌, Bool, true, f
 use Rattle.serde_json.specs.Data.{Data, Items, Members, object, string, array, put}
 use Rattle.serde_json.specs.Find.{get, get_member}
 use Rattle.serde_json.proofs.Views.{get_member-put_other}
-use Rattle.definitions.specs.declared.kinds.Kind.{Kind}
-use Rattle.definitions.specs.Defaults.{unsigned_value}
-use Rattle.definitions.specs.Deletion.{being_deleted, with_deletion}
-use Rattle.definitions.specs.Kinds.{has_generation, has_status}
-use Rattle.definitions.specs.Metadata.{metadata, metadata_of, with_metadata, at_revision, is_being_deleted}
-use Rattle.definitions.specs.NewObjects as new_objects
-use Rattle.definitions.specs.NewObjects.{with_first_status, with_generation}
-use Rattle.definitions.specs.Replacements.{keeping, unchanged_metadata, unchanged_members, in_place, is_new_generation, updated, status_in, with_status_in, with_next_generation}
-use Rattle.definitions.specs.Values.{members_of, without}
-use Rattle.definitions.proofs.FirstStatus.{get-members_of, get-status}
-use Rattle.definitions.proofs.JsonMembers.{apart, get_member-without_other, metadata_of-with}
-use Rattle.laws.proofs.Removals.{member-at_revision, member-with_next_generation}
-use Rattle.laws.proofs.SetMetadata.{member-as_held_other}
+use Rattle.spec_api.specs.declared.kinds.Kind.{Kind}
+use Rattle.spec_api.specs.Defaults.{unsigned_value}
+use Rattle.spec_api.specs.Deletion.{being_deleted, with_deletion}
+use Rattle.spec_api.specs.Kinds.{has_generation, has_status}
+use Rattle.spec_api.specs.Metadata.{metadata, metadata_of, with_metadata, at_revision, is_being_deleted}
+use Rattle.spec_api.specs.NewObjects as new_objects
+use Rattle.spec_api.specs.NewObjects.{with_first_status, with_generation}
+use Rattle.spec_api.specs.Replacements.{keeping, unchanged_metadata, unchanged_members, in_place, is_new_generation, updated, status_in, with_status_in, with_next_generation}
+use Rattle.spec_api.specs.Values.{members_of, without}
+use Rattle.spec_api.proofs.FirstStatus.{get-members_of, get-status}
+use Rattle.spec_api.proofs.JsonMembers.{apart, get_member-without_other, metadata_of-with}
+use Rattle.spec_laws.proofs.Removals.{member-at_revision, member-with_next_generation}
+use Rattle.spec_laws.proofs.SetMetadata.{member-as_held_other}
 
 -- ---- members of the metadata
 

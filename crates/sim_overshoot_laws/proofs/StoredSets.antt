@@ -4,34 +4,34 @@ use Rattle.std.proofs.lemmas.Slice.Eq.{bytes_eq-Decides}
 use Rattle.std.specs.Result.{result_ok}
 use Rattle.serde_json.specs.Data.{Data}
 use Rattle.serde_json.specs.Find.{get}
-use Rattle.definitions.proofs.Truths.{both_true}
-use Rattle.definitions.specs.declared.kinds.Kind.{Kind}
-use Rattle.definitions.specs.declared.kinds.Kind.TheVariants.{ConfigMap, Pod, ReplicaSet, Deployment}
-use Rattle.definitions.specs.Checks.{finalizers, checks, checks_of, adds_no_finalizer, is_selector_kept, is_selected, is_template_valid, in_spec, text_or_empty}
-use Rattle.definitions.specs.Deletion.{left_by, being_deleted}
-use Rattle.definitions.specs.History.{History, Write, write, writes, present, state, last_of, found, entries_at}
-use Rattle.definitions.specs.Keys.{Key}
-use Rattle.definitions.specs.Metadata.{metadata_of, at_revision}
-use Rattle.definitions.specs.NewObjects.{created, with_first_status}
-use Rattle.definitions.specs.ObjectRequests.{Request}
-use Rattle.definitions.specs.Reached.{IsReached}
-use Rattle.definitions.specs.Replacements.{in_place, updated, with_status_in}
-use Rattle.definitions.specs.Selectors.{Requirement}
-use Rattle.definitions.specs.SelectorValues.{is_some_and, selector_of_value}
-use Rattle.definitions.specs.Verbs.{accept, new_name, with_write, write_of}
-use Rattle.laws.specs.HistoryLaws.{OfStored}
-use Rattle.laws.specs.LifecycleLaws.{OfReplaced}
-use Rattle.laws.proofs.Cases.{of_accept}
-use Rattle.laws.proofs.CheckLaws.{AllMet, all_met}
-use Rattle.laws.proofs.Compacted.{same_writes}
-use Rattle.laws.proofs.EachWrite.{AllPut, put_write, there_put}
-use Rattle.laws.proofs.Reaching.{by_reached}
-use Rattle.laws.proofs.VerbLaws.{found-state, none_from, of_held, of_none}
-use Rattle.overshoot_laws.specs.KeptPods.{Along}
-use Rattle.overshoot_laws.specs.SetLaws.{SetsMatchTheirTemplates}
-use Rattle.overshoot_laws.proofs.Births.{writes-append}
-use Rattle.overshoot_laws.proofs.Finishing.{along_last, now_is}
-use Rattle.overshoot_laws.proofs.StoredParts.{spec, spec-created, spec-updated, spec-restated, spec-marked}
+use Rattle.spec_api.proofs.Truths.{both_true}
+use Rattle.spec_api.specs.declared.kinds.Kind.{Kind}
+use Rattle.spec_api.specs.declared.kinds.Kind.TheVariants.{ConfigMap, Pod, ReplicaSet, Deployment}
+use Rattle.spec_api.specs.Checks.{finalizers, checks, checks_of, adds_no_finalizer, is_selector_kept, is_selected, is_template_valid, in_spec, text_or_empty}
+use Rattle.spec_api.specs.Deletion.{left_by, being_deleted}
+use Rattle.spec_api.specs.History.{History, Write, write, writes, present, state, last_of, found, entries_at}
+use Rattle.spec_api.specs.Keys.{Key}
+use Rattle.spec_api.specs.Metadata.{metadata_of, at_revision}
+use Rattle.spec_api.specs.NewObjects.{created, with_first_status}
+use Rattle.spec_api.specs.ObjectRequests.{Request}
+use Rattle.spec_api.specs.Reached.{IsReached}
+use Rattle.spec_api.specs.Replacements.{in_place, updated, with_status_in}
+use Rattle.spec_api.specs.Selectors.{Requirement}
+use Rattle.spec_api.specs.SelectorValues.{is_some_and, selector_of_value}
+use Rattle.spec_api.specs.Verbs.{accept, new_name, with_write, write_of}
+use Rattle.spec_laws.specs.HistoryLaws.{OfStored}
+use Rattle.spec_laws.specs.LifecycleLaws.{OfReplaced}
+use Rattle.spec_laws.proofs.Cases.{of_accept}
+use Rattle.spec_laws.proofs.CheckLaws.{AllMet, all_met}
+use Rattle.spec_laws.proofs.Compacted.{same_writes}
+use Rattle.spec_laws.proofs.EachWrite.{AllPut, put_write, there_put}
+use Rattle.spec_laws.proofs.Reaching.{by_reached}
+use Rattle.spec_laws.proofs.VerbLaws.{found-state, none_from, of_held, of_none}
+use Rattle.sim_overshoot_laws.specs.KeptPods.{Along}
+use Rattle.sim_overshoot_laws.specs.SetLaws.{SetsMatchTheirTemplates}
+use Rattle.sim_overshoot_laws.proofs.Births.{writes-append}
+use Rattle.sim_overshoot_laws.proofs.Finishing.{along_last, now_is}
+use Rattle.sim_overshoot_laws.proofs.StoredParts.{spec, spec-created, spec-updated, spec-restated, spec-marked}
 
 -- ---- a template that the selector matches
 

@@ -5,13 +5,13 @@ use Rattle.std.specs.Cmp.Lexicographic.{slice_cmp}
 use Rattle.std.specs.Ordering.{match_ordering}
 use Rattle.serde_json.specs.Data.{Data, null, boolean, number, string, array, object, Members, no_members, member}
 use Rattle.serde_json.specs.Find.{get, get_member}
-use Rattle.definitions.specs.declared.schemas.Schema.{Schema}
-use Rattle.definitions.specs.declared.schemas.Shape.TheVariants.{Object as ObjectOf}
-use Rattle.definitions.specs.Reading.{is_absent, tidied, tidied_members}
-use Rattle.definitions.specs.Schemas.{property_at}
-use Rattle.definitions.specs.Values.{inner_of}
-use Rattle.laws.proofs.ReadAgain.{IsTidy, MembersTidy, same_name, tidied_members-MembersTidy}
-use Rattle.overshoot_laws.proofs.StoredPods.{Under}
+use Rattle.spec_api.specs.declared.schemas.Schema.{Schema}
+use Rattle.spec_api.specs.declared.schemas.Shape.TheVariants.{Object as ObjectOf}
+use Rattle.spec_api.specs.Reading.{is_absent, tidied, tidied_members}
+use Rattle.spec_api.specs.Schemas.{property_at}
+use Rattle.spec_api.specs.Values.{inner_of}
+use Rattle.spec_laws.proofs.ReadAgain.{IsTidy, MembersTidy, same_name, tidied_members-MembersTidy}
+use Rattle.sim_overshoot_laws.proofs.StoredPods.{Under}
 
 -- ---- what is found among tidy members
 

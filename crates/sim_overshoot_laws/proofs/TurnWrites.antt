@@ -6,27 +6,27 @@ use Rattle.std.specs.Option.{option_and_then}
 use Rattle.serde_json.specs.Data.{Data, null, boolean, number, string, array, object, Items, put}
 use Rattle.serde_json.specs.Find.{get_member, as_str}
 use Rattle.serde_json.proofs.Views.{get_member-put, get_member-put_other}
-use Rattle.definitions.proofs.JsonMembers.{apart}
-use Rattle.definitions.specs.declared.kinds.Kind.TheVariants.{Pod}
-use Rattle.definitions.specs.declared.schemas.Schema.TheVariants.{Root, Metadata as TheMetadata}
-use Rattle.definitions.specs.declared.schemas.Shape.TheVariants.{Object as ObjectOf}
-use Rattle.definitions.specs.History.{History, present, found, entries_at, state}
-use Rattle.definitions.specs.Keys.{Key}
-use Rattle.definitions.specs.Metadata.{metadata_of, version, differs}
-use Rattle.definitions.specs.ObjectRequests.{update_object}
-use Rattle.definitions.specs.Reached.{IsReached}
-use Rattle.definitions.specs.Reading.{reading, filled, tidied, tidied_members, is_body, fits}
-use Rattle.definitions.specs.Values.{members_of, inner_of}
-use Rattle.definitions.specs.Verbs.{accept, object_in, write_of}
-use Rattle.laws.proofs.Cases.{of_update}
-use Rattle.laws.proofs.Limited.{limited}
-use Rattle.laws.proofs.ReadAgain.{opened}
-use Rattle.laws.proofs.VerbLaws.{found-state, same}
-use Rattle.laws.proofs.Versions.{tells, names_one}
-use Rattle.plans.specs.MetadataEdits.{with_list}
-use Rattle.overshoot_laws.proofs.StoredPods.{metadata_of-filled}
-use Rattle.overshoot_laws.proofs.Strangers.{plain}
-use Rattle.overshoot_laws.proofs.TidyMembers.{found_tidied}
+use Rattle.spec_api.proofs.JsonMembers.{apart}
+use Rattle.spec_api.specs.declared.kinds.Kind.TheVariants.{Pod}
+use Rattle.spec_api.specs.declared.schemas.Schema.TheVariants.{Root, Metadata as TheMetadata}
+use Rattle.spec_api.specs.declared.schemas.Shape.TheVariants.{Object as ObjectOf}
+use Rattle.spec_api.specs.History.{History, present, found, entries_at, state}
+use Rattle.spec_api.specs.Keys.{Key}
+use Rattle.spec_api.specs.Metadata.{metadata_of, version, differs}
+use Rattle.spec_api.specs.ObjectRequests.{update_object}
+use Rattle.spec_api.specs.Reached.{IsReached}
+use Rattle.spec_api.specs.Reading.{reading, filled, tidied, tidied_members, is_body, fits}
+use Rattle.spec_api.specs.Values.{members_of, inner_of}
+use Rattle.spec_api.specs.Verbs.{accept, object_in, write_of}
+use Rattle.spec_laws.proofs.Cases.{of_update}
+use Rattle.spec_laws.proofs.Limited.{limited}
+use Rattle.spec_laws.proofs.ReadAgain.{opened}
+use Rattle.spec_laws.proofs.VerbLaws.{found-state, same}
+use Rattle.spec_laws.proofs.Versions.{tells, names_one}
+use Rattle.spec_reconcile.specs.MetadataEdits.{with_list}
+use Rattle.sim_overshoot_laws.proofs.StoredPods.{metadata_of-filled}
+use Rattle.sim_overshoot_laws.proofs.Strangers.{plain}
+use Rattle.sim_overshoot_laws.proofs.TidyMembers.{found_tidied}
 
 -- ---- what is read of it
 

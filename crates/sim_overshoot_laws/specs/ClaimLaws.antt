@@ -1,18 +1,18 @@
 -- A pod that is given the reference to a set was there at the revision that is published, so a run that lets the set alone is fair to it.
 use Rattle.std.specs.Prelude.{◌≡◌, ◌≤◌, ℕ, List, true, Some}
 use Rattle.serde_json.specs.Data.{Data}
-use Rattle.definitions.specs.Checks.{controllers}
-use Rattle.definitions.specs.History.{History, state}
-use Rattle.definitions.specs.Keys.{Key}
-use Rattle.definitions.specs.Metadata.{owners}
-use Rattle.definitions.specs.Reached.{IsReached}
-use Rattle.controllers.specs.Expectations.{Owner}
-use Rattle.simulation.specs.declared.initial_syncs.InitialSync.{InitialSync}
-use Rattle.simulation.specs.Clusters.{history}
-use Rattle.reconciling.specs.ControlPlanes.{Step, opened, run}
-use Rattle.overshoot_laws.specs.Overshoot.{LetAlone}
-use Rattle.overshoot_laws.specs.ShowLaws.{AreClaimedSince}
-use Rattle.overshoot_laws.specs.StepLaws.{AreFair}
+use Rattle.spec_api.specs.Checks.{controllers}
+use Rattle.spec_api.specs.History.{History, state}
+use Rattle.spec_api.specs.Keys.{Key}
+use Rattle.spec_api.specs.Metadata.{owners}
+use Rattle.spec_api.specs.Reached.{IsReached}
+use Rattle.spec_client_go.specs.Expectations.{Owner}
+use Rattle.spec_sim_cluster.specs.declared.initial_syncs.InitialSync.{InitialSync}
+use Rattle.spec_sim_cluster.specs.Clusters.{history}
+use Rattle.spec_sim_control_plane.specs.ControlPlanes.{Step, opened, run}
+use Rattle.sim_overshoot_laws.specs.Overshoot.{LetAlone}
+use Rattle.sim_overshoot_laws.specs.ShowLaws.{AreClaimedSince}
+use Rattle.sim_overshoot_laws.specs.StepLaws.{AreFair}
 
 -- whoever asked, of the owners that an object names at most one is its controller (Kubernetes, Owners and Dependents)
 abbrev pub StoredHaveOneController : Type 0

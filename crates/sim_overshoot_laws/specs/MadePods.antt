@@ -1,19 +1,19 @@
 -- What becomes of the pods that are made for a set: they stay the set's own, and match it.
 use Rattle.std.specs.Prelude.{◌≡◌, ◌≤◌, ℕ, List, [], true, Some}
 use Rattle.serde_json.specs.Data.{Data}
-use Rattle.definitions.specs.declared.kinds.Kind.TheVariants.{Pod, ReplicaSet}
-use Rattle.definitions.specs.History.{History, present, state}
-use Rattle.definitions.specs.Keys.{Key}
-use Rattle.definitions.specs.Metadata.{uid}
-use Rattle.controllers.specs.Expectations.{Owner}
-use Rattle.plans.specs.Pods.{matches}
-use Rattle.reconciling.specs.ControlPlanes.{Step, opened, run}
-use Rattle.simulation.specs.declared.initial_syncs.InitialSync.{InitialSync}
-use Rattle.simulation.specs.Clusters.{history}
-use Rattle.overshoot_laws.specs.BoundRuns.{AllAreKept}
-use Rattle.overshoot_laws.specs.KeptPods.{is_among}
-use Rattle.overshoot_laws.specs.Overshoot.{made, LetAlone}
-use Rattle.overshoot_laws.specs.Reserves.{is_controlled}
+use Rattle.spec_api.specs.declared.kinds.Kind.TheVariants.{Pod, ReplicaSet}
+use Rattle.spec_api.specs.History.{History, present, state}
+use Rattle.spec_api.specs.Keys.{Key}
+use Rattle.spec_api.specs.Metadata.{uid}
+use Rattle.spec_client_go.specs.Expectations.{Owner}
+use Rattle.spec_reconcile.specs.Pods.{matches}
+use Rattle.spec_sim_control_plane.specs.ControlPlanes.{Step, opened, run}
+use Rattle.spec_sim_cluster.specs.declared.initial_syncs.InitialSync.{InitialSync}
+use Rattle.spec_sim_cluster.specs.Clusters.{history}
+use Rattle.sim_overshoot_laws.specs.BoundRuns.{AllAreKept}
+use Rattle.sim_overshoot_laws.specs.KeptPods.{is_among}
+use Rattle.sim_overshoot_laws.specs.Overshoot.{made, LetAlone}
+use Rattle.sim_overshoot_laws.specs.Reserves.{is_controlled}
 
 -- a pod names the set as its controller, and the set, as it was at a revision, matches it
 pub record IsOfSet (o : Owner) (h : History) (pod : Data) : Type 0 where

@@ -1,16 +1,16 @@
 -- What is so of every ReplicaSet, whenever it is there and whoever asked: it keeps its selector, which matches the pods that are made of its template.
 use Rattle.std.specs.Prelude.{◌≡◌, ◌≤◌, ℕ, List, true, Some, Ok, codes}
 use Rattle.serde_json.specs.Data.{Data}
-use Rattle.definitions.specs.declared.kinds.Kind.TheVariants.{Pod, ReplicaSet}
-use Rattle.definitions.specs.Checks.{in_spec, is_template_valid}
-use Rattle.definitions.specs.History.{History, present, state}
-use Rattle.definitions.specs.Keys.{Key}
-use Rattle.definitions.specs.Metadata.{uid}
-use Rattle.definitions.specs.NewObjects.{created}
-use Rattle.definitions.specs.Reached.{IsReached}
-use Rattle.definitions.specs.Reading.{reading}
-use Rattle.plans.specs.NewPods.{new_pod}
-use Rattle.plans.specs.Pods.{matches}
+use Rattle.spec_api.specs.declared.kinds.Kind.TheVariants.{Pod, ReplicaSet}
+use Rattle.spec_api.specs.Checks.{in_spec, is_template_valid}
+use Rattle.spec_api.specs.History.{History, present, state}
+use Rattle.spec_api.specs.Keys.{Key}
+use Rattle.spec_api.specs.Metadata.{uid}
+use Rattle.spec_api.specs.NewObjects.{created}
+use Rattle.spec_api.specs.Reached.{IsReached}
+use Rattle.spec_api.specs.Reading.{reading}
+use Rattle.spec_reconcile.specs.NewPods.{new_pod}
+use Rattle.spec_reconcile.specs.Pods.{matches}
 
 -- the selector of a set matches its template
 abbrev pub SetsMatchTheirTemplates : Type 0

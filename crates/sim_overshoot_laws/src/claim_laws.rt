@@ -1,5 +1,5 @@
 //! Laws of who is given the reference to a set, and of what a run is to a set that it lets alone.
-ghost use Rattle.overshoot_laws.specs.ClaimLaws.{StoredHaveOneController, LetAloneIsClaimed, LetAloneIsFair};
+ghost use Rattle.sim_overshoot_laws.specs.ClaimLaws.{StoredHaveOneController, LetAloneIsClaimed, LetAloneIsFair};
 
 /// Whoever asked, of the owners that an object names at most one is its controller.
 pub fn stored_have_one_controller()

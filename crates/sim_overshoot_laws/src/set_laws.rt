@@ -1,5 +1,5 @@
 //! Laws of ReplicaSets and their selectors, whoever asks.
-ghost use Rattle.overshoot_laws.specs.SetLaws.{SetsMatchTheirTemplates, SelectorsStay, NewPodsMatchTheirSet};
+ghost use Rattle.sim_overshoot_laws.specs.SetLaws.{SetsMatchTheirTemplates, SelectorsStay, NewPodsMatchTheirSet};
 
 /// The selector of a ReplicaSet matches its template, whenever it is there.
 pub fn sets_match_their_templates()

@@ -1,25 +1,25 @@
 -- What a session changes is what is added to all that has happened.
 use Rattle.std.proofs.Common.{◌≡◌, ℕ, List, [], ◌∷◌, ◌++◌, Bool, true, false, cond, Option, Some, None, Result, Ok, Err, refl, sym, ap, subst, ◌∙◌}
 use Rattle.std.specs.Prelude.{nat_lt}
-use Rattle.definitions.specs.declared.kinds.Kind.{Kind}
-use Rattle.definitions.specs.History as history
-use Rattle.definitions.specs.History.{History, View, write, compaction, present}
-use Rattle.definitions.specs.ListQueries.{ListOptions}
-use Rattle.definitions.specs.Lists.{list_answer}
-use Rattle.definitions.specs.Refusals.{Refusal, too_new}
-use Rattle.definitions.specs.Replies as answers
-use Rattle.definitions.specs.Replies.{Session, outcome, watch_reply, compact_reply, history_from}
-use Rattle.definitions.specs.Streams as streams
-use Rattle.definitions.specs.Targets.{Asked, request, list, watch, read_request}
-use Rattle.definitions.specs.Verbs.{accept, write_of, with_write}
-use Rattle.definitions.specs.Versions.{Listed, list_for}
-use Rattle.definitions.specs.WatchReplies.{watch_lines}
-use Rattle.line_protocol.specs.Lines.{Line, ask, at, compact, unreadable, session_after}
-use Rattle.server_state.specs.Servers.{Server, after_compaction, list_by, watch_served}
-use Rattle.session.proofs.Followed.{same_outcome}
-use Rattle.session.specs.Laws.{Follows}
-use Rattle.session.specs.SessionStates.{SessionState, reply_for, of_write, written_by, of_compaction}
-use Rattle.recorded_sessions.specs.RecordedStates.{entry_in, with_entry, journal_after}
+use Rattle.spec_api.specs.declared.kinds.Kind.{Kind}
+use Rattle.spec_api.specs.History as history
+use Rattle.spec_api.specs.History.{History, View, write, compaction, present}
+use Rattle.spec_api.specs.ListQueries.{ListOptions}
+use Rattle.spec_api.specs.Lists.{list_answer}
+use Rattle.spec_api.specs.Refusals.{Refusal, too_new}
+use Rattle.spec_api.specs.Replies as answers
+use Rattle.spec_api.specs.Replies.{Session, outcome, watch_reply, compact_reply, history_from}
+use Rattle.spec_api.specs.Streams as streams
+use Rattle.spec_api.specs.Targets.{Asked, request, list, watch, read_request}
+use Rattle.spec_api.specs.Verbs.{accept, write_of, with_write}
+use Rattle.spec_api.specs.Versions.{Listed, list_for}
+use Rattle.spec_api.specs.WatchReplies.{watch_lines}
+use Rattle.spec_line_protocol.specs.Lines.{Line, ask, at, compact, unreadable, session_after}
+use Rattle.spec_server.specs.Servers.{Server, after_compaction, list_by, watch_served}
+use Rattle.line_session.proofs.Followed.{same_outcome}
+use Rattle.line_session.specs.Laws.{Follows}
+use Rattle.line_session.specs.SessionStates.{SessionState, reply_for, of_write, written_by, of_compaction}
+use Rattle.sim_server.specs.RecordedStates.{entry_in, with_entry, journal_after}
 
 -- ---- what is asked
 

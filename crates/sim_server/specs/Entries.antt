@@ -1,9 +1,9 @@
 -- What happens at a server, as code has it.
-use Rattle.definitions.specs.History as history
+use Rattle.spec_api.specs.History as history
 use Rattle.meta.specs.Writes.{write_of}
-use Rattle.recorded_sessions.specs.declared.entries.Entry.{Entry}
-use Rattle.recorded_sessions.specs.declared.entries.Entry.TheVariants as code
+use Rattle.sim_server.specs.declared.entries.JournalEntry.{JournalEntry}
+use Rattle.sim_server.specs.declared.entries.JournalEntry.TheVariants as code
 
-abbrev pub entry_of : Entry → history.Entry
+abbrev pub entry_of : JournalEntry → history.Entry
 entry_of (code.Write w) = history.write (write_of w)
 entry_of (code.Compaction r) = history.compaction r

@@ -1,12 +1,12 @@
 -- A session with the journal of all that has happened at it.
 use Rattle.std.specs.Prelude.{ℕ, [], ◌∷◌, ◌++◌, Option, Some, None, refl}
 use Rattle.std.specs.Coded.{Coded, code_by, coded×}
-use Rattle.codes.specs.HistoryCodes.{coded_history}
-use Rattle.definitions.specs.History as history
-use Rattle.definitions.specs.History.{History, Entry}
-use Rattle.line_protocol.specs.Lines.{Line}
-use Rattle.session.specs.SessionStates as sessions
-use Rattle.session.specs.SessionStates.{SessionState, coded_state, Effect, nothing, write, moment, compaction, effect_on}
+use Rattle.model_encodings.specs.HistoryCodes.{coded_history}
+use Rattle.spec_api.specs.History as history
+use Rattle.spec_api.specs.History.{History, Entry}
+use Rattle.spec_line_protocol.specs.Lines.{Line}
+use Rattle.line_session.specs.SessionStates as sessions
+use Rattle.line_session.specs.SessionStates.{SessionState, coded_state, Effect, nothing, write, moment, compaction, effect_on}
 
 -- a session, and its writes and compactions, the oldest first
 pub record RecordedState : Type 0 where

@@ -5,5 +5,5 @@
 pub mod entries;
 pub mod recorded;
 
-pub use entries::Entry;
+pub use entries::JournalEntry;
 pub use recorded::RecordedSession;

@@ -1,11 +1,11 @@
 //! Sessions of which all that happens is recorded.
-use crate::entries::{Entry, happening};
-use desk::Server;
-use keys::Fault;
+use crate::entries::{JournalEntry, happening};
+use line_session::{Effect, Prepared, Session};
 use meta::Write;
+use object_keys::Fault;
 use reply::Reply;
-use requests::Request;
-use session::{Effect, Prepared, Session};
+use request_parts::Request;
+use server::Server;
 use std::alloc::{AllocError, Global};
 use std::marker::Model;
 
@@ -13,13 +13,13 @@ use std::marker::Model;
 #[derive(Drop)]
 pub struct RecordedSession {
     session: Session,
-    journal: Vec<Entry>,
+    journal: Vec<JournalEntry>,
 }
 
 impl Model for RecordedSession {
     ghost use Rattle.std.specs.Prelude.{map};
-    ghost use Rattle.recorded_sessions.specs.Entries.{entry_of};
-    ghost use Rattle.recorded_sessions.specs.RecordedStates.{RecordedState, coded_recorded};
+    ghost use Rattle.sim_server.specs.Entries.{entry_of};
+    ghost use Rattle.sim_server.specs.RecordedStates.{RecordedState, coded_recorded};
 
     ghost Value = { RecordedState };
 
@@ -30,16 +30,16 @@ impl Model for RecordedSession {
 
 impl RecordedSession {
     ghost use Rattle.std.specs.Prelude.{◌≡◌, IfOk, OnOk, OnErr, map, option_map};
-    ghost use Rattle.answers.specs.Serves.{Serves};
-    ghost use Rattle.definitions.specs.Verbs.{with_write};
+    ghost use Rattle.verb_parts.specs.Serves.{Serves};
+    ghost use Rattle.spec_api.specs.Verbs.{with_write};
     ghost use Rattle.meta.specs.Writes.{write_of};
-    ghost use Rattle.line_protocol.specs.Lines as lines;
-    ghost use Rattle.line_protocol.specs.Lines.{line_of};
-    ghost use Rattle.session.specs.Effects.{effect_of};
-    ghost use Rattle.session.specs.SessionStates.{HasRoom, accepted, changed_by, of_write, reply_to, state_after};
-    ghost use Rattle.requests.specs.Requests.{request_of};
-    ghost use Rattle.recorded_sessions.specs.Entries.{entry_of};
-    ghost use Rattle.recorded_sessions.specs.RecordedStates.{begun, entry_in, with_entry, journal_after};
+    ghost use Rattle.spec_line_protocol.specs.Lines as lines;
+    ghost use Rattle.spec_line_protocol.specs.Lines.{line_of};
+    ghost use Rattle.line_session.specs.Effects.{effect_of};
+    ghost use Rattle.line_session.specs.SessionStates.{HasRoom, accepted, changed_by, of_write, reply_to, state_after};
+    ghost use Rattle.request_parts.specs.Requests.{request_of};
+    ghost use Rattle.sim_server.specs.Entries.{entry_of};
+    ghost use Rattle.sim_server.specs.RecordedStates.{begun, entry_in, with_entry, journal_after};
 
     /// Returns a session at which nothing has happened, whose windows have this size. The error is running out of memory.
     pub fn new(alloc: Global, window: usize) -> Result<RecordedSession, AllocError>
@@ -59,7 +59,7 @@ impl RecordedSession {
     }
 
     /// Returns the journal: the writes and the compactions, the oldest first. It takes no memory.
-    pub fn journal(&self) -> &[Entry]
+    pub fn journal(&self) -> &[JournalEntry]
         ensures { map entry_of result.now ≡ self.now.journal }
     {
         self.journal.as_slice()

@@ -4,16 +4,16 @@ use Rattle.line_service.specs.Replies as service
 use Rattle.line_service.proofs.Alongside.{all-run, some-run}
 use Rattle.line_service.specs.Replies.{replies, none_refused, reply_or_refusal, next_or_same}
 use Rattle.line_service.specs.declared.fault.RunFault.{RunFault}
-use Rattle.reconciling.specs.ControlPlanes as planes
-use Rattle.reconciling.specs.ControlPlanes.{ControlPlane, Step}
-use Rattle.reconciling.specs.OutcomeTexts.{outcome_text}
-use Rattle.reconciling.specs.StepLines.{opened_with}
-use Rattle.simulated_lines.proofs.Following as following
-use Rattle.simulated_lines.proofs.Simulated.{simulated}
-use Rattle.simulated_lines.specs.Planes.{plane_after, told_by_plane, reply_by_plane, next_plane}
-use Rattle.simulations.specs.Laws.{Follows, AnswersAll, AnswersSome, RepliesAreSimulated}
-use Rattle.simulations.specs.Refusals.{refusal}
-use Rattle.simulations.specs.SimulationStates.{opened_stored, stored_after, told_by_stored, reply_by_stored, next_stored}
+use Rattle.spec_sim_control_plane.specs.ControlPlanes as planes
+use Rattle.spec_sim_control_plane.specs.ControlPlanes.{ControlPlane, Step}
+use Rattle.spec_sim_control_plane.specs.OutcomeTexts.{outcome_text}
+use Rattle.spec_sim_control_plane.specs.StepLines.{opened_with}
+use Rattle.sim_step_lines.proofs.Following as following
+use Rattle.sim_step_lines.proofs.Simulated.{simulated}
+use Rattle.sim_step_lines.specs.Planes.{plane_after, told_by_plane, reply_by_plane, next_plane}
+use Rattle.sim_service.specs.Laws.{Follows, AnswersAll, AnswersSome, RepliesAreSimulated}
+use Rattle.sim_service.specs.Refusals.{refusal}
+use Rattle.sim_service.specs.SimulationStates.{opened_stored, stored_after, told_by_stored, reply_by_stored, next_stored}
 use Rattle.world.proofs.Stood.{stands_for_begun, step_follows}
 use Rattle.world.specs.Standing.{StandsFor}
 use Rattle.world.specs.WorldStates.{WorldState}

@@ -1,10 +1,10 @@
 -- What is told of a step that a line asks for, and the world after it.
 use Rattle.std.proofs.Common.{◌≡◌, ℕ, List, Vec, Global, Result, Ok, Err, IfOk, OnOk, OnErr, false, true, ap, ◌∙◌}
 use Rattle.std.specs.Result.{IsErr}
-use Rattle.reconciling.specs.ControlPlanes.{Step}
-use Rattle.reconciling.specs.Outcomes.{Outcome}
-use Rattle.reconciling.specs.OutcomeTexts.{outcome_text}
-use Rattle.simulations.specs.SimulationStates.{told_by_stored, stored_after}
+use Rattle.spec_sim_control_plane.specs.ControlPlanes.{Step}
+use Rattle.spec_sim_control_plane.specs.Outcomes.{Outcome}
+use Rattle.spec_sim_control_plane.specs.OutcomeTexts.{outcome_text}
+use Rattle.sim_service.specs.SimulationStates.{told_by_stored, stored_after}
 use Rattle.world.specs.WorldStates.{WorldState, step}
 
 pub told_of_step : (w : WorldState) (text : List ℕ) (o : Outcome) (s t : Step) → text ≡ outcome_text o → o ≡ (step w s).outcome → s ≡ t → text ≡ told_by_stored w t

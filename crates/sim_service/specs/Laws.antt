@@ -4,12 +4,12 @@ use Rattle.std.specs.Prelude.{◌≡◌, ℕ, List, Option, None}
 use Rattle.line_service.specs.Replies as service
 use Rattle.line_service.specs.Replies.{lines_of, replies, none_refused, reply_or_refusal, next_or_same}
 use Rattle.line_service.specs.declared.fault.RunFault.{RunFault}
-use Rattle.reconciling.specs.ControlPlanes.{ControlPlane}
-use Rattle.reconciling.specs.StepLines.{simulate}
-use Rattle.simulated_lines.specs.Lines.{FollowsBy}
-use Rattle.simulated_lines.specs.Planes.{reply_by_plane, next_plane}
-use Rattle.simulations.specs.Refusals.{refusal}
-use Rattle.simulations.specs.SimulationStates.{reply_by_stored, next_stored}
+use Rattle.spec_sim_control_plane.specs.ControlPlanes.{ControlPlane}
+use Rattle.spec_sim_control_plane.specs.StepLines.{simulate}
+use Rattle.sim_step_lines.specs.Lines.{FollowsBy}
+use Rattle.sim_step_lines.specs.Planes.{reply_by_plane, next_plane}
+use Rattle.sim_service.specs.Refusals.{refusal}
+use Rattle.sim_service.specs.SimulationStates.{reply_by_stored, next_stored}
 use Rattle.world.specs.Standing.{StandsFor}
 use Rattle.world.specs.WorldStates.{WorldState}
 

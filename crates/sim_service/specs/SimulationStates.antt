@@ -1,10 +1,10 @@
 -- What a simulation answers and how it goes on, as it is stored.
 use Rattle.std.specs.Prelude.{ℕ, List, Option}
 use Rattle.std.specs.Coded.{Coded, coded_option}
-use Rattle.simulation.specs.StepLines.{Config}
-use Rattle.reconciling.specs.ControlPlanes.{Step}
-use Rattle.reconciling.specs.OutcomeTexts.{outcome_text}
-use Rattle.simulated_lines.specs.Lines as lines
+use Rattle.spec_sim_cluster.specs.StepLines.{Config}
+use Rattle.spec_sim_control_plane.specs.ControlPlanes.{Step}
+use Rattle.spec_sim_control_plane.specs.OutcomeTexts.{outcome_text}
+use Rattle.sim_step_lines.specs.Lines as lines
 use Rattle.world.specs.WorldStates as stored
 use Rattle.world.specs.WorldStates.{WorldState, coded_world}
 

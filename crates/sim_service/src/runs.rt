@@ -1,7 +1,7 @@
 //! Simulations of all lines that are read.
 ghost use Rattle.std.specs.Prelude.{◌≡◌, OnOk, IfErr, IfSome, true};
 ghost use Rattle.chunked.specs.Devices.{device_of, has_failed};
-ghost use Rattle.simulations.specs.Laws.{AnswersAll, AnswersSome};
+ghost use Rattle.sim_service.specs.Laws.{AnswersAll, AnswersSome};
 
 use crate::simulations::Simulation;
 use chunked::Watched;

@@ -1,5 +1,5 @@
 //! Laws of simulations.
-ghost use Rattle.simulations.specs.Laws.{SimulationsFollow, RepliesAreSimulated};
+ghost use Rattle.sim_service.specs.Laws.{SimulationsFollow, RepliesAreSimulated};
 
 /// A simulation whose world stands for a control plane replies to each line as that does, and its world stands for it afterwards.
 pub fn simulations_follow()

@@ -1,20 +1,20 @@
 //! A simulated control plane that answers lines.
 ghost use Rattle.std.specs.Prelude.{◌≡◌, IfOk, OnOk, OnErr, None, option_map};
-ghost use Rattle.reconciling.specs.StepLines.{step_asked};
-ghost use Rattle.outcome_lines.specs.Ready.{IsReady};
-ghost use Rattle.simulations.specs.Refusals.{of_step};
-ghost use Rattle.steps.specs.PlaneSteps.{plane_step_of};
-ghost use Rattle.simulations.specs.SimulationStates.{told_by_stored, stored_after, first_text, first_stored};
-ghost use Rattle.reconciling.specs.OutcomeTexts.{outcome_text};
+ghost use Rattle.spec_sim_control_plane.specs.StepLines.{step_asked};
+ghost use Rattle.sim_outcome_lines.specs.Ready.{IsReady};
+ghost use Rattle.sim_service.specs.Refusals.{of_step};
+ghost use Rattle.sim_steps.specs.PlaneSteps.{plane_step_of};
+ghost use Rattle.sim_service.specs.SimulationStates.{told_by_stored, stored_after, first_text, first_stored};
+ghost use Rattle.spec_sim_control_plane.specs.OutcomeTexts.{outcome_text};
 ghost use Rattle.world.specs.Outcomes.{outcome_of};
 
+use line_replies::no_memory_line;
 use line_service::LineService;
-use outcome_lines::{ready, told};
-use reply_lines::no_memory_line;
-use simulated_lines::step_asked;
+use sim_outcome_lines::{ready, told};
+use sim_step_lines::step_asked;
+use sim_steps::{Config, PlaneStep, Step};
 use std::alloc::{AllocError, Global};
 use std::marker::Model;
-use steps::{Config, PlaneStep, Step};
 use world::{Outcome, World};
 
 /// Returns the line by which it is told what came of a step. Where it does not come made, it is written into an empty line with room for it.
@@ -70,7 +70,7 @@ pub struct Simulation {
 impl Model for Simulation {
     ghost use Rattle.std.specs.Prelude.{Option};
     ghost use Rattle.world.specs.WorldStates.{WorldState};
-    ghost use Rattle.simulations.specs.SimulationStates.{coded_simulation};
+    ghost use Rattle.sim_service.specs.SimulationStates.{coded_simulation};
 
     ghost Value = { Option WorldState };
 
@@ -81,8 +81,8 @@ impl Model for Simulation {
 
 impl Simulation {
     ghost use Rattle.std.specs.Prelude.{◌≡◌, IfOk, OnOk, OnErr, Some, None};
-    ghost use Rattle.simulations.specs.SimulationStates.{first_text, first_stored};
-    ghost use Rattle.simulation.specs.StepLines.{config_of_line};
+    ghost use Rattle.sim_service.specs.SimulationStates.{first_text, first_stored};
+    ghost use Rattle.spec_sim_cluster.specs.StepLines.{config_of_line};
 
     /// Returns a simulation that has not begun.
     pub fn new() -> Simulation
@@ -121,8 +121,8 @@ impl Simulation {
 }
 
 impl LineService for Simulation {
-    ghost use Rattle.simulations.specs.Refusals.{refusal};
-    ghost use Rattle.simulations.specs.SimulationStates.{reply_by_stored, next_stored};
+    ghost use Rattle.sim_service.specs.Refusals.{refusal};
+    ghost use Rattle.sim_service.specs.SimulationStates.{reply_by_stored, next_stored};
 
     ghost reply = { reply_by_stored };
 

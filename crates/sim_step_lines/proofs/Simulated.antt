@@ -4,14 +4,14 @@ use Rattle.std.specs.List.{filter}
 use Rattle.line_service.proofs.Splitting.{replies-split}
 use Rattle.line_service.specs.Replies as service
 use Rattle.line_service.specs.Replies.{replies}
-use Rattle.line_protocol.specs.Lines as lines
-use Rattle.reconciling.specs.ControlPlanes as planes
-use Rattle.reconciling.specs.ControlPlanes.{ControlPlane}
-use Rattle.reconciling.specs.OutcomeTexts.{outcome_text}
-use Rattle.reconciling.specs.StepLines.{opened_with, step_asked, outcome_lines, run_from, simulate_lines, simulate}
-use Rattle.simulation.specs.StepLines.{Config, default_config, config_of_line}
-use Rattle.simulated_lines.proofs.Following.{not-empty}
-use Rattle.simulated_lines.specs.Planes.{reply_by_plane, next_plane}
+use Rattle.spec_line_protocol.specs.Lines as lines
+use Rattle.spec_sim_control_plane.specs.ControlPlanes as planes
+use Rattle.spec_sim_control_plane.specs.ControlPlanes.{ControlPlane}
+use Rattle.spec_sim_control_plane.specs.OutcomeTexts.{outcome_text}
+use Rattle.spec_sim_control_plane.specs.StepLines.{opened_with, step_asked, outcome_lines, run_from, simulate_lines, simulate}
+use Rattle.spec_sim_cluster.specs.StepLines.{Config, default_config, config_of_line}
+use Rattle.sim_step_lines.proofs.Following.{not-empty}
+use Rattle.sim_step_lines.specs.Planes.{reply_by_plane, next_plane}
 
 abbrev is_full : List ℕ → Bool
 is_full t = not (length t == 0)

@@ -1,10 +1,10 @@
 -- What a simulation answers and how it goes on, as the definitions have it.
 use Rattle.std.specs.Prelude.{ℕ, List, Option}
-use Rattle.reconciling.specs.ControlPlanes as planes
-use Rattle.reconciling.specs.ControlPlanes.{ControlPlane, Step}
-use Rattle.reconciling.specs.OutcomeTexts.{outcome_text}
-use Rattle.reconciling.specs.StepLines.{opened_with}
-use Rattle.simulated_lines.specs.Lines as lines
+use Rattle.spec_sim_control_plane.specs.ControlPlanes as planes
+use Rattle.spec_sim_control_plane.specs.ControlPlanes.{ControlPlane, Step}
+use Rattle.spec_sim_control_plane.specs.OutcomeTexts.{outcome_text}
+use Rattle.spec_sim_control_plane.specs.StepLines.{opened_with}
+use Rattle.sim_step_lines.specs.Lines as lines
 
 abbrev pub plane_after : ControlPlane → Step → ControlPlane
 plane_after p step = (planes.step p step).plane

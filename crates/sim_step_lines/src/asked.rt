@@ -1,9 +1,9 @@
 //! Steps that lines ask for.
 ghost use Rattle.std.specs.Prelude.{◌≡◌};
-ghost use Rattle.reconciling.specs.StepLines.{step_asked};
-ghost use Rattle.steps.specs.PlaneSteps.{plane_step_of};
+ghost use Rattle.spec_sim_control_plane.specs.StepLines.{step_asked};
+ghost use Rattle.sim_steps.specs.PlaneSteps.{plane_step_of};
 
-use steps::{PlaneStep, Step};
+use sim_steps::{PlaneStep, Step};
 
 /// Returns the step that a line asks for. A line of no form is answered as a request that says nothing is.
 pub fn step_asked(line: &[u8]) -> PlaneStep<'_>

@@ -1,6 +1,6 @@
 -- Where a line is cut.
 use Rattle.std.proofs.Common.{◌≡◌, ℕ, zero, suc, ◌<◌, ◌≤◌, List, [], ◌∷◌, length, take, drop, get_or, true, false, Some, None, option_map, refl, ap, arith, ◌==◌}
-use Rattle.line_protocol.specs.Lines.{cut}
+use Rattle.spec_line_protocol.specs.Lines.{cut}
 
 -- at a space that no space stands before
 pub cut-here : (t : List ℕ) (i : ℕ) → i < length t → ((k : ℕ) → k < i → (get_or t k 0 == 32) ≡ false) → (get_or t i 0 == 32) ≡ true

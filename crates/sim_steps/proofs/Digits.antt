@@ -7,11 +7,11 @@ use Rattle.std.specs.Char.{is_ascii_digit}
 use Rattle.std.specs.List.{list_all}
 use Rattle.std.specs.Str.{all_ascii_digits}
 use Rattle.std.specs.Str.Parse.{digits_value, IsNumeral, without_leading_plus}
-use Rattle.definitions.proofs.Truths.{both_true}
-use Rattle.definitions.specs.Moments.{is_digit}
-use Rattle.definitions.specs.Revisions.{revision_of}
-use Rattle.simulation.specs.StepLines.{number_of}
-use Rattle.steps.specs.Words.{is_number}
+use Rattle.spec_api.proofs.Truths.{both_true}
+use Rattle.spec_api.specs.Moments.{is_digit}
+use Rattle.spec_api.specs.Revisions.{revision_of}
+use Rattle.spec_sim_cluster.specs.StepLines.{number_of}
+use Rattle.sim_steps.specs.Words.{is_number}
 
 -- ---- digits are text
 

@@ -1,9 +1,9 @@
 -- Workers' actions as code has them.
-use Rattle.reconciling.specs.Managers as managers
-use Rattle.steps.specs.declared.actions.Action.{Action}
-use Rattle.steps.specs.declared.actions.Action.TheVariants.{Take, Look, AskSatisfied, ReadLive, Expect, Issue, Finish}
-use Rattle.steps.specs.declared.actions.Delivery.{Delivery}
-use Rattle.steps.specs.declared.actions.Delivery.TheVariants.{Delivered, AnswerLost, Dropped}
+use Rattle.spec_sim_control_plane.specs.Managers as managers
+use Rattle.sim_steps.specs.declared.actions.Action.{Action}
+use Rattle.sim_steps.specs.declared.actions.Action.TheVariants.{Take, Look, AskSatisfied, ReadLive, Expect, Issue, Finish}
+use Rattle.sim_steps.specs.declared.actions.Delivery.{Delivery}
+use Rattle.sim_steps.specs.declared.actions.Delivery.TheVariants.{Delivered, AnswerLost, Dropped}
 
 abbrev pub delivery_of : Delivery → managers.Delivery
 delivery_of Delivered = managers.delivered

@@ -1,11 +1,11 @@
 -- Steps of a control plane as code has them.
 use Rattle.std.specs.Prelude.{List, ℕ, Option, Some, None}
-use Rattle.reconciling.specs.ControlPlanes as planes
-use Rattle.reconciling.specs.StepLines.{action_with, step_named, works_as}
-use Rattle.steps.specs.Actions.{action_of}
-use Rattle.steps.specs.Steps.{step_of}
-use Rattle.steps.specs.declared.plane_steps.PlaneStep.{PlaneStep}
-use Rattle.steps.specs.declared.plane_steps.PlaneStep.TheVariants.{InCluster, Handle, Works, Tick}
+use Rattle.spec_sim_control_plane.specs.ControlPlanes as planes
+use Rattle.spec_sim_control_plane.specs.StepLines.{action_with, step_named, works_as}
+use Rattle.sim_steps.specs.Actions.{action_of}
+use Rattle.sim_steps.specs.Steps.{step_of}
+use Rattle.sim_steps.specs.declared.plane_steps.PlaneStep.{PlaneStep}
+use Rattle.sim_steps.specs.declared.plane_steps.PlaneStep.TheVariants.{InCluster, Handle, Works, Tick}
 
 abbrev pub plane_step_of : PlaneStep → planes.Step
 plane_step_of (InCluster s) = planes.in_cluster (step_of s)

@@ -1,11 +1,11 @@
 -- Steps as code has them.
-use Rattle.simulation.specs.Clusters as clusters
-use Rattle.simulation.specs.Clusters.{ClusterStep}
-use Rattle.simulation.specs.Moves as moves
-use Rattle.steps.specs.declared.moves.Move.{Move}
-use Rattle.steps.specs.declared.moves.Move.TheVariants as code
-use Rattle.steps.specs.declared.steps.Step.{Step}
-use Rattle.steps.specs.declared.steps.Step.TheVariants as step
+use Rattle.spec_sim_cluster.specs.Clusters as clusters
+use Rattle.spec_sim_cluster.specs.Clusters.{ClusterStep}
+use Rattle.spec_sim_cluster.specs.Moves as moves
+use Rattle.sim_steps.specs.declared.moves.Move.{Move}
+use Rattle.sim_steps.specs.declared.moves.Move.TheVariants as code
+use Rattle.sim_steps.specs.declared.steps.Step.{Step}
+use Rattle.sim_steps.specs.declared.steps.Step.TheVariants as step
 
 abbrev pub move_of : Move → moves.Move
 move_of code.List = moves.list

@@ -27,8 +27,8 @@ pub enum Move {
 }
 
 impl Move {
-    ghost use Rattle.simulation.specs.StepLines.{move_named, send_of, deliver_of, move_with};
-    ghost use Rattle.steps.specs.Steps.{move_of};
+    ghost use Rattle.spec_sim_cluster.specs.StepLines.{move_named, send_of, deliver_of, move_with};
+    ghost use Rattle.sim_steps.specs.Steps.{move_of};
 
     /// Returns the move that a verb alone asks for.
     pub(crate) fn named(verb: &[u8]) -> Option<Move>

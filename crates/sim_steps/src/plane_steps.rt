@@ -4,7 +4,7 @@ ghost use Rattle.std.specs.Prelude.{◌≡◌, option_map};
 use crate::actions::Action;
 use crate::steps::Step;
 use crate::words::{Words, is, kind, number};
-use definitions::kinds::Kind;
+use spec_api::kinds::Kind;
 
 /// One atomic step of one actor, controllers among them.
 #[derive(Debug, Clone, Copy)]
@@ -20,12 +20,12 @@ pub enum PlaneStep<'t> {
 }
 
 impl<'t> PlaneStep<'t> {
-    ghost use Rattle.reconciling.specs.ControlPlanes as planes;
-    ghost use Rattle.reconciling.specs.StepLines.{step_in_words, step_named, step_of_line, works_as};
-    ghost use Rattle.simulation.specs.StepLines.{kind_of, number_of, words};
-    ghost use Rattle.steps.specs.Actions.{action_of};
-    ghost use Rattle.steps.specs.PlaneSteps.{plane_step_of, plane_step_by_words};
-    ghost use Rattle.steps.specs.Words.{words_seen};
+    ghost use Rattle.spec_sim_control_plane.specs.ControlPlanes as planes;
+    ghost use Rattle.spec_sim_control_plane.specs.StepLines.{step_in_words, step_named, step_of_line, works_as};
+    ghost use Rattle.spec_sim_cluster.specs.StepLines.{kind_of, number_of, words};
+    ghost use Rattle.sim_steps.specs.Actions.{action_of};
+    ghost use Rattle.sim_steps.specs.PlaneSteps.{plane_step_of, plane_step_by_words};
+    ghost use Rattle.sim_steps.specs.Words.{words_seen};
 
     /// Returns the step in which the worker that a word numbers acts, if it is told how.
     fn works(worker: &[u8], action: Option<Action>) -> Option<PlaneStep<'t>>

@@ -1,13 +1,13 @@
 //! What happens in a simulated cluster.
 ghost use Rattle.std.specs.Prelude.{◌≡◌, option_map, Some};
-ghost use Rattle.definitions.specs.Revisions.{revision_of};
-ghost use Rattle.steps.specs.Steps.{move_of};
-ghost use Rattle.steps.specs.Words.{words_seen, movement_of, step_by_words};
+ghost use Rattle.spec_api.specs.Revisions.{revision_of};
+ghost use Rattle.sim_steps.specs.Steps.{move_of};
+ghost use Rattle.sim_steps.specs.Words.{words_seen, movement_of, step_by_words};
 
 use crate::moves::Move;
 use crate::words::{Words, cut, is, kind};
-use definitions::kinds::Kind;
-use stamps::revisions::read_revision;
+use metadata_values::revisions::read_revision;
+use spec_api::kinds::Kind;
 
 /// One atomic step of one actor.
 #[derive(Debug, Clone, Copy)]
@@ -43,10 +43,10 @@ fn movement(words: &Words<'_>) -> Option<Move>
 }
 
 impl<'t> Step<'t> {
-    ghost use Rattle.simulation.specs.Clusters.{compact};
-    ghost use Rattle.simulation.specs.StepLines as lines;
-    ghost use Rattle.simulation.specs.StepLines.{words, step_from, step_of_line};
-    ghost use Rattle.steps.specs.Steps.{step_of};
+    ghost use Rattle.spec_sim_cluster.specs.Clusters.{compact};
+    ghost use Rattle.spec_sim_cluster.specs.StepLines as lines;
+    ghost use Rattle.spec_sim_cluster.specs.StepLines.{words, step_from, step_of_line};
+    ghost use Rattle.sim_steps.specs.Steps.{step_of};
 
     /// Returns the step that a revision asks for, which is compacted up to.
     fn compact(text: &[u8]) -> Option<Step<'t>>

@@ -2,12 +2,12 @@
 ghost use Rattle.std.specs.Prelude.{◌≡◌, option_map};
 ghost use Rattle.std.specs.List.{list_all};
 ghost use Rattle.std.specs.Str.{bytes_eq};
-ghost use Rattle.definitions.specs.Moments.{is_digit};
-ghost use Rattle.line_protocol.specs.Lines.{cut};
-ghost use Rattle.simulation.specs.StepLines.{words, number_of, kind_of};
-ghost use Rattle.steps.specs.Words.{both_now, words_seen, with_first, few_words, is_number};
+ghost use Rattle.spec_api.specs.Moments.{is_digit};
+ghost use Rattle.spec_line_protocol.specs.Lines.{cut};
+ghost use Rattle.spec_sim_cluster.specs.StepLines.{words, number_of, kind_of};
+ghost use Rattle.sim_steps.specs.Words.{both_now, words_seen, with_first, few_words, is_number};
 
-use definitions::kinds::Kind;
+use spec_api::kinds::Kind;
 
 /// The most digits of a number.
 const MOST_DIGITS: usize = 9;

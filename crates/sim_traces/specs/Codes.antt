@@ -2,18 +2,18 @@
 use Rattle.std.proofs.Common.{◌⊎◌, inl, inr, ◌≡◌, zero, suc}
 use Rattle.std.specs.Prelude.{ℕ, List, Bool, true, refl}
 use Rattle.std.specs.Coded.{Coded, code_by, coded×, coded⊎, coded_ℕ, coded_bool, coded_list}
-use Rattle.definitions.specs.contracts.kinds.Kind as kind
-use Rattle.definitions.specs.declared.kinds.Kind.{Kind}
-use Rattle.codes.specs.Codes.{coded_text}
-use Rattle.simulation.specs.contracts.initial_syncs.InitialSync as initial_sync
-use Rattle.simulation.specs.declared.initial_syncs.InitialSync.{InitialSync}
-use Rattle.simulation.specs.Clusters.{ClusterStep, request, compact, moves, restart}
-use Rattle.simulation.specs.Moves as move
-use Rattle.simulation.specs.Moves.{Move}
-use Rattle.reconciling.specs.ControlPlanes.{Step, in_cluster, handle, works, tick}
-use Rattle.reconciling.specs.Managers as action
-use Rattle.reconciling.specs.Managers.{Action, Delivery, delivered, answer_lost, dropped}
-use Rattle.traces.specs.Taken.{Taken}
+use Rattle.spec_api.specs.contracts.kinds.Kind as kind
+use Rattle.spec_api.specs.declared.kinds.Kind.{Kind}
+use Rattle.model_encodings.specs.Codes.{coded_text}
+use Rattle.spec_sim_cluster.specs.contracts.initial_syncs.InitialSync as initial_sync
+use Rattle.spec_sim_cluster.specs.declared.initial_syncs.InitialSync.{InitialSync}
+use Rattle.spec_sim_cluster.specs.Clusters.{ClusterStep, request, compact, moves, restart}
+use Rattle.spec_sim_cluster.specs.Moves as move
+use Rattle.spec_sim_cluster.specs.Moves.{Move}
+use Rattle.spec_sim_control_plane.specs.ControlPlanes.{Step, in_cluster, handle, works, tick}
+use Rattle.spec_sim_control_plane.specs.Managers as action
+use Rattle.spec_sim_control_plane.specs.Managers.{Action, Delivery, delivered, answer_lost, dropped}
+use Rattle.sim_traces.specs.Taken.{Taken}
 
 -- ---- actions
 

@@ -1,11 +1,11 @@
 //! Traces.
 ghost use Rattle.std.specs.Prelude.{◌≡◌};
 ghost use Rattle.std.specs.Borrow.{ftrue};
-ghost use Rattle.traces.specs.Codes.{coded_taken};
-ghost use Rattle.traces.specs.Taken.{Taken};
+ghost use Rattle.sim_traces.specs.Codes.{coded_taken};
+ghost use Rattle.sim_traces.specs.Taken.{Taken};
 
+use sim_steps::{Config, PlaneStep};
 use std::marker::Model;
-use steps::{Config, PlaneStep};
 
 /// The sizes with which a control plane was opened, how its followers begin, and the steps that were taken since. It takes no memory.
 #[derive(Drop)]
@@ -19,8 +19,8 @@ impl Model for Trace {
 
 impl Trace {
     ghost use Rattle.std.specs.Prelude.{◌≡◌};
-    ghost use Rattle.steps.specs.PlaneSteps.{plane_step_of};
-    ghost use Rattle.traces.specs.Taken.{begun, followed};
+    ghost use Rattle.sim_steps.specs.PlaneSteps.{plane_step_of};
+    ghost use Rattle.sim_traces.specs.Taken.{begun, followed};
 
     /// Returns the trace of what was opened so, and took no step.
     pub fn begun(config: &Config) -> Trace

@@ -4,25 +4,25 @@ use Rattle.std.specs.Cmp.{eq_by_cmp_equiv}
 use Rattle.std.specs.FinMap as map_of
 use Rattle.std.specs.FinMap.{get-insert, get-remove}
 use Rattle.std.specs.Ordering.{eq_by_cmp}
-use Rattle.controllers.specs.Commands.{Command}
-use Rattle.controllers.specs.Delays.{delay_after, earlier, failures}
-use Rattle.controllers.specs.Expectations.{Owner, Expectation, Table, change, created, deleted}
-use Rattle.controllers.specs.WorkQueues.{WorkKey, work_key_cmp, handed}
-use Rattle.controllers.proofs.Expected.{get_put}
-use Rattle.controllers.proofs.WorkKeyOrder.{work_key_total}
-use Rattle.laws.specs.ExpectationLaws.{creations_of, creations_left}
-use Rattle.control.specs.Boards.{Board, Observation, creation_observed, deletion_observed, all_lowered, finished, requeued}
-use Rattle.reconciling.specs.ControlPlanes.{client}
-use Rattle.reconciling.specs.Managers.{Client, Manager, Action, Delivery, Acted, closed, act, act_in, carry_out, take_key, is_for, delivery_of, requested, ended, ask, is_satisfied_for, forgotten_unless}
-use Rattle.reconciling.specs.Managers as action
-use Rattle.reconciling.specs.NextSteps as next_step
-use Rattle.reconciling.specs.Outcomes as outcome
+use Rattle.spec_client_go.specs.Commands.{Command}
+use Rattle.spec_client_go.specs.Delays.{delay_after, earlier, failures}
+use Rattle.spec_client_go.specs.Expectations.{Owner, Expectation, Table, change, created, deleted}
+use Rattle.spec_client_go.specs.WorkQueues.{WorkKey, work_key_cmp, handed}
+use Rattle.spec_client_go.proofs.Expected.{get_put}
+use Rattle.spec_client_go.proofs.WorkKeyOrder.{work_key_total}
+use Rattle.spec_laws.specs.ExpectationLaws.{creations_of, creations_left}
+use Rattle.spec_work_board.specs.Boards.{Board, Observation, creation_observed, deletion_observed, all_lowered, finished, requeued}
+use Rattle.spec_sim_control_plane.specs.ControlPlanes.{client}
+use Rattle.spec_sim_control_plane.specs.Managers.{Client, Manager, Action, Delivery, Acted, closed, act, act_in, carry_out, take_key, is_for, delivery_of, requested, ended, ask, is_satisfied_for, forgotten_unless}
+use Rattle.spec_sim_control_plane.specs.Managers as action
+use Rattle.spec_sim_control_plane.specs.NextSteps as next_step
+use Rattle.spec_sim_control_plane.specs.Outcomes as outcome
 use Rattle.std.specs.FinSet as set
 use Rattle.std.specs.List.{filter_map}
-use Rattle.reconciling.specs.NextSteps.{NextStep, next}
-use Rattle.reconciling.specs.Turns.{Turn, Issue, refused, lost, is_refused, commands, all_accepted, creates_pod, pod_deleted, undone, taken_back, taken_back_by}
-use Rattle.reconciling_laws.specs.ActionLaws.{IsAt, member, IssuesAreTied, OnlyIssuesAsk, LostIsNotDropped, LiveReadsFindWhatIsThere, AnswersAreTheBoards, LostMayBeDone, UndoneIsExpectedNoMore, FailedKeysWait}
-use Rattle.reconciling_laws.proofs.Acting.{by_act}
+use Rattle.spec_sim_control_plane.specs.NextSteps.{NextStep, next}
+use Rattle.spec_sim_control_plane.specs.Turns.{Turn, Issue, refused, lost, is_refused, commands, all_accepted, creates_pod, pod_deleted, undone, taken_back, taken_back_by}
+use Rattle.sim_worker_laws.specs.ActionLaws.{IsAt, member, IssuesAreTied, OnlyIssuesAsk, LostIsNotDropped, LiveReadsFindWhatIsThere, AnswersAreTheBoards, LostMayBeDone, UndoneIsExpectedNoMore, FailedKeysWait}
+use Rattle.sim_worker_laws.proofs.Acting.{by_act}
 
 -- an action that is for the next step carries it out
 acts : (c : Client) (w : ℕ) (a : Action) (t : Turn) (n : NextStep) (m : Manager) → IsAt w t n m → is_for a n ≡ true → act c w a m ≡ carry_out c w t (delivery_of a) n m

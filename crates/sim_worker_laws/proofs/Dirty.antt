@@ -2,19 +2,19 @@
 use Rattle.std.proofs.Common.{◌≡◌, inl, inr, ℕ, List, [], ◌∷◌, ◌++◌, Bool, true, false, not, ◌&&◌, ◌||◌, cond, Option, Some, None, nat_eq, refl, sym, ap, ◌∙◌}
 use Rattle.std.specs.FinSet as set
 use Rattle.std.specs.FinSet.{contains-insert, contains-remove}
-use Rattle.controllers.specs.Expectations.{Owner}
-use Rattle.controllers.specs.WorkQueues.{WorkKey, WorkQueue, added, got_from, done, handed, front}
-use Rattle.controllers.proofs.WorkKeyOrder.{work_key_total}
-use Rattle.laws.proofs.WorkQueueRuns.{added-wanted}
-use Rattle.control.specs.Boards as boards
-use Rattle.control.specs.Boards.{Board, all_added}
-use Rattle.reconciling.specs.Managers.{Client, Manager, Action, Acted, Delivery, take_key, carry_out, act, forgotten_unless}
-use Rattle.reconciling.specs.NextSteps.{NextStep, next, look, ask_satisfied, read, expect, issue, finish}
-use Rattle.reconciling.specs.Turns as turns
-use Rattle.reconciling.specs.Turns.{Turn, Expected, all_accepted, owner}
-use Rattle.reconciling_laws.specs.OwedLaws.{IsAmong, tells_taken}
-use Rattle.reconciling_laws.proofs.Acting.{by_act}
-use Rattle.reconciling_laws.proofs.InHands.{same}
+use Rattle.spec_client_go.specs.Expectations.{Owner}
+use Rattle.spec_client_go.specs.WorkQueues.{WorkKey, WorkQueue, added, got_from, done, handed, front}
+use Rattle.spec_client_go.proofs.WorkKeyOrder.{work_key_total}
+use Rattle.spec_laws.proofs.WorkQueueRuns.{added-wanted}
+use Rattle.spec_work_board.specs.Boards as boards
+use Rattle.spec_work_board.specs.Boards.{Board, all_added}
+use Rattle.spec_sim_control_plane.specs.Managers.{Client, Manager, Action, Acted, Delivery, take_key, carry_out, act, forgotten_unless}
+use Rattle.spec_sim_control_plane.specs.NextSteps.{NextStep, next, look, ask_satisfied, read, expect, issue, finish}
+use Rattle.spec_sim_control_plane.specs.Turns as turns
+use Rattle.spec_sim_control_plane.specs.Turns.{Turn, Expected, all_accepted, owner}
+use Rattle.sim_worker_laws.specs.OwedLaws.{IsAmong, tells_taken}
+use Rattle.sim_worker_laws.proofs.Acting.{by_act}
+use Rattle.sim_worker_laws.proofs.InHands.{same}
 
 pub or_false : (b : Bool) → b ≡ true → (b || false) ≡ true
 or_false b e = ap (λ x. x || false) e

@@ -2,19 +2,19 @@
 use Rattle.std.proofs.Common.{◌≡◌, ℕ, zero, suc, List, [], ◌∷◌, ◌++◌, map, replicate, true, false, is_some, Option, Some, None, slice_get, slice_set, refl, sym, ap, ◌∙◌, subst, append-nil}
 use Rattle.std.specs.List.{AllByRecursion}
 use Rattle.std.specs.Option.{IfSome}
-use Rattle.definitions.specs.declared.kinds.Kind.{Kind}
-use Rattle.definitions.specs.Keys.{Key}
-use Rattle.server_state.specs.Snapshots.{Snapshot}
-use Rattle.controllers.specs.Commands.{Command}
-use Rattle.controllers.specs.Hands.{Read}
-use Rattle.controllers.specs.WorkQueues.{WorkKey, handed}
-use Rattle.reconciling.specs.Managers.{Client, Manager, Issued, Action, Delivery, learnt, requested, take_key, carry_out, act, is_satisfied_for}
-use Rattle.reconciling.specs.NextSteps.{Sighting, order, unseen, NextStep, look, ask_satisfied, read, expect, issue, finish, next}
-use Rattle.reconciling.specs.Turns.{Turn, Sight, looked, satisfied, Issue, begun, with_sight, with_read, with_expected, with_issue, asks, commands, expected, all_accepted, left, owner}
-use Rattle.reconciling_laws.specs.IssuedLaws.{IsSeen, sighting_of, commands_of, IsNext}
-use Rattle.reconciling_laws.proofs.Acting.{by_act}
-use Rattle.reconciling_laws.proofs.Lists.{grows, untouched, all_push, all_map}
-use Rattle.reconciling_laws.proofs.Nexts.{Stands, to_look, to_ask, to_read, to_expect, to_issue, to_finish, stands}
+use Rattle.spec_api.specs.declared.kinds.Kind.{Kind}
+use Rattle.spec_api.specs.Keys.{Key}
+use Rattle.spec_server.specs.Snapshots.{Snapshot}
+use Rattle.spec_client_go.specs.Commands.{Command}
+use Rattle.spec_client_go.specs.Hands.{Read}
+use Rattle.spec_client_go.specs.WorkQueues.{WorkKey, handed}
+use Rattle.spec_sim_control_plane.specs.Managers.{Client, Manager, Issued, Action, Delivery, learnt, requested, take_key, carry_out, act, is_satisfied_for}
+use Rattle.spec_sim_control_plane.specs.NextSteps.{Sighting, order, unseen, NextStep, look, ask_satisfied, read, expect, issue, finish, next}
+use Rattle.spec_sim_control_plane.specs.Turns.{Turn, Sight, looked, satisfied, Issue, begun, with_sight, with_read, with_expected, with_issue, asks, commands, expected, all_accepted, left, owner}
+use Rattle.sim_worker_laws.specs.IssuedLaws.{IsSeen, sighting_of, commands_of, IsNext}
+use Rattle.sim_worker_laws.proofs.Acting.{by_act}
+use Rattle.sim_worker_laws.proofs.Lists.{grows, untouched, all_push, all_map}
+use Rattle.sim_worker_laws.proofs.Nexts.{Stands, to_look, to_ask, to_read, to_expect, to_issue, to_finish, stands}
 
 -- nothing is expected or issued yet, or all was seen and read
 pub data Stage (t : Turn) : Type 0 where

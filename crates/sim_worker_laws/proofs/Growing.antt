@@ -1,28 +1,28 @@
 -- What has happened stays, whatever steps are taken.
 use Rattle.std.proofs.Common.{◌≡◌, ◌≤◌, ◌+◌, ◌-◌, ℕ, List, [], ◌∷◌, ◌++◌, length, take, Option, Some, None, Result, Ok, Err, sym, ap, ◌∙◌, subst, arith}
 use Rattle.std.proofs.lemmas.List.{take-append-le, length-append}
-use Rattle.definitions.specs.declared.kinds.Kind.{Kind}
-use Rattle.definitions.specs.History.{History, compaction, writes, last_of, present, state}
-use Rattle.definitions.specs.Keys.{Key}
-use Rattle.definitions.specs.ObjectRequests.{Request}
-use Rattle.definitions.specs.Refusals.{Refusal}
-use Rattle.definitions.specs.Replies.{Session, reply_for, history_from}
-use Rattle.definitions.specs.Targets.{Asked, request as asked_request, list, watch, read_request}
-use Rattle.definitions.specs.Verbs.{accept, write_of}
-use Rattle.line_protocol.specs.Lines as lines
-use Rattle.line_protocol.specs.Lines.{Line, line_of, session_after}
-use Rattle.laws.proofs.Past.{writes-append}
-use Rattle.laws.proofs.Runs.{Begins, nothing, kept_asked, kept_watched, begins-write, begins-entry, by_compaction}
-use Rattle.controllers.specs.Hands.{Read}
-use Rattle.simulation.specs.Clusters.{Cluster, history, follower, ClusterStep, request, compact, moves, restart}
-use Rattle.simulation.specs.Clusters as clusters
-use Rattle.simulation.specs.Followers.{Notification}
-use Rattle.simulation.specs.Moves as moving
-use Rattle.reconciling.specs.ControlPlanes.{ControlPlane, Step, in_cluster, handle, works, tick, client, after_request, handle_in, step_in, step}
-use Rattle.reconciling.specs.Managers.{act}
-use Rattle.reconciling_laws.specs.IssuedLaws.{WasThere}
-use Rattle.reconciling_laws.proofs.Counting.{by_counted, by_tick}
-use Rattle.reconciling_laws.proofs.Moved.{same_session}
+use Rattle.spec_api.specs.declared.kinds.Kind.{Kind}
+use Rattle.spec_api.specs.History.{History, compaction, writes, last_of, present, state}
+use Rattle.spec_api.specs.Keys.{Key}
+use Rattle.spec_api.specs.ObjectRequests.{Request}
+use Rattle.spec_api.specs.Refusals.{Refusal}
+use Rattle.spec_api.specs.Replies.{Session, reply_for, history_from}
+use Rattle.spec_api.specs.Targets.{Asked, request as asked_request, list, watch, read_request}
+use Rattle.spec_api.specs.Verbs.{accept, write_of}
+use Rattle.spec_line_protocol.specs.Lines as lines
+use Rattle.spec_line_protocol.specs.Lines.{Line, line_of, session_after}
+use Rattle.spec_laws.proofs.Past.{writes-append}
+use Rattle.spec_laws.proofs.Runs.{Begins, nothing, kept_asked, kept_watched, begins-write, begins-entry, by_compaction}
+use Rattle.spec_client_go.specs.Hands.{Read}
+use Rattle.spec_sim_cluster.specs.Clusters.{Cluster, history, follower, ClusterStep, request, compact, moves, restart}
+use Rattle.spec_sim_cluster.specs.Clusters as clusters
+use Rattle.spec_sim_cluster.specs.Followers.{Notification}
+use Rattle.spec_sim_cluster.specs.Moves as moving
+use Rattle.spec_sim_control_plane.specs.ControlPlanes.{ControlPlane, Step, in_cluster, handle, works, tick, client, after_request, handle_in, step_in, step}
+use Rattle.spec_sim_control_plane.specs.Managers.{act}
+use Rattle.sim_worker_laws.specs.IssuedLaws.{WasThere}
+use Rattle.sim_worker_laws.proofs.Counting.{by_counted, by_tick}
+use Rattle.sim_worker_laws.proofs.Moved.{same_session}
 
 -- ---- the server
 

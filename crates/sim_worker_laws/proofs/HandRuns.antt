@@ -1,18 +1,18 @@
 -- Whatever steps are taken: the keys that are being processed are those in workers' hands, and no key is in two.
 use Rattle.std.proofs.Common.{ℕ, ◌+◌, List, [], ◌∷◌, Bool, true, false, cond}
-use Rattle.definitions.specs.declared.kinds.Kind.{Kind}
-use Rattle.controllers.specs.Delays.{due}
-use Rattle.control.specs.Boards.{may_tick, passed}
-use Rattle.simulation.specs.declared.initial_syncs.InitialSync.{InitialSync}
-use Rattle.simulation.specs.Clusters.{ClusterStep, request, compact, moves, restart, follower}
-use Rattle.simulation.specs.Followers.{Notification}
-use Rattle.reconciling.specs.ControlPlanes.{ControlPlane, Step, Stepped, in_cluster, handle, works, tick, client, handle_in, tick_in, closed, step_in, counted, step, opened, run, owed, manager_after}
-use Rattle.reconciling.specs.Managers.{Manager}
-use Rattle.reconciling.specs.Outcomes as outcomes
-use Rattle.reconciling.specs.Outcomes.{was_open}
-use Rattle.reconciling_laws.specs.TurnLaws.{HandsAreApart, ProcessingIsInHands}
-use Rattle.reconciling_laws.proofs.InHands.{unique}
-use Rattle.reconciling_laws.proofs.Processing.{Fits, fits-added, fits-act, fits-begun, fits-restarted}
+use Rattle.spec_api.specs.declared.kinds.Kind.{Kind}
+use Rattle.spec_client_go.specs.Delays.{due}
+use Rattle.spec_work_board.specs.Boards.{may_tick, passed}
+use Rattle.spec_sim_cluster.specs.declared.initial_syncs.InitialSync.{InitialSync}
+use Rattle.spec_sim_cluster.specs.Clusters.{ClusterStep, request, compact, moves, restart, follower}
+use Rattle.spec_sim_cluster.specs.Followers.{Notification}
+use Rattle.spec_sim_control_plane.specs.ControlPlanes.{ControlPlane, Step, Stepped, in_cluster, handle, works, tick, client, handle_in, tick_in, closed, step_in, counted, step, opened, run, owed, manager_after}
+use Rattle.spec_sim_control_plane.specs.Managers.{Manager}
+use Rattle.spec_sim_control_plane.specs.Outcomes as outcomes
+use Rattle.spec_sim_control_plane.specs.Outcomes.{was_open}
+use Rattle.sim_worker_laws.specs.TurnLaws.{HandsAreApart, ProcessingIsInHands}
+use Rattle.sim_worker_laws.proofs.InHands.{unique}
+use Rattle.sim_worker_laws.proofs.Processing.{Fits, fits-added, fits-act, fits-begun, fits-restarted}
 
 abbrev pub FitsIn : Manager → Type 0
 FitsIn m = Fits m.board.work m.turns

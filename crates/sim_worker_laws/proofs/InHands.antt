@@ -3,10 +3,10 @@ use Rattle.std.proofs.Common.{◌≡◌, ℕ, zero, suc, List, [], ◌∷◌, Bo
 use mathlib.Core.Bool.{true≢false}
 use Rattle.std.specs.Cmp.{eq_by_cmp_equiv, IsEquivalence}
 use Rattle.std.specs.Ordering.{eq_by_cmp}
-use Rattle.controllers.specs.WorkQueues.{WorkKey, work_key_cmp}
-use Rattle.controllers.proofs.WorkKeyOrder.{work_key_total}
-use Rattle.reconciling.specs.Turns.{Turn}
-use Rattle.reconciling_laws.specs.TurnLaws.{is_of, is_in_hands}
+use Rattle.spec_client_go.specs.WorkQueues.{WorkKey, work_key_cmp}
+use Rattle.spec_client_go.proofs.WorkKeyOrder.{work_key_total}
+use Rattle.spec_sim_control_plane.specs.Turns.{Turn}
+use Rattle.sim_worker_laws.specs.TurnLaws.{is_of, is_in_hands}
 
 abbrev pub same : WorkKey → WorkKey → Bool
 same = eq_by_cmp work_key_cmp

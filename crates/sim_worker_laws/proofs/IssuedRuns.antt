@@ -1,26 +1,26 @@
 -- Whatever steps are taken, each command that was issued is the next one of its plan.
 use Rattle.std.proofs.Common.{◌≡◌, ℕ, zero, suc, List, [], ◌∷◌, ◌++◌, map, replicate, Bool, true, false, ◌&&◌, Option, Some, None, slice_get, refl, sym, ap, ◌∙◌, subst, append_assoc, arith, append-nil}
-use Rattle.definitions.specs.declared.kinds.Kind.{Kind}
-use Rattle.definitions.specs.declared.kinds.Kind.TheVariants.{ConfigMap, Pod, ReplicaSet, Deployment}
-use Rattle.definitions.specs.History.{present}
-use Rattle.definitions.specs.ObjectRequests.{Request}
-use Rattle.definitions.specs.Verbs.{accept, history_after}
-use Rattle.server_state.specs.Snapshots.{Snapshot}
-use Rattle.controllers.specs.WorkQueues.{WorkKey, handed}
-use Rattle.line_protocol.specs.Lines as lines
-use Rattle.line_protocol.specs.Lines.{line_of, session_after}
-use Rattle.simulation.specs.Clusters.{Cluster, history, follower, request, compact, moves, restart}
-use Rattle.simulation.specs.Followers.{Follower, Notification}
-use Rattle.simulation.specs.Moves.{answers_after}
-use Rattle.reconciling.specs.ControlPlanes.{ControlPlane, Step, in_cluster, handle, works, tick, opened, client, have_all_listed, after_request, handle_in, step_in, step, run}
-use Rattle.reconciling.specs.Managers.{Manager, Acted, act, take_key}
-use Rattle.reconciling.specs.Turns.{Turn}
-use Rattle.reconciling_laws.specs.IssuedLaws.{WasPublished, WasThere, IssuedIsNext}
-use Rattle.reconciling_laws.proofs.Acting.{by_act}
-use Rattle.reconciling_laws.proofs.Counting.{by_counted, by_tick}
-use Rattle.reconciling_laws.proofs.Following.{AllFollow, act_follows, all_more, none_begun, none_restarted}
-use Rattle.reconciling_laws.proofs.Growing.{step_begins, there_still}
-use Rattle.reconciling_laws.proofs.Moved.{by_move, with_session, with_moved}
+use Rattle.spec_api.specs.declared.kinds.Kind.{Kind}
+use Rattle.spec_api.specs.declared.kinds.Kind.TheVariants.{ConfigMap, Pod, ReplicaSet, Deployment}
+use Rattle.spec_api.specs.History.{present}
+use Rattle.spec_api.specs.ObjectRequests.{Request}
+use Rattle.spec_api.specs.Verbs.{accept, history_after}
+use Rattle.spec_server.specs.Snapshots.{Snapshot}
+use Rattle.spec_client_go.specs.WorkQueues.{WorkKey, handed}
+use Rattle.spec_line_protocol.specs.Lines as lines
+use Rattle.spec_line_protocol.specs.Lines.{line_of, session_after}
+use Rattle.spec_sim_cluster.specs.Clusters.{Cluster, history, follower, request, compact, moves, restart}
+use Rattle.spec_sim_cluster.specs.Followers.{Follower, Notification}
+use Rattle.spec_sim_cluster.specs.Moves.{answers_after}
+use Rattle.spec_sim_control_plane.specs.ControlPlanes.{ControlPlane, Step, in_cluster, handle, works, tick, opened, client, have_all_listed, after_request, handle_in, step_in, step, run}
+use Rattle.spec_sim_control_plane.specs.Managers.{Manager, Acted, act, take_key}
+use Rattle.spec_sim_control_plane.specs.Turns.{Turn}
+use Rattle.sim_worker_laws.specs.IssuedLaws.{WasPublished, WasThere, IssuedIsNext}
+use Rattle.sim_worker_laws.proofs.Acting.{by_act}
+use Rattle.sim_worker_laws.proofs.Counting.{by_counted, by_tick}
+use Rattle.sim_worker_laws.proofs.Following.{AllFollow, act_follows, all_more, none_begun, none_restarted}
+use Rattle.sim_worker_laws.proofs.Growing.{step_begins, there_still}
+use Rattle.sim_worker_laws.proofs.Moved.{by_move, with_session, with_moved}
 
 -- ---- where a worker is in its turn, a list of each kind was published
 

@@ -2,31 +2,31 @@
 use Rattle.std.proofs.Common.{◌≡◌, ◌⊎◌, inl, inr, ℕ, List, [], ◌∷◌, ◌++◌, Bool, true, false, ◌&&◌, cond, Option, Some, None, slice_get, refl, sym, ap, ◌∙◌, subst, append_assoc, arith, append-nil}
 use Rattle.std.specs.List.{AllByRecursion}
 use Rattle.std.specs.Option.{IfSome}
-use Rattle.definitions.specs.declared.kinds.Kind.{Kind}
-use Rattle.definitions.specs.History.{present}
-use Rattle.definitions.specs.Keys.{Key}
-use Rattle.server_state.specs.Snapshots.{Snapshot}
-use Rattle.controllers.specs.Commands.{Command}
-use Rattle.controllers.specs.Hands.{Read}
-use Rattle.controllers.specs.WorkQueues.{WorkKey, handed}
-use Rattle.simulation.specs.declared.initial_syncs.InitialSync.{InitialSync}
-use Rattle.simulation.specs.Clusters.{history, follower, request, compact, moves, restart}
-use Rattle.simulation.specs.Followers.{Notification}
-use Rattle.reconciling.specs.ControlPlanes.{ControlPlane, Step, in_cluster, handle, works, tick, opened, client, handle_in, step_in, step, run}
-use Rattle.reconciling.specs.Managers as action
-use Rattle.reconciling.specs.Managers.{Client, Manager, Issued, Action, Delivery, take_key, carry_out, is_take, is_for, delivery_of, act_in, act}
-use Rattle.reconciling.specs.NextSteps as next_step
-use Rattle.reconciling.specs.NextSteps.{NextStep, next}
-use Rattle.reconciling.specs.Turns.{Turn}
-use Rattle.reconciling_laws.specs.IssuedLaws.{WasThere, IsNext}
-use Rattle.reconciling_laws.specs.LookLaws.{WasPublishedSince, TurnsAreUnderWay, WasIssued, CommandsWereIssued}
-use Rattle.reconciling_laws.specs.OwedLaws.{NoRestart}
-use Rattle.reconciling_laws.proofs.Counting.{by_counted, by_tick}
-use Rattle.reconciling_laws.proofs.Following.{Follows, at_place, issues_next, place_more, act_follows, none_begun, none_restarted}
-use Rattle.reconciling_laws.proofs.Growing.{step_begins, there_still}
-use Rattle.reconciling_laws.proofs.IssuedRuns.{AreListed, AreReady, none_begins, ready_step, run_one}
-use Rattle.reconciling_laws.proofs.Lists.{all_push, all_map}
-use Rattle.reconciling_laws.proofs.Nexts.{Stands, to_issue, stands}
+use Rattle.spec_api.specs.declared.kinds.Kind.{Kind}
+use Rattle.spec_api.specs.History.{present}
+use Rattle.spec_api.specs.Keys.{Key}
+use Rattle.spec_server.specs.Snapshots.{Snapshot}
+use Rattle.spec_client_go.specs.Commands.{Command}
+use Rattle.spec_client_go.specs.Hands.{Read}
+use Rattle.spec_client_go.specs.WorkQueues.{WorkKey, handed}
+use Rattle.spec_sim_cluster.specs.declared.initial_syncs.InitialSync.{InitialSync}
+use Rattle.spec_sim_cluster.specs.Clusters.{history, follower, request, compact, moves, restart}
+use Rattle.spec_sim_cluster.specs.Followers.{Notification}
+use Rattle.spec_sim_control_plane.specs.ControlPlanes.{ControlPlane, Step, in_cluster, handle, works, tick, opened, client, handle_in, step_in, step, run}
+use Rattle.spec_sim_control_plane.specs.Managers as action
+use Rattle.spec_sim_control_plane.specs.Managers.{Client, Manager, Issued, Action, Delivery, take_key, carry_out, is_take, is_for, delivery_of, act_in, act}
+use Rattle.spec_sim_control_plane.specs.NextSteps as next_step
+use Rattle.spec_sim_control_plane.specs.NextSteps.{NextStep, next}
+use Rattle.spec_sim_control_plane.specs.Turns.{Turn}
+use Rattle.sim_worker_laws.specs.IssuedLaws.{WasThere, IsNext}
+use Rattle.sim_worker_laws.specs.LookLaws.{WasPublishedSince, TurnsAreUnderWay, WasIssued, CommandsWereIssued}
+use Rattle.sim_worker_laws.specs.OwedLaws.{NoRestart}
+use Rattle.sim_worker_laws.proofs.Counting.{by_counted, by_tick}
+use Rattle.sim_worker_laws.proofs.Following.{Follows, at_place, issues_next, place_more, act_follows, none_begun, none_restarted}
+use Rattle.sim_worker_laws.proofs.Growing.{step_begins, there_still}
+use Rattle.sim_worker_laws.proofs.IssuedRuns.{AreListed, AreReady, none_begins, ready_step, run_one}
+use Rattle.sim_worker_laws.proofs.Lists.{all_push, all_map}
+use Rattle.sim_worker_laws.proofs.Nexts.{Stands, to_issue, stands}
 
 -- ---- no restart
 

@@ -1,25 +1,25 @@
 -- What a change owes is kept, step by step.
 use Rattle.std.proofs.Common.{◌≡◌, ◌⊎◌, inl, inr, ◌==◌, ◌+◌, List, [], ◌∷◌, ◌++◌, Bool, true, false, ◌||◌, cond, Option, Some, None, refl, sym, ap, ◌∙◌, subst}
 use Rattle.std.specs.FinSet as set
-use Rattle.definitions.specs.declared.kinds.Kind.{Kind}
-use Rattle.definitions.specs.declared.kinds.Kind.TheVariants.{ConfigMap, Pod, ReplicaSet, Deployment}
-use Rattle.definitions.specs.ObjectRequests.{Request}
-use Rattle.definitions.specs.Verbs.{accept, history_after}
-use Rattle.controllers.specs.Delays.{due}
-use Rattle.controllers.specs.WorkQueues.{WorkKey}
-use Rattle.line_protocol.specs.Lines as lines
-use Rattle.line_protocol.specs.Lines.{line_of, session_after}
-use Rattle.simulation.specs.Clusters.{Cluster, history, follower, with_follower, request, compact, moves, restart}
-use Rattle.simulation.specs.Followers.{Follower, Notification, notifications}
-use Rattle.simulation.specs.Moves.{Move, publish, answers_after, move_by, publish_now, closed}
-use Rattle.reconciling.specs.ControlPlanes.{ControlPlane, Step, in_cluster, handle, works, tick, opened, client, after_request, handle_in, step_in, step, run, owed}
-use Rattle.reconciling.specs.Managers.{Manager, act}
-use Rattle.reconciling.specs.NextSteps.{first}
-use Rattle.reconciling.specs.Outcomes.{Outcome}
-use Rattle.reconciling_laws.specs.OwedLaws.{IsAmong, unhandled, published, NoRestart, tells_taken, was_taken, is_dirty, IsKept, waits, was_handled, NothingIsForgotten}
-use Rattle.reconciling_laws.proofs.Counting.{by_counted, by_tick}
-use Rattle.reconciling_laws.proofs.Dirty.{or_false, or_right, dirty-all, shut-all, all-dirty, act-dirty, act-open}
-use Rattle.reconciling_laws.proofs.Moved.{by_move, with_session, with_moved}
+use Rattle.spec_api.specs.declared.kinds.Kind.{Kind}
+use Rattle.spec_api.specs.declared.kinds.Kind.TheVariants.{ConfigMap, Pod, ReplicaSet, Deployment}
+use Rattle.spec_api.specs.ObjectRequests.{Request}
+use Rattle.spec_api.specs.Verbs.{accept, history_after}
+use Rattle.spec_client_go.specs.Delays.{due}
+use Rattle.spec_client_go.specs.WorkQueues.{WorkKey}
+use Rattle.spec_line_protocol.specs.Lines as lines
+use Rattle.spec_line_protocol.specs.Lines.{line_of, session_after}
+use Rattle.spec_sim_cluster.specs.Clusters.{Cluster, history, follower, with_follower, request, compact, moves, restart}
+use Rattle.spec_sim_cluster.specs.Followers.{Follower, Notification, notifications}
+use Rattle.spec_sim_cluster.specs.Moves.{Move, publish, answers_after, move_by, publish_now, closed}
+use Rattle.spec_sim_control_plane.specs.ControlPlanes.{ControlPlane, Step, in_cluster, handle, works, tick, opened, client, after_request, handle_in, step_in, step, run, owed}
+use Rattle.spec_sim_control_plane.specs.Managers.{Manager, act}
+use Rattle.spec_sim_control_plane.specs.NextSteps.{first}
+use Rattle.spec_sim_control_plane.specs.Outcomes.{Outcome}
+use Rattle.sim_worker_laws.specs.OwedLaws.{IsAmong, unhandled, published, NoRestart, tells_taken, was_taken, is_dirty, IsKept, waits, was_handled, NothingIsForgotten}
+use Rattle.sim_worker_laws.proofs.Counting.{by_counted, by_tick}
+use Rattle.sim_worker_laws.proofs.Dirty.{or_false, or_right, dirty-all, shut-all, all-dirty, act-dirty, act-open}
+use Rattle.sim_worker_laws.proofs.Moved.{by_move, with_session, with_moved}
 
 -- ---- nobody shuts the queue
 

@@ -2,19 +2,19 @@
 use Rattle.std.proofs.Common.{◌≡◌, ℕ, zero, suc, List, [], ◌∷◌, ◌++◌, Bool, true, false, not, ◌&&◌, ◌||◌, cond, Option, Some, None, map, replicate, slice_get, slice_set, nat_eq, refl, sym, ap, ◌∙◌}
 use Rattle.std.specs.FinSet as set
 use Rattle.std.specs.FinSet.{contains-insert, contains-remove, contains-empty}
-use Rattle.controllers.specs.Expectations.{Owner}
-use Rattle.controllers.specs.WorkQueues.{WorkKey, work_key_cmp, WorkQueue, added, got_from, done, handed, front, add, get, finish as finished_call}
-use Rattle.controllers.proofs.WorkKeyOrder.{work_key_total}
-use Rattle.laws.proofs.WorkQueueRuns.{IsSound, after-sound, idle-sound, queued_is_free, front_is_queued}
-use Rattle.control.specs.Boards as boards
-use Rattle.control.specs.Boards.{Board, all_added}
-use Rattle.reconciling.specs.Managers.{Client, Manager, Action, Delivery, take_key, carry_out, act, forgotten_unless, is_satisfied_for}
-use Rattle.reconciling.specs.NextSteps.{NextStep, next, look, ask_satisfied, read, expect, issue, finish}
-use Rattle.reconciling.specs.Turns as turns
-use Rattle.reconciling.specs.Turns.{Turn, Expected, all_accepted, owner, with_sight, with_expected}
-use Rattle.reconciling_laws.specs.TurnLaws.{is_in_hands}
-use Rattle.reconciling_laws.proofs.Acting.{by_act}
-use Rattle.reconciling_laws.proofs.InHands.{same, Apart, hands_with, apart_with, hands_without, apart_without, hands_on, apart_on, is_there}
+use Rattle.spec_client_go.specs.Expectations.{Owner}
+use Rattle.spec_client_go.specs.WorkQueues.{WorkKey, work_key_cmp, WorkQueue, added, got_from, done, handed, front, add, get, finish as finished_call}
+use Rattle.spec_client_go.proofs.WorkKeyOrder.{work_key_total}
+use Rattle.spec_laws.proofs.WorkQueueRuns.{IsSound, after-sound, idle-sound, queued_is_free, front_is_queued}
+use Rattle.spec_work_board.specs.Boards as boards
+use Rattle.spec_work_board.specs.Boards.{Board, all_added}
+use Rattle.spec_sim_control_plane.specs.Managers.{Client, Manager, Action, Delivery, take_key, carry_out, act, forgotten_unless, is_satisfied_for}
+use Rattle.spec_sim_control_plane.specs.NextSteps.{NextStep, next, look, ask_satisfied, read, expect, issue, finish}
+use Rattle.spec_sim_control_plane.specs.Turns as turns
+use Rattle.spec_sim_control_plane.specs.Turns.{Turn, Expected, all_accepted, owner, with_sight, with_expected}
+use Rattle.sim_worker_laws.specs.TurnLaws.{is_in_hands}
+use Rattle.sim_worker_laws.proofs.Acting.{by_act}
+use Rattle.sim_worker_laws.proofs.InHands.{same, Apart, hands_with, apart_with, hands_without, apart_without, hands_on, apart_on, is_there}
 
 -- a queue and the turns of its workers
 abbrev pub Fits : WorkQueue → List (Option Turn) → Type 0

@@ -2,33 +2,33 @@
 use Rattle.std.proofs.Common.{◌≡◌, ◌<◌, inl, inr, ◌+◌, ℕ, zero, suc, List, [], ◌∷◌, length, map, Bool, true, false, cond, Option, Some, None, slice_get, slice_index_or, refl, sym, ap, ◌∙◌, arith}
 use mathlib.Core.Bool.{true≢false}
 use Rattle.std.specs.FinSet as set
-use Rattle.definitions.specs.declared.kinds.Kind.{Kind}
-use Rattle.definitions.specs.declared.kinds.Kind.TheVariants.{ConfigMap, Pod, ReplicaSet, Deployment}
-use Rattle.controllers.specs.Delays.{due}
-use Rattle.controllers.specs.WorkQueues.{WorkKey, handed}
-use Rattle.control.specs.Boards.{may_tick, passed, all_lowered}
-use Rattle.laws.specs.DueLaws.{IsDue}
-use Rattle.laws.proofs.DueKeys.{have_come}
-use Rattle.simulation.specs.Clusters.{Cluster, history, follower, with_follower, request, compact, moves, restart}
-use Rattle.simulation.specs.Followers as followers
-use Rattle.simulation.specs.Followers.{Follower, Notification}
-use Rattle.simulation.specs.Moves as moving
-use Rattle.simulation.specs.Moves.{Moved, answers_after, move_by}
-use Rattle.reconciling.specs.ControlPlanes.{ControlPlane, Step, Stepped, in_cluster, handle, works, tick, opened, client, handle_in, after_action, closed, step_in, step, run}
-use Rattle.reconciling.specs.Managers as managers
-use Rattle.reconciling.specs.Managers.{Manager, Acted, Delivery, act, take_key, carry_out}
-use Rattle.reconciling.specs.NextSteps.{first, NextStep, next, look, ask_satisfied, read, expect, issue, finish}
-use Rattle.reconciling.specs.Outcomes as outcomes
-use Rattle.reconciling.specs.Outcomes.{Outcome, of_cluster, was_open}
-use Rattle.reconciling.specs.PodObservations.{observations_by}
-use Rattle.reconciling.specs.Turns.{Turn}
-use Rattle.reconciling_laws.specs.OwedLaws.{IsAmong, unhandled, is_dirty}
-use Rattle.reconciling_laws.specs.StepLaws.{ClosedStepsChangeNothing, OpenStepsAreCounted, RestartsBeginAnew, FirstListsShowNothing, TicksAddWhatIsDue}
-use Rattle.reconciling_laws.proofs.Acting.{by_act}
-use Rattle.reconciling_laws.proofs.Counting.{by_counted}
-use Rattle.reconciling_laws.proofs.Dirty.{all-dirty}
-use Rattle.reconciling_laws.proofs.Moved.{by_moved}
-use Rattle.reconciling_laws.proofs.Owed.{open_run}
+use Rattle.spec_api.specs.declared.kinds.Kind.{Kind}
+use Rattle.spec_api.specs.declared.kinds.Kind.TheVariants.{ConfigMap, Pod, ReplicaSet, Deployment}
+use Rattle.spec_client_go.specs.Delays.{due}
+use Rattle.spec_client_go.specs.WorkQueues.{WorkKey, handed}
+use Rattle.spec_work_board.specs.Boards.{may_tick, passed, all_lowered}
+use Rattle.spec_laws.specs.DueLaws.{IsDue}
+use Rattle.spec_laws.proofs.DueKeys.{have_come}
+use Rattle.spec_sim_cluster.specs.Clusters.{Cluster, history, follower, with_follower, request, compact, moves, restart}
+use Rattle.spec_sim_cluster.specs.Followers as followers
+use Rattle.spec_sim_cluster.specs.Followers.{Follower, Notification}
+use Rattle.spec_sim_cluster.specs.Moves as moving
+use Rattle.spec_sim_cluster.specs.Moves.{Moved, answers_after, move_by}
+use Rattle.spec_sim_control_plane.specs.ControlPlanes.{ControlPlane, Step, Stepped, in_cluster, handle, works, tick, opened, client, handle_in, after_action, closed, step_in, step, run}
+use Rattle.spec_sim_control_plane.specs.Managers as managers
+use Rattle.spec_sim_control_plane.specs.Managers.{Manager, Acted, Delivery, act, take_key, carry_out}
+use Rattle.spec_sim_control_plane.specs.NextSteps.{first, NextStep, next, look, ask_satisfied, read, expect, issue, finish}
+use Rattle.spec_sim_control_plane.specs.Outcomes as outcomes
+use Rattle.spec_sim_control_plane.specs.Outcomes.{Outcome, of_cluster, was_open}
+use Rattle.spec_sim_control_plane.specs.PodObservations.{observations_by}
+use Rattle.spec_sim_control_plane.specs.Turns.{Turn}
+use Rattle.sim_worker_laws.specs.OwedLaws.{IsAmong, unhandled, is_dirty}
+use Rattle.sim_worker_laws.specs.StepLaws.{ClosedStepsChangeNothing, OpenStepsAreCounted, RestartsBeginAnew, FirstListsShowNothing, TicksAddWhatIsDue}
+use Rattle.sim_worker_laws.proofs.Acting.{by_act}
+use Rattle.sim_worker_laws.proofs.Counting.{by_counted}
+use Rattle.sim_worker_laws.proofs.Dirty.{all-dirty}
+use Rattle.sim_worker_laws.proofs.Moved.{by_moved}
+use Rattle.sim_worker_laws.proofs.Owed.{open_run}
 
 -- ---- steps that are not open
 

@@ -1,20 +1,20 @@
 -- Nothing but a take gives a worker a turn.
 use Rattle.std.proofs.Common.{◌≡◌, ◌⊎◌, inl, inr, ℕ, zero, suc, List, [], ◌∷◌, Bool, true, false, ◌&&◌, cond, Option, Some, None, slice_get, slice_set, refl, sym, ap, subst, ◌∙◌}
 use Rattle.std.specs.FinSet as set
-use Rattle.controllers.specs.WorkQueues.{WorkKey, front, got_from}
-use Rattle.definitions.specs.declared.kinds.Kind.{Kind}
-use Rattle.simulation.specs.Clusters.{follower, request, compact, moves, restart}
-use Rattle.simulation.specs.Followers.{Notification}
-use Rattle.reconciling.specs.ControlPlanes.{ControlPlane, Step, in_cluster, handle, works, tick, client, handle_in, step_in}
-use Rattle.reconciling.specs.Managers as action
-use Rattle.reconciling.specs.Managers.{Client, Manager, Action, Acted, Delivery, take_key, carry_out, is_take, is_for, delivery_of, act_in, act}
-use Rattle.reconciling.specs.NextSteps as next_step
-use Rattle.reconciling.specs.NextSteps.{NextStep, next}
-use Rattle.reconciling.specs.Outcomes.{took}
-use Rattle.reconciling.specs.Turns.{Turn, begun}
-use Rattle.reconciling_laws.specs.TakeLaws.{TakesTheHead, TakesGiveTheHead, OnlyTakesGive}
-use Rattle.reconciling_laws.proofs.Counting.{by_counted, by_tick}
-use Rattle.reconciling_laws.proofs.IssuedRuns.{none_after}
+use Rattle.spec_client_go.specs.WorkQueues.{WorkKey, front, got_from}
+use Rattle.spec_api.specs.declared.kinds.Kind.{Kind}
+use Rattle.spec_sim_cluster.specs.Clusters.{follower, request, compact, moves, restart}
+use Rattle.spec_sim_cluster.specs.Followers.{Notification}
+use Rattle.spec_sim_control_plane.specs.ControlPlanes.{ControlPlane, Step, in_cluster, handle, works, tick, client, handle_in, step_in}
+use Rattle.spec_sim_control_plane.specs.Managers as action
+use Rattle.spec_sim_control_plane.specs.Managers.{Client, Manager, Action, Acted, Delivery, take_key, carry_out, is_take, is_for, delivery_of, act_in, act}
+use Rattle.spec_sim_control_plane.specs.NextSteps as next_step
+use Rattle.spec_sim_control_plane.specs.NextSteps.{NextStep, next}
+use Rattle.spec_sim_control_plane.specs.Outcomes.{took}
+use Rattle.spec_sim_control_plane.specs.Turns.{Turn, begun}
+use Rattle.sim_worker_laws.specs.TakeLaws.{TakesTheHead, TakesGiveTheHead, OnlyTakesGive}
+use Rattle.sim_worker_laws.proofs.Counting.{by_counted, by_tick}
+use Rattle.sim_worker_laws.proofs.IssuedRuns.{none_after}
 
 abbrev Holds : ℕ → Turn → Manager → Type 0
 Holds w t m = slice_get m.turns w ≡ Some (Some t)

@@ -1,23 +1,23 @@
 -- What a worker's actions do, and what they do not.
 use Rattle.std.specs.Prelude.{◌≡◌, ◌⊎◌, ◌+◌, ◌-◌, ℕ, List, [], ◌∷◌, ◌++◌, length, filter, min, true, false, Some, None, option_and_then, slice_get, slice_set}
 use Rattle.std.specs.FinMap as map
-use Rattle.definitions.specs.History.{present, state}
-use Rattle.definitions.specs.Keys.{Key}
-use Rattle.definitions.specs.Metadata.{version}
-use Rattle.definitions.specs.ObjectRequests.{Request}
-use Rattle.definitions.specs.Verbs.{Outcome}
-use Rattle.controllers.specs.Commands.{Command}
-use Rattle.controllers.specs.Delays.{delay_after, earlier, failures}
-use Rattle.controllers.specs.Expectations.{Owner}
-use Rattle.control.specs.Boards.{Board, is_satisfied, forgotten}
-use Rattle.laws.specs.ExpectationLaws.{creations_left}
-use Rattle.simulation.specs.Clusters.{Cluster, history}
-use Rattle.reconciling.specs.ControlPlanes.{client}
-use Rattle.reconciling.specs.Managers.{Client, Manager, Issued, Action, ask_satisfied, read_live, issue, Delivery, delivered, answer_lost, dropped, act, answer_of, learnt, reaching, requested, ended}
-use Rattle.reconciling.specs.NextSteps as next_step
-use Rattle.reconciling.specs.NextSteps.{next}
-use Rattle.reconciling.specs.Outcomes as outcome
-use Rattle.reconciling.specs.Turns.{Turn, refused, lost, with_read, with_issue, commands, all_accepted, owner, creates_pod, undone}
+use Rattle.spec_api.specs.History.{present, state}
+use Rattle.spec_api.specs.Keys.{Key}
+use Rattle.spec_api.specs.Metadata.{version}
+use Rattle.spec_api.specs.ObjectRequests.{Request}
+use Rattle.spec_api.specs.Verbs.{Outcome}
+use Rattle.spec_client_go.specs.Commands.{Command}
+use Rattle.spec_client_go.specs.Delays.{delay_after, earlier, failures}
+use Rattle.spec_client_go.specs.Expectations.{Owner}
+use Rattle.spec_work_board.specs.Boards.{Board, is_satisfied, forgotten}
+use Rattle.spec_laws.specs.ExpectationLaws.{creations_left}
+use Rattle.spec_sim_cluster.specs.Clusters.{Cluster, history}
+use Rattle.spec_sim_control_plane.specs.ControlPlanes.{client}
+use Rattle.spec_sim_control_plane.specs.Managers.{Client, Manager, Issued, Action, ask_satisfied, read_live, issue, Delivery, delivered, answer_lost, dropped, act, answer_of, learnt, reaching, requested, ended}
+use Rattle.spec_sim_control_plane.specs.NextSteps as next_step
+use Rattle.spec_sim_control_plane.specs.NextSteps.{next}
+use Rattle.spec_sim_control_plane.specs.Outcomes as outcome
+use Rattle.spec_sim_control_plane.specs.Turns.{Turn, refused, lost, with_read, with_issue, commands, all_accepted, owner, creates_pod, undone}
 
 -- a worker is in a turn, and this is the next step of it
 abbrev pub IsAt : ℕ → Turn → next_step.NextStep → Manager → Type 0

@@ -1,17 +1,17 @@
 -- Whatever steps are taken: each command that was issued is the next one of its plan, for what the worker had seen and read.
 use Rattle.std.specs.Prelude.{◌≡◌, ◌≤◌, ℕ, List, [], ◌∷◌, ◌++◌, map, true, is_some}
 use Rattle.std.specs.List.{AllByRecursion}
-use Rattle.definitions.specs.declared.kinds.Kind.{Kind}
-use Rattle.definitions.specs.History.{History, present, state}
-use Rattle.server_state.specs.Snapshots.{Snapshot}
-use Rattle.controllers.specs.Commands.{Command}
-use Rattle.controllers.specs.Hands.{Read}
-use Rattle.simulation.specs.declared.initial_syncs.InitialSync.{InitialSync}
-use Rattle.simulation.specs.Clusters.{history, follower}
-use Rattle.reconciling.specs.ControlPlanes.{ControlPlane, Step, opened, run}
-use Rattle.reconciling.specs.Managers.{Issued}
-use Rattle.reconciling.specs.NextSteps.{Sighting, of_kind, of_expectations, order}
-use Rattle.reconciling.specs.Turns.{Turn, Sight, looked, satisfied, Issue, asks, commands, expected, all_accepted}
+use Rattle.spec_api.specs.declared.kinds.Kind.{Kind}
+use Rattle.spec_api.specs.History.{History, present, state}
+use Rattle.spec_server.specs.Snapshots.{Snapshot}
+use Rattle.spec_client_go.specs.Commands.{Command}
+use Rattle.spec_client_go.specs.Hands.{Read}
+use Rattle.spec_sim_cluster.specs.declared.initial_syncs.InitialSync.{InitialSync}
+use Rattle.spec_sim_cluster.specs.Clusters.{history, follower}
+use Rattle.spec_sim_control_plane.specs.ControlPlanes.{ControlPlane, Step, opened, run}
+use Rattle.spec_sim_control_plane.specs.Managers.{Issued}
+use Rattle.spec_sim_control_plane.specs.NextSteps.{Sighting, of_kind, of_expectations, order}
+use Rattle.spec_sim_control_plane.specs.Turns.{Turn, Sight, looked, satisfied, Issue, asks, commands, expected, all_accepted}
 
 -- ---- what was seen and read
 

@@ -1,17 +1,17 @@
 -- Whatever steps are taken: what each worker looked at and read in its turn, and that each command that was issued is the next one of the turn that its worker had in hand.
 use Rattle.std.specs.Prelude.{◌≡◌, ℕ, List, ◌∷◌, ◌++◌, map, true, Some, slice_get}
 use Rattle.std.specs.List.{AllByRecursion}
-use Rattle.definitions.specs.declared.kinds.Kind.{Kind}
-use Rattle.server_state.specs.Snapshots.{Snapshot}
-use Rattle.controllers.specs.Hands.{Read}
-use Rattle.simulation.specs.declared.initial_syncs.InitialSync.{InitialSync}
-use Rattle.simulation.specs.Clusters.{history, follower}
-use Rattle.reconciling.specs.ControlPlanes.{ControlPlane, Step, works, opened, run}
-use Rattle.reconciling.specs.Managers.{Issued, Delivery, issue}
-use Rattle.reconciling.specs.NextSteps.{order, unseen}
-use Rattle.reconciling.specs.Turns.{Turn, commands, left}
-use Rattle.reconciling_laws.specs.IssuedLaws.{WasThere, IsSeen, sighting_of, commands_of, IsNext}
-use Rattle.reconciling_laws.specs.OwedLaws.{NoRestart}
+use Rattle.spec_api.specs.declared.kinds.Kind.{Kind}
+use Rattle.spec_server.specs.Snapshots.{Snapshot}
+use Rattle.spec_client_go.specs.Hands.{Read}
+use Rattle.spec_sim_cluster.specs.declared.initial_syncs.InitialSync.{InitialSync}
+use Rattle.spec_sim_cluster.specs.Clusters.{history, follower}
+use Rattle.spec_sim_control_plane.specs.ControlPlanes.{ControlPlane, Step, works, opened, run}
+use Rattle.spec_sim_control_plane.specs.Managers.{Issued, Delivery, issue}
+use Rattle.spec_sim_control_plane.specs.NextSteps.{order, unseen}
+use Rattle.spec_sim_control_plane.specs.Turns.{Turn, commands, left}
+use Rattle.sim_worker_laws.specs.IssuedLaws.{WasThere, IsSeen, sighting_of, commands_of, IsNext}
+use Rattle.sim_worker_laws.specs.OwedLaws.{NoRestart}
 
 -- after some beginning of these steps, since which there was no restart, just this was published of a kind, of which a list had been published
 abbrev pub WasPublishedSince : ControlPlane → List Step → Kind → Snapshot → Type 0

@@ -1,19 +1,19 @@
 -- What the steps of a control plane do, and what they do not.
 use Rattle.std.specs.Prelude.{◌≡◌, ◌+◌, ℕ, List, length, true, false, Some, slice_get}
-use Rattle.definitions.specs.declared.kinds.Kind.{Kind}
-use Rattle.laws.specs.DueLaws.{IsDue}
-use Rattle.controllers.specs.WorkQueues.{WorkKey}
-use Rattle.control.specs.Boards as boards
-use Rattle.control.specs.Boards.{may_tick}
-use Rattle.simulation.specs.declared.initial_syncs.InitialSync.{InitialSync}
-use Rattle.simulation.specs.Clusters.{follower, restart}
-use Rattle.simulation.specs.Followers as followers
-use Rattle.simulation.specs.Followers.{Notification}
-use Rattle.reconciling.specs.ControlPlanes.{ControlPlane, Step, in_cluster, handle, tick, opened, step, run}
-use Rattle.reconciling.specs.NextSteps.{first}
-use Rattle.reconciling.specs.Outcomes.{was_open}
-use Rattle.reconciling.specs.Turns.{Turn}
-use Rattle.reconciling_laws.specs.OwedLaws.{unhandled, is_dirty}
+use Rattle.spec_api.specs.declared.kinds.Kind.{Kind}
+use Rattle.spec_laws.specs.DueLaws.{IsDue}
+use Rattle.spec_client_go.specs.WorkQueues.{WorkKey}
+use Rattle.spec_work_board.specs.Boards as boards
+use Rattle.spec_work_board.specs.Boards.{may_tick}
+use Rattle.spec_sim_cluster.specs.declared.initial_syncs.InitialSync.{InitialSync}
+use Rattle.spec_sim_cluster.specs.Clusters.{follower, restart}
+use Rattle.spec_sim_cluster.specs.Followers as followers
+use Rattle.spec_sim_cluster.specs.Followers.{Notification}
+use Rattle.spec_sim_control_plane.specs.ControlPlanes.{ControlPlane, Step, in_cluster, handle, tick, opened, step, run}
+use Rattle.spec_sim_control_plane.specs.NextSteps.{first}
+use Rattle.spec_sim_control_plane.specs.Outcomes.{was_open}
+use Rattle.spec_sim_control_plane.specs.Turns.{Turn}
+use Rattle.sim_worker_laws.specs.OwedLaws.{unhandled, is_dirty}
 
 -- a step that is not open changes nothing
 abbrev pub ClosedStepsChangeNothing : Type 0

@@ -1,5 +1,5 @@
 //! Laws of what workers do.
-ghost use Rattle.reconciling_laws.specs.ActionLaws.{IssuesAreTied, OnlyIssuesAsk, LostIsNotDropped, LiveReadsFindWhatIsThere, AnswersAreTheBoards, LostMayBeDone, UndoneIsExpectedNoMore, FailedKeysWait};
+ghost use Rattle.sim_worker_laws.specs.ActionLaws.{IssuesAreTied, OnlyIssuesAsk, LostIsNotDropped, LiveReadsFindWhatIsThere, AnswersAreTheBoards, LostMayBeDone, UndoneIsExpectedNoMore, FailedKeysWait};
 
 /// A command that is issued is added, with its answer, to all that were issued; the server is asked its request, unless it is
 /// dropped; and its answer is told.

@@ -1,5 +1,5 @@
 //! Laws of what workers look at, and of the turns in which they issue commands.
-ghost use Rattle.reconciling_laws.specs.LookLaws.{TurnsAreUnderWay, CommandsWereIssued};
+ghost use Rattle.sim_worker_laws.specs.LookLaws.{TurnsAreUnderWay, CommandsWereIssued};
 
 /// Over every list of steps, each turn in a worker's hands is under way: each look of it was published by that informer since the last
 /// restart, each live read was there at one revision, and what was issued in it is a beginning of its plan.

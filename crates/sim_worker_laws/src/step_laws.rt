@@ -1,5 +1,5 @@
 //! Laws of the steps of a control plane.
-ghost use Rattle.reconciling_laws.specs.StepLaws.{ClosedStepsChangeNothing, OpenStepsAreCounted, RestartsBeginAnew, FirstListsShowNothing, TicksAddWhatIsDue};
+ghost use Rattle.sim_worker_laws.specs.StepLaws.{ClosedStepsChangeNothing, OpenStepsAreCounted, RestartsBeginAnew, FirstListsShowNothing, TicksAddWhatIsDue};
 
 /// A step that is not open changes nothing.
 pub fn closed_steps_change_nothing()

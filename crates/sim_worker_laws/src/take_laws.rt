@@ -1,5 +1,5 @@
 //! Laws of how turns begin.
-ghost use Rattle.reconciling_laws.specs.TakeLaws.{TakesGiveTheHead, OnlyTakesGive};
+ghost use Rattle.sim_worker_laws.specs.TakeLaws.{TakesGiveTheHead, OnlyTakesGive};
 
 /// A worker that has nothing in hand and takes a key gets the head of the queue, if one is queued and each kind has been published.
 pub fn takes_give_the_head()

@@ -1,5 +1,5 @@
 //! Laws of the keys in workers' hands.
-ghost use Rattle.reconciling_laws.specs.TurnLaws.{HandsAreApart, ProcessingIsInHands};
+ghost use Rattle.sim_worker_laws.specs.TurnLaws.{HandsAreApart, ProcessingIsInHands};
 
 /// Over every list of steps, no key is in two workers' hands.
 pub fn hands_are_apart()

@@ -1,21 +1,21 @@
 //! The lines by which it is told what workers do, how many keys a change owed, and what time it is. Each is made before anything changes,
 //! so that a step that runs out of memory changes nothing.
 ghost use Rattle.std.specs.Prelude.{◌≡◌, IfOk, option_map, string_bytes, length};
-ghost use Rattle.keys.specs.Keys.{key_of};
-ghost use Rattle.reconciling.specs.OutcomeTexts as texts;
-ghost use Rattle.reconciling.specs.OutcomeTexts.{outcome_text, answer_text, verb};
-ghost use Rattle.reconciling.specs.Outcomes as outcomes;
-ghost use Rattle.turns.specs.Commands.{command_of};
+ghost use Rattle.object_keys.specs.Keys.{key_of};
+ghost use Rattle.spec_sim_control_plane.specs.OutcomeTexts as texts;
+ghost use Rattle.spec_sim_control_plane.specs.OutcomeTexts.{outcome_text, answer_text, verb};
+ghost use Rattle.spec_sim_control_plane.specs.Outcomes as outcomes;
+ghost use Rattle.reconcile_types.specs.Commands.{command_of};
 ghost use Rattle.work_keys.specs.WorkKeys.{work_key_of};
-ghost use Rattle.turn_parts.specs.Seen.{answer_of};
+ghost use Rattle.reconcile_parts.specs.Seen.{answer_of};
 ghost use Rattle.std.specs.Prelude.{◌++◌, ◌∷◌, OnOk};
 
 use crate::words::{begin, controller, end, push, push_key, push_named, push_number};
-use definitions::kinds::Kind;
-use keys::Key;
+use object_keys::Key;
+use reconcile_parts::CommandAnswer;
+use reconcile_types::Command;
+use spec_api::kinds::Kind;
 use std::alloc::{AllocError, Global};
-use turn_parts::Answer;
-use turns::Command;
 use work_keys::WorkKey;
 
 /// Returns the line of a step that was not open. The error is running out of memory.
@@ -122,13 +122,13 @@ fn push_command(line: &mut Vec<u8>, command: &Command) -> Result<(), AllocError>
 }
 
 /// Adds the code of an answer, or that it was lost.
-fn push_answer(alloc: Global, line: &mut Vec<u8>, answer: &Answer) -> Result<(), AllocError>
+fn push_answer(alloc: Global, line: &mut Vec<u8>, answer: &CommandAnswer) -> Result<(), AllocError>
     ensures { OnOk result (line.new.items ≡ line.old.items ++ (32 ∷ answer_text (answer_of answer.now))) }
 {
     match answer {
-        Answer::Accepted { code, .. } => push_number(alloc, line, *code as u64),
-        Answer::Refused { code } => push_number(alloc, line, *code as u64),
-        Answer::Lost => push(line, "lost"),
+        CommandAnswer::Accepted { code, .. } => push_number(alloc, line, *code as u64),
+        CommandAnswer::Refused { code } => push_number(alloc, line, *code as u64),
+        CommandAnswer::Lost => push(line, "lost"),
     }
 }
 
@@ -137,7 +137,7 @@ pub fn issued(
     alloc: Global,
     worker: u64,
     command: &Command,
-    answer: &Answer,
+    answer: &CommandAnswer,
 ) -> Result<Vec<u8>, AllocError>
     ensures { IfOk result (λ l. l.items ≡ outcome_text (outcomes.issued worker (command_of command.now) (answer_of answer.now))) }
 {

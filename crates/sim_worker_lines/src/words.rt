@@ -1,11 +1,11 @@
 //! Words of a line.
 ghost use Rattle.std.specs.Prelude.{◌≡◌, ◌++◌, ◌∷◌, [], IfOk, OnOk, option_map, decimal};
-ghost use Rattle.keys.specs.Keys.{key_of};
-ghost use Rattle.reconciling.specs.OutcomeTexts.{controller_text, key_text};
+ghost use Rattle.object_keys.specs.Keys.{key_of};
+ghost use Rattle.spec_sim_control_plane.specs.OutcomeTexts.{controller_text, key_text};
 
-use controllers::controller::Controller;
-use definitions::kinds::Kind;
-use keys::Key;
+use object_keys::Key;
+use spec_api::kinds::Kind;
+use spec_client_go::controller::Controller;
 use std::alloc::{AllocError, Global};
 
 /// Returns a line that begins with a word. The error is running out of memory.

@@ -1,8 +1,8 @@
 -- Issued commands, as the definitions have them.
-use Rattle.reconciling.specs.Managers as managers
-use Rattle.turns.specs.Commands.{command_of}
-use Rattle.workers.specs.Seen.{answer_of}
-use Rattle.worker_slots.specs.declared.issued.Issued.{Issued}
+use Rattle.spec_sim_control_plane.specs.Managers as managers
+use Rattle.reconcile_types.specs.Commands.{command_of}
+use Rattle.reconcile_turn.specs.Seen.{answer_of}
+use Rattle.sim_worker_slots.specs.declared.issued.Issued.{Issued}
 
 abbrev pub issued_of : Issued → managers.Issued
 issued_of i = record { turn = i.turn; command = command_of i.command; answer = answer_of i.answer }

@@ -1,25 +1,25 @@
 //! What workers learn of their commands.
 ghost use Rattle.std.specs.Prelude.{◌≡◌, true, is_some, IfOk, string_bytes};
-ghost use Rattle.reconciling.specs.NextSteps.{next};
-ghost use Rattle.reconciling.specs.Turns as turns;
-ghost use Rattle.workers.specs.Seen.{answer_of, answered_to, command_issued, data_of};
+ghost use Rattle.spec_sim_control_plane.specs.NextSteps.{next};
+ghost use Rattle.spec_sim_control_plane.specs.Turns as turns;
+ghost use Rattle.reconcile_turn.specs.Seen.{answer_of, answered_to, command_issued, data_of};
 
+use reconcile_turn::{CommandAnswer, Turn};
 use reply::Reply;
 use std::alloc::AllocError;
-use workers::{Answer, Turn};
 
 /// Returns what a worker learns where its command is accepted with a reply. It takes no memory.
-pub fn acceptance(reply: Reply) -> Answer
+pub fn acceptance(reply: Reply) -> CommandAnswer
     ensures { answer_of result ≡ turns.accepted reply.code (data_of (string_bytes reply.text)) }
 {
-    Answer::Accepted {
+    CommandAnswer::Accepted {
         code: reply.code,
         text: reply.text,
     }
 }
 
 /// Returns a turn once its next command was answered. The error is running out of memory.
-pub fn answered_turn(turn: &Turn, answer: Answer) -> Result<Turn, AllocError>
+pub fn answered_turn(turn: &Turn, answer: CommandAnswer) -> Result<Turn, AllocError>
     requires { is_some (command_issued (next turn.now)) ≡ true }
     ensures { IfOk result (λ t. t ≡ answered_to (command_issued (next turn.now)) (answer_of answer) turn.now) }
 {

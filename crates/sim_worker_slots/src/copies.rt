@@ -1,12 +1,12 @@
 //! Copies of commands and answers.
 ghost use Rattle.std.specs.Prelude.{◌≡◌, IfOk, option_map, string_bytes};
-ghost use Rattle.turns.specs.Commands.{command_of, version_of};
-ghost use Rattle.workers.specs.Seen.{answer_of};
+ghost use Rattle.reconcile_types.specs.Commands.{command_of, version_of};
+ghost use Rattle.reconcile_turn.specs.Seen.{answer_of};
 
 use meta::Object;
+use reconcile_turn::CommandAnswer;
+use reconcile_types::{Command, Version};
 use std::alloc::AllocError;
-use turns::{Command, Version};
-use workers::Answer;
 
 /// Returns a copy of a text, if there is one.
 fn text(text: &Option<String>) -> Result<Option<String>, AllocError>
@@ -61,15 +61,15 @@ pub fn command(command: &Command) -> Result<Command, AllocError>
 }
 
 /// Returns a copy of an answer. The error is running out of memory.
-pub fn answer(answer: &Answer) -> Result<Answer, AllocError>
+pub fn answer(answer: &CommandAnswer) -> Result<CommandAnswer, AllocError>
     ensures { IfOk result (λ copy. answer_of copy ≡ answer_of answer.now) }
 {
     match answer {
-        Answer::Accepted { code, text } => Ok(Answer::Accepted {
+        CommandAnswer::Accepted { code, text } => Ok(CommandAnswer::Accepted {
             code: *code,
             text: text.clone()?,
         }),
-        Answer::Refused { code } => Ok(Answer::Refused { code: *code }),
-        Answer::Lost => Ok(Answer::Lost),
+        CommandAnswer::Refused { code } => Ok(CommandAnswer::Refused { code: *code }),
+        CommandAnswer::Lost => Ok(CommandAnswer::Lost),
     }
 }

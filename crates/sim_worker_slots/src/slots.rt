@@ -1,13 +1,13 @@
 //! Slots of workers.
 ghost use Rattle.std.specs.Prelude.{◌≡◌, true, OnOk, OnErr, Some, None, map, option_map, option_and_then, is_some};
-ghost use Rattle.reconciling.specs.Turns.{with_expected, with_sight};
-ghost use Rattle.worker_slots.specs.Slots.{next_in};
-ghost use Rattle.workers.specs.Seen.{sight_of, step_of, key_read, found_under};
+ghost use Rattle.spec_sim_control_plane.specs.Turns.{with_expected, with_sight};
+ghost use Rattle.sim_worker_slots.specs.Slots.{next_in};
+ghost use Rattle.reconcile_turn.specs.Seen.{sight_of, step_of, key_read, found_under};
 
 use meta::Object;
+use reconcile_turn::{Sight, Turn};
 use std::alloc::{AllocError, Global};
 use std::marker::Model;
-use workers::{Sight, Turn};
 
 /// For each worker its turn, or none.
 #[derive(Drop)]
@@ -16,8 +16,8 @@ pub struct Slots {
 }
 
 impl Model for Slots {
-    ghost use Rattle.worker_slots.specs.Codes.{coded_slots};
-    ghost use Rattle.worker_slots.specs.Slots as slots;
+    ghost use Rattle.sim_worker_slots.specs.Codes.{coded_slots};
+    ghost use Rattle.sim_worker_slots.specs.Slots as slots;
 
     ghost Value = { slots.Slots };
 
@@ -28,9 +28,9 @@ impl Model for Slots {
 
 impl Slots {
     ghost use Rattle.std.specs.Prelude.{◌≡◌, ◌<◌, true, IfOk, OnOk, OnErr, Some, None, length, map, option_map, option_and_then, is_some, replicate, slice_set};
-    ghost use Rattle.reconciling.specs.Turns.{with_expected, with_sight};
-    ghost use Rattle.worker_slots.specs.Slots.{is_idle, turn_of, next_in, gone_on};
-    ghost use Rattle.workers.specs.Seen.{sight_of, step_of, key_read, found_under};
+    ghost use Rattle.spec_sim_control_plane.specs.Turns.{with_expected, with_sight};
+    ghost use Rattle.sim_worker_slots.specs.Slots.{is_idle, turn_of, next_in, gone_on};
+    ghost use Rattle.reconcile_turn.specs.Seen.{sight_of, step_of, key_read, found_under};
 
     /// Returns the slots of so many workers, none of which is in a turn. The error is running out of memory.
     pub fn new(alloc: Global, workers: usize) -> Result<Slots, AllocError>

@@ -1,11 +1,11 @@
 //! Whether an action is what comes next in a turn.
 ghost use Rattle.std.specs.Prelude.{◌≡◌};
-ghost use Rattle.reconciling.specs.Managers.{is_for};
-ghost use Rattle.reconciling.specs.NextSteps.{next};
-ghost use Rattle.steps.specs.Actions.{action_of};
+ghost use Rattle.spec_sim_control_plane.specs.Managers.{is_for};
+ghost use Rattle.spec_sim_control_plane.specs.NextSteps.{next};
+ghost use Rattle.sim_steps.specs.Actions.{action_of};
 
-use steps::Action;
-use workers::{NextStep, Turn};
+use reconcile_turn::{NextStep, Turn};
+use sim_steps::Action;
 
 /// Returns whether an action is the step that comes next in a turn. It takes no memory.
 pub fn is_next(turn: &Turn, action: Action) -> bool

@@ -3,7 +3,7 @@ use Rattle.std.proofs.Common.{◌≡◌, ℕ, suc, ◌<◌, ◌≤◌, List, [],
 use Rattle.std.proofs.lemmas.Bool.Decides.{nat_tests}
 use Rattle.std.proofs.lemmas.List.Sums.{fails_before_first}
 use Rattle.std.specs.List.{list_any, position_or_len}
-use Rattle.definitions.proofs.Truths.{not_both}
+use Rattle.spec_api.proofs.Truths.{not_both}
 
 pub none-passes : (p : ℕ → Bool) (t : List ℕ) → ((k : ℕ) → k < length t → p (get_or t k 0) ≡ false) → list_any p t ≡ false
 none-passes p [] h = refl

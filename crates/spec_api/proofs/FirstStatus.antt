@@ -3,11 +3,11 @@ use Rattle.std.proofs.Common.{◌≡◌, ℕ, List, false, codes, bytes_eq, Opti
 use Rattle.serde_json.specs.Data.{Data, null, boolean, number, string, array, object, Members}
 use Rattle.serde_json.specs.Find.{get, get_member}
 use Rattle.serde_json.proofs.Views.{get_member-put_other}
-use Rattle.definitions.specs.declared.kinds.Kind.{Kind}
-use Rattle.definitions.specs.Metadata.{metadata_of}
-use Rattle.definitions.specs.NewObjects.{first_status, with_first_status, with_status}
-use Rattle.definitions.specs.Values.{members_of, inner_of}
-use Rattle.definitions.proofs.JsonMembers.{apart}
+use Rattle.spec_api.specs.declared.kinds.Kind.{Kind}
+use Rattle.spec_api.specs.Metadata.{metadata_of}
+use Rattle.spec_api.specs.NewObjects.{first_status, with_first_status, with_status}
+use Rattle.spec_api.specs.Values.{members_of, inner_of}
+use Rattle.spec_api.proofs.JsonMembers.{apart}
 
 pub get-members_of : (q : List ℕ) (d : Data) → get q d ≡ get_member q (members_of d)
 get-members_of q null = refl

@@ -7,8 +7,8 @@ use Rattle.std.specs.Ordering.{match_ordering}
 use Rattle.serde_json.specs.Data.{Data, string, object, Members, no_members, member, put}
 use Rattle.serde_json.specs.Find.{get_member, as_str}
 use Rattle.serde_json.proofs.Views.{get_member-put, get_member-put_other}
-use Rattle.definitions.specs.Values.{members_of, inner_of, without}
-use Rattle.definitions.specs.Metadata.{metadata_of, with_metadata, metadata_text}
+use Rattle.spec_api.specs.Values.{members_of, inner_of, without}
+use Rattle.spec_api.specs.Metadata.{metadata_of, with_metadata, metadata_text}
 
 -- a text among members
 abbrev pub text_in : List ℕ → Members → Option (List ℕ)

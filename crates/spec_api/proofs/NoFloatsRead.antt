@@ -7,15 +7,15 @@ use Rattle.std.proofs.Common.{Less, Equal, Greater, is_some}
 use Rattle.serde_json.specs.Data.{Data, null, boolean, number, string, array, object, Items, no_items, item, Members, no_members, member, put}
 use Rattle.serde_json.specs.Find.{get}
 use Rattle.serde_json.specs.Written.{has_float, items_have_float, members_have_float}
-use Rattle.definitions.proofs.Truths.{both_true, left_false, right_false}
-use Rattle.definitions.specs.declared.kinds.Kind.{Kind}
-use Rattle.definitions.specs.declared.kinds.Kind.TheVariants.{Pod}
-use Rattle.definitions.specs.declared.schemas.Shape.{Shape}
-use Rattle.definitions.specs.declared.schemas.Schema.{Schema}
-use Rattle.definitions.specs.Kinds.{api_version, kind_text}
-use Rattle.definitions.specs.Schemas.{property_at}
-use Rattle.definitions.specs.Values.{with_member, with_default}
-use Rattle.definitions.specs.Reading.{tidied, tidied_items, tidied_members, is_absent, item_of, schema_of, filled, with_spec, is_body, empty}
+use Rattle.spec_api.proofs.Truths.{both_true, left_false, right_false}
+use Rattle.spec_api.specs.declared.kinds.Kind.{Kind}
+use Rattle.spec_api.specs.declared.kinds.Kind.TheVariants.{Pod}
+use Rattle.spec_api.specs.declared.schemas.Shape.{Shape}
+use Rattle.spec_api.specs.declared.schemas.Schema.{Schema}
+use Rattle.spec_api.specs.Kinds.{api_version, kind_text}
+use Rattle.spec_api.specs.Schemas.{property_at}
+use Rattle.spec_api.specs.Values.{with_member, with_default}
+use Rattle.spec_api.specs.Reading.{tidied, tidied_items, tidied_members, is_absent, item_of, schema_of, filled, with_spec, is_body, empty}
 
 pub both_false : (a b : Bool) → a ≡ false → b ≡ false → (a || b) ≡ false
 both_false a b h k = rw (h, k) refl

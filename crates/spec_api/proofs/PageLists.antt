@@ -9,15 +9,15 @@ use Rattle.std.proofs.lemmas.Bool.{le-leb}
 use Rattle.std.proofs.lemmas.Cmp.{nat_list_cmp_total}
 use Rattle.std.proofs.lemmas.List.{take-append-drop, length-take}
 use Rattle.serde_json.specs.Data.{Data}
-use Rattle.definitions.proofs.Truths.{left_true}
-use Rattle.definitions.specs.Kinds.{rank}
-use Rattle.definitions.specs.Metadata.{labels_of}
-use Rattle.definitions.specs.SelectorFields.{fields_meet}
-use Rattle.definitions.specs.Selectors.{meets_all}
-use Rattle.definitions.specs.Keys.{Key, key_cmp}
-use Rattle.definitions.specs.History.{History, View, Entries, viewed, in_view, in_namespace, list, up_to, entries_at}
-use Rattle.definitions.specs.Pages.{Place, place_of, place_cmp, after_place, last_place, page_of, remaining, AreInPlace}
-use Rattle.definitions.proofs.PutLaws.{IsAbove, IsAscending, IsAscending-after_all}
+use Rattle.spec_api.proofs.Truths.{left_true}
+use Rattle.spec_api.specs.Kinds.{rank}
+use Rattle.spec_api.specs.Metadata.{labels_of}
+use Rattle.spec_api.specs.SelectorFields.{fields_meet}
+use Rattle.spec_api.specs.Selectors.{meets_all}
+use Rattle.spec_api.specs.Keys.{Key, key_cmp}
+use Rattle.spec_api.specs.History.{History, View, Entries, viewed, in_view, in_namespace, list, up_to, entries_at}
+use Rattle.spec_api.specs.Pages.{Place, place_of, place_cmp, after_place, last_place, page_of, remaining, AreInPlace}
+use Rattle.spec_api.proofs.PutLaws.{IsAbove, IsAscending, IsAscending-after_all}
 
 abbrev pub order : Key → Key → Ordering
 order a b = place_cmp (place_of a) (place_of b)

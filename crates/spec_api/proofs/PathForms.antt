@@ -2,11 +2,11 @@
 use Rattle.std.proofs.Common.{◌≡◌, ℕ, List, [], ◌∷◌, ◌&&◌, Bool, true, false, cond, Option, Some, None, option_and_then, option_map, codes, bytes_eq, if◌then◌else◌, refl}
 use Rattle.std.specs.List.{list_all}
 use Rattle.std.specs.Option.{option_map_or}
-use Rattle.definitions.specs.declared.kinds.Group.{Group}
-use Rattle.definitions.specs.declared.kinds.Group.TheVariants.{Core, Apps}
-use Rattle.definitions.specs.Kinds.{kind_with_plural}
-use Rattle.definitions.specs.Targets as targets
-use Rattle.definitions.specs.Targets.{Route, collection, object_at, status_of, route, segments, after_words, is_filled, kind_with_status}
+use Rattle.spec_api.specs.declared.kinds.Group.{Group}
+use Rattle.spec_api.specs.declared.kinds.Group.TheVariants.{Core, Apps}
+use Rattle.spec_api.specs.Kinds.{kind_with_plural}
+use Rattle.spec_api.specs.Targets as targets
+use Rattle.spec_api.specs.Targets.{Route, collection, object_at, status_of, route, segments, after_words, is_filled, kind_with_status}
 
 -- the forms of a path, with its group and its parts
 pub data Form : Type 0 where

@@ -4,8 +4,8 @@ use Rattle.std.proofs.lemmas.Bool.{ne_eqb}
 use Rattle.std.specs.List.{list_all}
 use Rattle.std.specs.Str.Parse.{digits_value}
 use Rattle.std.proofs.lemmas.Fmt.{decimal_is_IsNumeral, decimal_nonempty, first_decimal, decimal_digit, decimal_by_steps}
-use Rattle.definitions.specs.Moments.{is_digit}
-use Rattle.definitions.specs.Revisions.{revision_of}
+use Rattle.spec_api.specs.Moments.{is_digit}
+use Rattle.spec_api.specs.Revisions.{revision_of}
 
 digit : (n : ℕ) → n < 10 → is_digit (48 + n) ≡ true
 digit n h = let a : nat_le 48 (48 + n) ≡ true = grind arith in let b : nat_le (48 + n) 57 ≡ true = grind arith in rw (a, b) refl

@@ -24,9 +24,9 @@ use Rattle.serde_json.specs.Read.{read, of_json, max_depth}
 use Rattle.serde_json.specs.Written.{compact_text, outline}
 use Rattle.serde_json.proofs.Texts.{print-outline}
 use Rattle.serde_json.proofs.OnLiterals.{serde_json_on_literals}
-use Rattle.definitions.proofs.Truths.{both_true}
-use Rattle.definitions.specs.Revisions.{greatest_revision}
-use Rattle.definitions.specs.PageTokens.{Token, token_data, token_text, IsToken}
+use Rattle.spec_api.proofs.Truths.{both_true}
+use Rattle.spec_api.specs.Revisions.{greatest_revision}
+use Rattle.spec_api.specs.PageTokens.{Token, token_data, token_text, IsToken}
 
 -- ---- bytes of characters
 

@@ -13,14 +13,14 @@ use Rattle.serde_json.specs.Data.{Data}
 use Rattle.serde_json.specs.Read.{read}
 use Rattle.serde_json.specs.Written.{compact_text}
 use Rattle.serde_json.proofs.OnLiterals.{serde_json_on_literals}
-use Rattle.definitions.proofs.Truths.{right_true}
-use Rattle.definitions.specs.Metadata.{text_at}
-use Rattle.definitions.specs.Moments.{is_digit}
-use Rattle.definitions.specs.PageTokens.{Token, token_data, token_text, IsToken, token_with, token_said, if_written, token_of}
-use Rattle.definitions.specs.Revisions.{revision_of, is_revision, greatest_revision}
-use Rattle.definitions.specs.Values.{data_of}
-use Rattle.definitions.proofs.RevisionTexts.{revision_is}
-use Rattle.definitions.proofs.TokenTexts.{token_decodes, data_read_back, IsUtf8-token}
+use Rattle.spec_api.proofs.Truths.{right_true}
+use Rattle.spec_api.specs.Metadata.{text_at}
+use Rattle.spec_api.specs.Moments.{is_digit}
+use Rattle.spec_api.specs.PageTokens.{Token, token_data, token_text, IsToken, token_with, token_said, if_written, token_of}
+use Rattle.spec_api.specs.Revisions.{revision_of, is_revision, greatest_revision}
+use Rattle.spec_api.specs.Values.{data_of}
+use Rattle.spec_api.proofs.RevisionTexts.{revision_is}
+use Rattle.spec_api.proofs.TokenTexts.{token_decodes, data_read_back, IsUtf8-token}
 
 -- ---- a token's text is read as that token
 

@@ -2,25 +2,25 @@
 use Rattle.std.specs.Prelude.{ℕ, ◌+◌, List, not, ◌||◌, length, Result, Ok, is_some, nat_le, if◌then◌else◌}
 use Rattle.std.specs.Result.{result_map_both}
 use Rattle.serde_json.specs.Data.{Data}
-use Rattle.definitions.specs.declared.kinds.Kind.{Kind}
-use Rattle.definitions.specs.declared.refusals.Part.{Part}
-use Rattle.definitions.specs.declared.refusals.Part.TheVariants as part
-use Rattle.definitions.specs.declared.refusals.Field.TheVariants as field
-use Rattle.definitions.specs.Checks.{create_fault, update_fault, is_status_valid}
-use Rattle.definitions.specs.Defaults.{defaulted}
-use Rattle.definitions.specs.DeleteOptions.{Options}
-use Rattle.definitions.specs.Deletion.{Fate, decided, kept_code}
-use Rattle.definitions.specs.History as history
-use Rattle.definitions.specs.History.{found}
-use Rattle.definitions.specs.Kinds.{has_status}
-use Rattle.definitions.specs.Metadata.{metadata_of, at_revision}
-use Rattle.definitions.specs.Keys.{Key}
-use Rattle.definitions.specs.NewObjects.{created, with_first_status}
-use Rattle.definitions.specs.Reading.{is_body}
-use Rattle.definitions.specs.Refusals.{bad_request, not_found, already_exists, invalid, too_large, storage_full}
-use Rattle.definitions.specs.Replacements.{is_finalized, says_the_same, updated}
-use Rattle.definitions.specs.Values.{merged}
-use Rattle.definitions.specs.Verbs.{Outcome, refuse_if, refuse_field, if_read, if_named, or_not_found, shown, stored, is_too_large, is_past_greatest, most_objects, object_in, create, take_out, put_in_place, replace, replace_status, by_decision}
+use Rattle.spec_api.specs.declared.kinds.Kind.{Kind}
+use Rattle.spec_api.specs.declared.refusals.Part.{Part}
+use Rattle.spec_api.specs.declared.refusals.Part.TheVariants as part
+use Rattle.spec_api.specs.declared.refusals.Field.TheVariants as field
+use Rattle.spec_api.specs.Checks.{create_fault, update_fault, is_status_valid}
+use Rattle.spec_api.specs.Defaults.{defaulted}
+use Rattle.spec_api.specs.DeleteOptions.{Options}
+use Rattle.spec_api.specs.Deletion.{Fate, decided, kept_code}
+use Rattle.spec_api.specs.History as history
+use Rattle.spec_api.specs.History.{found}
+use Rattle.spec_api.specs.Kinds.{has_status}
+use Rattle.spec_api.specs.Metadata.{metadata_of, at_revision}
+use Rattle.spec_api.specs.Keys.{Key}
+use Rattle.spec_api.specs.NewObjects.{created, with_first_status}
+use Rattle.spec_api.specs.Reading.{is_body}
+use Rattle.spec_api.specs.Refusals.{bad_request, not_found, already_exists, invalid, too_large, storage_full}
+use Rattle.spec_api.specs.Replacements.{is_finalized, says_the_same, updated}
+use Rattle.spec_api.specs.Values.{merged}
+use Rattle.spec_api.specs.Verbs.{Outcome, refuse_if, refuse_field, if_read, if_named, or_not_found, shown, stored, is_too_large, is_past_greatest, most_objects, object_in, create, take_out, put_in_place, replace, replace_status, by_decision}
 
 abbrev pub with_defaults : Kind → Result Data Part → Result Data Part
 with_defaults k read = result_map_both (defaulted k) (λ p. p) read

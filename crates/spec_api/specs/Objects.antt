@@ -9,7 +9,7 @@ pub mod NewObjects
 pub mod Replacements
 pub mod Refusals
 use Rattle.serde_json.specs.Data.{Data}
-use Rattle.definitions.specs.declared.kinds.Kind.{Kind}
+use Rattle.spec_api.specs.declared.kinds.Kind.{Kind}
 
 -- an object: its kind, and all that it says (Kubernetes, Objects In Kubernetes)
 pub record Object : Type 0 where

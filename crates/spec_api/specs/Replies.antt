@@ -1,13 +1,13 @@
 -- What is answered at a moment by what has happened, whoever asks.
 use Rattle.std.specs.Prelude.{ℕ, List, [], Result, Ok, Err, codes}
-use Rattle.definitions.specs.declared.kinds.Kind.{Kind}
-use Rattle.definitions.specs.State.History.{History}
-use Rattle.definitions.specs.Answers.Lists.{list_outcome}
-use Rattle.definitions.specs.Objects.Refusals.{Refusal}
-use Rattle.definitions.specs.Watching.Streams as streams
-use Rattle.definitions.specs.Requests.Targets.{Asked, request, list, watch}
-use Rattle.definitions.specs.Watching.WatchReplies.{watch_lines}
-use Rattle.definitions.specs.Answers.Verbs.{Outcome, refused, history_after, accept}
+use Rattle.spec_api.specs.declared.kinds.Kind.{Kind}
+use Rattle.spec_api.specs.State.History.{History}
+use Rattle.spec_api.specs.Answers.Lists.{list_outcome}
+use Rattle.spec_api.specs.Objects.Refusals.{Refusal}
+use Rattle.spec_api.specs.Watching.Streams as streams
+use Rattle.spec_api.specs.Requests.Targets.{Asked, request, list, watch}
+use Rattle.spec_api.specs.Watching.WatchReplies.{watch_lines}
+use Rattle.spec_api.specs.Answers.Verbs.{Outcome, refused, history_after, accept}
 
 -- what has happened, the moment that it is, and how many of the last changes of each kind are recorded for watches and lists of earlier revisions
 pub record Session : Type 0 where

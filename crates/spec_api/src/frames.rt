@@ -28,7 +28,7 @@ pub enum FrameKind {
 
 impl ChangeKind {
     ghost use Rattle.std.specs.Prelude.{◌≡◌};
-    ghost use Rattle.definitions.specs.Frames.{frame_kind};
+    ghost use Rattle.spec_api.specs.Frames.{frame_kind};
 
     /// Returns the type of the event's frame.
     pub fn frame_kind(self) -> FrameKind
@@ -44,7 +44,7 @@ impl ChangeKind {
 
 impl FrameKind {
     ghost use Rattle.std.specs.Prelude.{◌≡◌};
-    ghost use Rattle.definitions.specs.Frames.{kind_text, frame_kind_named};
+    ghost use Rattle.spec_api.specs.Frames.{kind_text, frame_kind_named};
 
     /// Returns the member `type` of a frame of the kind.
     pub fn text(self) -> &'static str

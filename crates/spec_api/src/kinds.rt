@@ -41,7 +41,7 @@ struct Facts {
 
 impl Group {
     ghost use Rattle.std.specs.Prelude.{◌≡◌};
-    ghost use Rattle.definitions.specs.Kinds.{text_of_group, kind_with_plural};
+    ghost use Rattle.spec_api.specs.Kinds.{text_of_group, kind_with_plural};
 
     /// Returns the name of the group; the core group has none.
     pub fn name(self) -> &'static str
@@ -66,7 +66,7 @@ impl Group {
 
 impl Kind {
     ghost use Rattle.std.specs.Prelude.{◌≡◌};
-    ghost use Rattle.definitions.specs.Kinds.{rank, kind_text, list_kind, api_version, group, plural, has_status, has_generation, kind_after, group_name, resource};
+    ghost use Rattle.spec_api.specs.Kinds.{rank, kind_text, list_kind, api_version, group, plural, has_status, has_generation, kind_after, group_name, resource};
 
     /// All kinds, in their order.
     pub const ALL: [Kind; 4] = [

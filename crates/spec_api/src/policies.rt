@@ -23,7 +23,7 @@ pub enum StatedPolicy {
 
 impl Policy {
     ghost use Rattle.std.specs.Prelude.{◌≡◌};
-    ghost use Rattle.definitions.specs.DeleteOptions.{policy_named};
+    ghost use Rattle.spec_api.specs.DeleteOptions.{policy_named};
 
     /// Returns the policy with this name.
     pub fn named(name: &str) -> Option<Policy>
@@ -40,7 +40,7 @@ impl Policy {
 
 impl StatedPolicy {
     ghost use Rattle.std.specs.Prelude.{◌≡◌, option_map};
-    ghost use Rattle.definitions.specs.DeleteOptions.{stated_policy};
+    ghost use Rattle.spec_api.specs.DeleteOptions.{stated_policy};
 
     /// Returns the policy that a text names, where there is a text.
     pub fn read(text: Option<&str>) -> StatedPolicy

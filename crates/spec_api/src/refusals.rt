@@ -48,7 +48,7 @@ pub enum Field {
 
 impl Part {
     ghost use Rattle.std.specs.Prelude.{◌≡◌};
-    ghost use Rattle.definitions.specs.Refusals.{part_text};
+    ghost use Rattle.spec_api.specs.Refusals.{part_text};
 
     /// Returns how a message names the part.
     pub fn text(self) -> &'static str
@@ -68,7 +68,7 @@ impl Part {
 
 impl Mismatch {
     ghost use Rattle.std.specs.Prelude.{◌≡◌};
-    ghost use Rattle.definitions.specs.Refusals.{mismatch_text};
+    ghost use Rattle.spec_api.specs.Refusals.{mismatch_text};
 
     /// Returns the end of the message.
     pub fn text(self) -> &'static str
@@ -86,7 +86,7 @@ impl Mismatch {
 
 impl Field {
     ghost use Rattle.std.specs.Prelude.{◌≡◌};
-    ghost use Rattle.definitions.specs.Refusals.{field_text};
+    ghost use Rattle.spec_api.specs.Refusals.{field_text};
 
     /// Returns how a message names the field: its path in the object.
     pub fn text(self) -> &'static str

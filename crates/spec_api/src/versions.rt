@@ -35,7 +35,7 @@ pub enum Start {
 
 impl Match {
     ghost use Rattle.std.specs.Prelude.{◌≡◌, option_map};
-    ghost use Rattle.definitions.specs.ListQueries.{match_of};
+    ghost use Rattle.spec_api.specs.ListQueries.{match_of};
 
     /// Returns the match that a parameter names, or `Unset` where there is none; nothing, if it is no name of a match.
     pub fn read(name: Option<&str>) -> Option<Match>

@@ -10,9 +10,9 @@ use Rattle.std.specs.FinMap.{IsAntisymmetric, nat_cmp-IsAntisymmetric, find, put
 use Rattle.std.specs.FinMap.Entries.{below_all, by_order}
 use Rattle.std.specs.FinSet as set
 use Rattle.std.specs.FinSet.{contains-from_list, contains-insert, contains-remove, same_set}
-use Rattle.controllers.specs.WorkQueues.{WorkKey, work_key_cmp}
-use Rattle.controllers.specs.Delays.{Delays, Alarm, alarm_cmp, alarms}
-use Rattle.controllers.proofs.WorkKeyOrder.{work_key_total, work_key_tells, then_Equal}
+use Rattle.spec_client_go.specs.WorkQueues.{WorkKey, work_key_cmp}
+use Rattle.spec_client_go.specs.Delays.{Delays, Alarm, alarm_cmp, alarms}
+use Rattle.spec_client_go.proofs.WorkKeyOrder.{work_key_total, work_key_tells, then_Equal}
 
 pub alarm_total : IsTotalOrder alarm_cmp
 alarm_total = then_total (on_total (λ (a : Alarm). a.at) nat_cmp_total) (on_total (λ (a : Alarm). a.task) work_key_total)

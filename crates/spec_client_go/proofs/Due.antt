@@ -11,10 +11,10 @@ use Rattle.std.specs.FinMap as map_of
 use Rattle.std.specs.FinMap.{get-remove, get-retain_keys, get_tied, same_map}
 use Rattle.std.specs.FinSet as set
 use Rattle.std.specs.FinSet.{contains-from_list, contains-insert, contains-remove, same_set}
-use Rattle.controllers.specs.WorkQueues.{WorkKey, work_key_cmp}
-use Rattle.controllers.specs.Delays.{Delays, Alarm, alarm_cmp, due, has_come, still_delayed}
-use Rattle.controllers.proofs.WorkKeyOrder.{work_key_total, work_key_tells}
-use Rattle.controllers.proofs.Alarms.{alarm_total, alarm_tells, alarm_set, alarm_of, contains-alarms, moment_of, alarms_removed, alarms_are, same_at_itself, same_tells, is_moment}
+use Rattle.spec_client_go.specs.WorkQueues.{WorkKey, work_key_cmp}
+use Rattle.spec_client_go.specs.Delays.{Delays, Alarm, alarm_cmp, due, has_come, still_delayed}
+use Rattle.spec_client_go.proofs.WorkKeyOrder.{work_key_total, work_key_tells}
+use Rattle.spec_client_go.proofs.Alarms.{alarm_total, alarm_tells, alarm_set, alarm_of, contains-alarms, moment_of, alarms_removed, alarms_are, same_at_itself, same_tells, is_moment}
 
 abbrev same : Alarm → Alarm → Bool
 same = eq_by_cmp alarm_cmp

@@ -4,12 +4,12 @@ use Rattle.std.specs.Cmp.{nat_cmp_total, IsTotalOrder, on_total, then_total}
 use Rattle.std.specs.Cmp.Lexicographic.{nat_list_cmp_total}
 use Rattle.std.specs.FinSet.{IsAntisymmetric, nat_cmp-IsAntisymmetric, slice_cmp-IsAntisymmetric}
 use Rattle.std.specs.Ordering.{ordering_then}
-use Rattle.controllers.specs.declared.controller.Controller.{Controller}
-use Rattle.controllers.specs.declared.controller.Controller.TheVariants.{ReplicaSet as ForReplicaSet, Deployment as ForDeployment, Collector}
-use Rattle.definitions.specs.Kinds.{rank}
-use Rattle.definitions.specs.Keys.{Key, key_cmp}
-use Rattle.controllers.specs.WorkQueues.{WorkKey, work_key_cmp, turn}
-use Rattle.definitions.proofs.KindOrder.{rank_tells}
+use Rattle.spec_client_go.specs.declared.controller.Controller.{Controller}
+use Rattle.spec_client_go.specs.declared.controller.Controller.TheVariants.{ReplicaSet as ForReplicaSet, Deployment as ForDeployment, Collector}
+use Rattle.spec_api.specs.Kinds.{rank}
+use Rattle.spec_api.specs.Keys.{Key, key_cmp}
+use Rattle.spec_client_go.specs.WorkQueues.{WorkKey, work_key_cmp, turn}
+use Rattle.spec_api.proofs.KindOrder.{rank_tells}
 
 pub name_total : IsTotalOrder key_cmp
 name_total =

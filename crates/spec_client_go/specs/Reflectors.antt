@@ -5,27 +5,27 @@ use Rattle.std.specs.Str.{is_utf8}
 use Rattle.serde_json.specs.Data.{Data, Items, no_items, item}
 use Rattle.serde_json.specs.Find.{get, as_str, as_array, as_number, as_u64}
 use Rattle.serde_json.specs.Read.{read}
-use Rattle.definitions.specs.declared.kinds.Kind.{Kind}
-use Rattle.definitions.specs.declared.refusals.Part.{Part}
-use Rattle.definitions.specs.declared.frames.FrameKind.{FrameKind}
-use Rattle.definitions.specs.declared.frames.FrameKind.TheVariants.{Added, Modified, Deleted, Bookmark, Error}
-use Rattle.controllers.specs.declared.frame_fault.FrameFault.{FrameFault}
-use Rattle.controllers.specs.declared.reflectors.Ask.{Ask}
-use Rattle.controllers.specs.declared.reflectors.Ask.TheVariants as ask
-use Rattle.controllers.specs.declared.reflectors.Phase.{Phase}
-use Rattle.controllers.specs.declared.reflectors.Phase.TheVariants.{Listing, Streaming, Watching}
-use Rattle.controllers.specs.declared.reflectors.End.{End}
-use Rattle.controllers.specs.declared.reflectors.End.TheVariants.{Expired, Unreadable}
-use Rattle.definitions.specs.Texts.Kinds.{api_version, kind_text, list_kind}
-use Rattle.definitions.specs.Texts.Keys.{Key, is_same_key}
-use Rattle.definitions.specs.State.History.{Entries, put_or_remove}
-use Rattle.definitions.specs.Objects.Metadata.{name, namespace, uid, version}
-use Rattle.definitions.specs.Objects.{Object}
-use Rattle.definitions.specs.Reading.{reading}
-use Rattle.definitions.specs.Revisions.{revision_of}
-use Rattle.controllers.specs.ReadFrames as frames
-use Rattle.definitions.specs.Frames.{Frame}
-use Rattle.controllers.specs.ReadFrames.{Read}
+use Rattle.spec_api.specs.declared.kinds.Kind.{Kind}
+use Rattle.spec_api.specs.declared.refusals.Part.{Part}
+use Rattle.spec_api.specs.declared.frames.FrameKind.{FrameKind}
+use Rattle.spec_api.specs.declared.frames.FrameKind.TheVariants.{Added, Modified, Deleted, Bookmark, Error}
+use Rattle.spec_client_go.specs.declared.frame_fault.FrameFault.{FrameFault}
+use Rattle.spec_client_go.specs.declared.reflectors.Ask.{Ask}
+use Rattle.spec_client_go.specs.declared.reflectors.Ask.TheVariants as ask
+use Rattle.spec_client_go.specs.declared.reflectors.Phase.{Phase}
+use Rattle.spec_client_go.specs.declared.reflectors.Phase.TheVariants.{Listing, Streaming, Watching}
+use Rattle.spec_client_go.specs.declared.reflectors.End.{End}
+use Rattle.spec_client_go.specs.declared.reflectors.End.TheVariants.{Expired, Unreadable}
+use Rattle.spec_api.specs.Texts.Kinds.{api_version, kind_text, list_kind}
+use Rattle.spec_api.specs.Texts.Keys.{Key, is_same_key}
+use Rattle.spec_api.specs.State.History.{Entries, put_or_remove}
+use Rattle.spec_api.specs.Objects.Metadata.{name, namespace, uid, version}
+use Rattle.spec_api.specs.Objects.{Object}
+use Rattle.spec_api.specs.Reading.{reading}
+use Rattle.spec_api.specs.Revisions.{revision_of}
+use Rattle.spec_client_go.specs.ReadFrames as frames
+use Rattle.spec_api.specs.Frames.{Frame}
+use Rattle.spec_client_go.specs.ReadFrames.{Read}
 
 -- ---- what values say
 

@@ -2,7 +2,7 @@
 use Rattle.std.specs.Prelude.{⊤}
 use Rattle.hex.specs.Hex.{encode_with}
 use Rattle.sha2.specs.Sha256.{first_words, schedule, rounds, compress, hash_after, digest_bytes, sha256}
-use Rattle.definitions.proofs.OnLiterals as definitions
+use Rattle.spec_api.proofs.OnLiterals as definitions
 
 unfoldable pub on_literals : ⊤
 unfolding definitions.on_literals encode_with first_words schedule rounds compress hash_after digest_bytes sha256

@@ -2,8 +2,8 @@
 use Rattle.std.proofs.Common.{◌≡◌, ◌==◌, ℕ, List, [], ◌∷◌, ◌++◌, length, true, false, refl, arith}
 use Rattle.std.proofs.lemmas.Bool.{lt-ltb, le-ltb}
 use Rattle.std.proofs.lemmas.List.Splits.{slice_split_none, slice_split_at}
-use Rattle.examples.specs.CutExamples.{has_no_newline, LongLinesEnd}
-use Rattle.controllers.specs.ReadFrames.{cut_at_newlines, has_room, longest_frame}
+use Rattle.spec_examples.specs.CutExamples.{has_no_newline, LongLinesEnd}
+use Rattle.spec_client_go.specs.ReadFrames.{cut_at_newlines, has_room, longest_frame}
 
 alone : (line : List ℕ) → has_no_newline line → cut_at_newlines line ≡ line ∷ []
 alone line none = slice_split_none (λ b. b == 10) line none

@@ -3,14 +3,14 @@ use Rattle.std.specs.Prelude.{ℕ, List, [], ◌∷◌, ◌++◌, ◌≡◌, ◌
 use Rattle.std.specs.List.{list_all, list_any}
 use Rattle.serde_json.specs.Read.{read}
 use Rattle.serde_json.specs.Written.{compact_text}
-use Rattle.definitions.specs.declared.kinds.Kind.{Kind}
-use Rattle.definitions.specs.declared.kinds.Kind.TheVariants.{ConfigMap, Pod, ReplicaSet, Deployment}
-use Rattle.definitions.specs.declared.refusals.Field.{Field}
-use Rattle.definitions.specs.declared.refusals.Field.TheVariants.{Name, GenerateName, Labels, Finalizers, OwnerReferences, Replicas, Selector, Template, Strategy, RevisionHistoryLimit, Status}
-use Rattle.definitions.specs.Checks.{create_fault, update_fault, generates, is_percentage, is_of_the_future}
-use Rattle.definitions.specs.Defaults.{defaulted}
-use Rattle.definitions.specs.NewObjects.{with_first_status}
-use Rattle.definitions.specs.Uids.{uid_text}
+use Rattle.spec_api.specs.declared.kinds.Kind.{Kind}
+use Rattle.spec_api.specs.declared.kinds.Kind.TheVariants.{ConfigMap, Pod, ReplicaSet, Deployment}
+use Rattle.spec_api.specs.declared.refusals.Field.{Field}
+use Rattle.spec_api.specs.declared.refusals.Field.TheVariants.{Name, GenerateName, Labels, Finalizers, OwnerReferences, Replicas, Selector, Template, Strategy, RevisionHistoryLimit, Status}
+use Rattle.spec_api.specs.Checks.{create_fault, update_fault, generates, is_percentage, is_of_the_future}
+use Rattle.spec_api.specs.Defaults.{defaulted}
+use Rattle.spec_api.specs.NewObjects.{with_first_status}
+use Rattle.spec_api.specs.Uids.{uid_text}
 
 -- ---- texts of objects
 

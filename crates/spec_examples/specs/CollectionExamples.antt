@@ -1,12 +1,12 @@
 -- Worked facts of the queries of collections, computed from the definitions.
 use Rattle.std.specs.Prelude.{◌≡◌, ℕ, List, [], true, false, Some, None, Result, Ok, Err, codes}
-use Rattle.definitions.specs.declared.refusals.Part.{Part}
-use Rattle.definitions.specs.declared.refusals.Part.TheVariants as part
-use Rattle.definitions.specs.ListQueries.{Collection, list, watch, WatchOptions, collection_of}
-use Rattle.definitions.specs.Queries.{pairs_of}
-use Rattle.definitions.specs.declared.versions.At.{At}
-use Rattle.definitions.specs.declared.versions.At.TheVariants.{Present, NotOlder, Exact}
-use Rattle.definitions.specs.declared.versions.Start.TheVariants.{After, Listed}
+use Rattle.spec_api.specs.declared.refusals.Part.{Part}
+use Rattle.spec_api.specs.declared.refusals.Part.TheVariants as part
+use Rattle.spec_api.specs.ListQueries.{Collection, list, watch, WatchOptions, collection_of}
+use Rattle.spec_api.specs.Queries.{pairs_of}
+use Rattle.spec_api.specs.declared.versions.At.{At}
+use Rattle.spec_api.specs.declared.versions.At.TheVariants.{Present, NotOlder, Exact}
+use Rattle.spec_api.specs.declared.versions.Start.TheVariants.{After, Listed}
 
 -- what a query asks, where no selector is given
 abbrev pub asked : List ℕ → Result Collection Part

@@ -1,17 +1,17 @@
 -- Worked facts of the garbage collector, computed from the definitions: what it commands in a whole turn, how each command is answered, and what is there then, each object with its owners.
 use Rattle.std.specs.Prelude.{◌≡◌, ℕ, List, [], ◌∷◌, ◌++◌, map, flat_map, codes, decimal, true, Option, Some, None, unwrap_or}
-use Rattle.definitions.specs.declared.kinds.Kind.{Kind}
-use Rattle.definitions.specs.declared.kinds.Kind.TheVariants.{ConfigMap, Pod, ReplicaSet, Deployment}
-use Rattle.definitions.specs.declared.policies.Policy.{Policy}
-use Rattle.definitions.specs.declared.policies.Policy.TheVariants.{Orphan, Foreground, Background}
-use Rattle.definitions.specs.History.{History, Entries, entries_at, present, state, list, unfiltered}
-use Rattle.definitions.specs.Keys.{Key}
-use Rattle.definitions.specs.Metadata.{Owner, owners, version}
-use Rattle.definitions.specs.Verbs.{accept, outcome_code, outcome_body, history_after}
-use Rattle.line_protocol.specs.Lines.{history_of, lines_of}
-use Rattle.controllers.specs.Commands.{Command, create, update, update_status, delete, request_of, Version, seen, answered}
-use Rattle.controllers.specs.Hands.{Read, Hand}
-use Rattle.plans.specs.GarbageCollection.{asks, plan}
+use Rattle.spec_api.specs.declared.kinds.Kind.{Kind}
+use Rattle.spec_api.specs.declared.kinds.Kind.TheVariants.{ConfigMap, Pod, ReplicaSet, Deployment}
+use Rattle.spec_api.specs.declared.policies.Policy.{Policy}
+use Rattle.spec_api.specs.declared.policies.Policy.TheVariants.{Orphan, Foreground, Background}
+use Rattle.spec_api.specs.History.{History, Entries, entries_at, present, state, list, unfiltered}
+use Rattle.spec_api.specs.Keys.{Key}
+use Rattle.spec_api.specs.Metadata.{Owner, owners, version}
+use Rattle.spec_api.specs.Verbs.{accept, outcome_code, outcome_body, history_after}
+use Rattle.spec_line_protocol.specs.Lines.{history_of, lines_of}
+use Rattle.spec_client_go.specs.Commands.{Command, create, update, update_status, delete, request_of, Version, seen, answered}
+use Rattle.spec_client_go.specs.Hands.{Read, Hand}
+use Rattle.spec_reconcile.specs.GarbageCollection.{asks, plan}
 
 -- ---- a whole turn, while nobody else writes
 

@@ -2,13 +2,13 @@
 use Rattle.std.specs.Prelude.{◌≡◌, ◌==◌, ℕ, false, List, [], ◌∷◌, ◌++◌, length, Some, None, codes}
 use Rattle.std.specs.List.{All}
 use Rattle.serde_json.specs.Data.{string, object, no_members, member}
-use Rattle.definitions.specs.declared.kinds.Kind.TheVariants.{ConfigMap}
-use Rattle.controllers.specs.declared.reflectors.Ask.TheVariants as ask
-use Rattle.controllers.specs.declared.reflectors.End.{End}
-use Rattle.controllers.specs.declared.reflectors.End.TheVariants.{Expired, Unreadable}
-use Rattle.controllers.specs.declared.reflectors.Phase.TheVariants.{Listing, Watching}
-use Rattle.definitions.specs.Objects.{Object}
-use Rattle.controllers.specs.Reflectors.{Reflector, none_yet, Fed, Delta, put, mark, asks, cut, expired, fed}
+use Rattle.spec_api.specs.declared.kinds.Kind.TheVariants.{ConfigMap}
+use Rattle.spec_client_go.specs.declared.reflectors.Ask.TheVariants as ask
+use Rattle.spec_client_go.specs.declared.reflectors.End.{End}
+use Rattle.spec_client_go.specs.declared.reflectors.End.TheVariants.{Expired, Unreadable}
+use Rattle.spec_client_go.specs.declared.reflectors.Phase.TheVariants.{Listing, Watching}
+use Rattle.spec_api.specs.Objects.{Object}
+use Rattle.spec_client_go.specs.Reflectors.{Reflector, none_yet, Fed, Delta, put, mark, asks, cut, expired, fed}
 
 -- a reflector of ConfigMaps that watches from revision 3, with bytes buffered
 abbrev pub at_three : List ℕ → Reflector

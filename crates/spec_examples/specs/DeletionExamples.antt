@@ -1,6 +1,6 @@
 -- Worked facts of deletes, computed from the definitions: what is written for these lines.
 use Rattle.std.specs.Prelude.{◌≡◌, codes, ◌++◌}
-use Rattle.line_protocol.specs.Lines.{replay}
+use Rattle.spec_line_protocol.specs.Lines.{replay}
 
 -- an object with a finalizer has its deletionTimestamp set and stays, gets no other finalizer, and is removed with its last one
 abbrev pub FinalizersKeepTheirObject : Type 0

@@ -2,15 +2,15 @@
 use Rattle.std.specs.Prelude.{◌≡◌, ℕ, List, [], ◌∷◌, ◌++◌, map, codes, decimal, true, unwrap_or}
 use Rattle.serde_json.specs.Data.{Data, null}
 use Rattle.serde_json.specs.Written.{compact_text}
-use Rattle.definitions.specs.declared.kinds.Kind.{Kind}
-use Rattle.definitions.specs.declared.kinds.Kind.TheVariants.{Pod, ReplicaSet, Deployment}
-use Rattle.definitions.specs.Checks.{in_spec, text_or_empty}
-use Rattle.definitions.specs.Keys.{Key}
-use Rattle.definitions.specs.Metadata.{name, version, metadata}
-use Rattle.definitions.specs.Values.{get, data_of}
-use Rattle.controllers.specs.Commands.{Command, create, update, update_status, delete}
-use Rattle.controllers.specs.Hands.{Hand}
-use Rattle.plans.specs.Deployments.{plan}
+use Rattle.spec_api.specs.declared.kinds.Kind.{Kind}
+use Rattle.spec_api.specs.declared.kinds.Kind.TheVariants.{Pod, ReplicaSet, Deployment}
+use Rattle.spec_api.specs.Checks.{in_spec, text_or_empty}
+use Rattle.spec_api.specs.Keys.{Key}
+use Rattle.spec_api.specs.Metadata.{name, version, metadata}
+use Rattle.spec_api.specs.Values.{get, data_of}
+use Rattle.spec_client_go.specs.Commands.{Command, create, update, update_status, delete}
+use Rattle.spec_client_go.specs.Hands.{Hand}
+use Rattle.spec_reconcile.specs.Deployments.{plan}
 
 -- ---- objects as texts
 

@@ -1,14 +1,14 @@
 -- Worked facts of looks for some changes, all or none, computed from the definitions.
 use Rattle.std.specs.Prelude.{◌≡◌, ℕ, List, [], ◌∷◌, ◌++◌, map, None, true, false, Result, Ok, Err, codes}
 use Rattle.std.specs.Result.{result_map_both}
-use Rattle.definitions.specs.declared.kinds.Kind.TheVariants.{ConfigMap, Pod}
-use Rattle.definitions.specs.declared.versions.Start.TheVariants.{Listed}
-use Rattle.definitions.specs.History.{View, unfiltered}
-use Rattle.definitions.specs.Refusals.{Refusal, expired, too_new}
-use Rattle.definitions.specs.Streams.{Line, event, bookmark, initial, initial_end}
-use Rattle.definitions.specs.Versions.{Watched, watched_from}
-use Rattle.definitions.specs.WatchReplies.{lines_from, watch_lines}
-use Rattle.examples.specs.WindowExamples.{named, stored, puts, six_writes, config_maps}
+use Rattle.spec_api.specs.declared.kinds.Kind.TheVariants.{ConfigMap, Pod}
+use Rattle.spec_api.specs.declared.versions.Start.TheVariants.{Listed}
+use Rattle.spec_api.specs.History.{View, unfiltered}
+use Rattle.spec_api.specs.Refusals.{Refusal, expired, too_new}
+use Rattle.spec_api.specs.Streams.{Line, event, bookmark, initial, initial_end}
+use Rattle.spec_api.specs.Versions.{Watched, watched_from}
+use Rattle.spec_api.specs.WatchReplies.{lines_from, watch_lines}
+use Rattle.spec_examples.specs.WindowExamples.{named, stored, puts, six_writes, config_maps}
 
 abbrev pods : View
 pods = unfiltered Pod None

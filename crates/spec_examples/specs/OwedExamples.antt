@@ -1,15 +1,15 @@
 -- Worked facts of informers, computed from the definitions: which keys a change owes.
 use Rattle.std.specs.Prelude.{◌≡◌, ℕ, List, [], ◌∷◌, Option, Some, None, Bool, true, false, codes}
 use Rattle.serde_json.specs.Data.{Data, string, boolean, array, object, no_items, item, no_members, member, Members as Fields}
-use Rattle.definitions.specs.declared.kinds.Kind.{Kind}
-use Rattle.definitions.specs.declared.kinds.Kind.TheVariants.{Pod, ReplicaSet, Deployment}
-use Rattle.definitions.specs.History.{Entries}
-use Rattle.definitions.specs.Keys.{Key}
-use Rattle.controllers.specs.declared.controller.Controller.{Controller}
-use Rattle.controllers.specs.declared.controller.Controller.TheVariants as controller
-use Rattle.controllers.specs.Informers.{Looks}
-use Rattle.controllers.specs.OwedKeys.{Change, keys_of}
-use Rattle.controllers.specs.WorkQueues.{WorkKey}
+use Rattle.spec_api.specs.declared.kinds.Kind.{Kind}
+use Rattle.spec_api.specs.declared.kinds.Kind.TheVariants.{Pod, ReplicaSet, Deployment}
+use Rattle.spec_api.specs.History.{Entries}
+use Rattle.spec_api.specs.Keys.{Key}
+use Rattle.spec_client_go.specs.declared.controller.Controller.{Controller}
+use Rattle.spec_client_go.specs.declared.controller.Controller.TheVariants as controller
+use Rattle.spec_client_go.specs.Informers.{Looks}
+use Rattle.spec_client_go.specs.OwedKeys.{Change, keys_of}
+use Rattle.spec_client_go.specs.WorkQueues.{WorkKey}
 
 abbrev pub named : Kind → List ℕ → Key
 named k n = record { kind = k; namespace = codes "default"; name = n }

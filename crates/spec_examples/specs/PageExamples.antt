@@ -1,11 +1,11 @@
 -- Worked facts of pages, computed from the definitions.
 use Rattle.std.specs.Prelude.{◌≡◌, ℕ, List, [], ◌∷◌, map, Option, Some, None, codes}
 use Rattle.serde_json.specs.Data.{Data, null}
-use Rattle.definitions.specs.declared.kinds.Kind.TheVariants.{ConfigMap}
-use Rattle.definitions.specs.Keys.{Key}
-use Rattle.definitions.specs.History.{Entries}
-use Rattle.definitions.specs.Pages.{Place, Page, page_of, remaining}
-use Rattle.definitions.specs.PageTokens.{token_text}
+use Rattle.spec_api.specs.declared.kinds.Kind.TheVariants.{ConfigMap}
+use Rattle.spec_api.specs.Keys.{Key}
+use Rattle.spec_api.specs.History.{Entries}
+use Rattle.spec_api.specs.Pages.{Place, Page, page_of, remaining}
+use Rattle.spec_api.specs.PageTokens.{token_text}
 
 abbrev entry : List ℕ → Key × Data
 entry name = (record { kind = ConfigMap; namespace = codes "default"; name = name }, null)

@@ -1,12 +1,12 @@
 -- Worked facts of reflectors, computed from the definitions: what exact bytes do.
 use Rattle.std.specs.Prelude.{◌≡◌, ℕ, List, [], ◌∷◌, ◌++◌, Some, None, codes, false}
 use Rattle.serde_json.specs.Data.{string, object, no_members, member}
-use Rattle.definitions.specs.declared.kinds.Kind.TheVariants.{ConfigMap, Pod}
-use Rattle.controllers.specs.declared.reflectors.End.{End}
-use Rattle.controllers.specs.declared.reflectors.End.TheVariants.{Expired, Unreadable}
-use Rattle.controllers.specs.declared.reflectors.Phase.TheVariants.{Listing, Watching}
-use Rattle.definitions.specs.Objects.{Object}
-use Rattle.controllers.specs.Reflectors.{Reflector, none_yet, Fed, list_of, put, remove, mark, fed}
+use Rattle.spec_api.specs.declared.kinds.Kind.TheVariants.{ConfigMap, Pod}
+use Rattle.spec_client_go.specs.declared.reflectors.End.{End}
+use Rattle.spec_client_go.specs.declared.reflectors.End.TheVariants.{Expired, Unreadable}
+use Rattle.spec_client_go.specs.declared.reflectors.Phase.TheVariants.{Listing, Watching}
+use Rattle.spec_api.specs.Objects.{Object}
+use Rattle.spec_client_go.specs.Reflectors.{Reflector, none_yet, Fed, list_of, put, remove, mark, fed}
 
 -- the ConfigMap `a` with a value, at a version
 abbrev a_map : List ℕ → List ℕ → Object

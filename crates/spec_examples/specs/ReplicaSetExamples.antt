@@ -4,15 +4,15 @@ use Rattle.serde_json.specs.Data.{Data, null}
 use Rattle.serde_json.specs.Find.{get}
 use Rattle.serde_json.specs.Read.{read}
 use Rattle.serde_json.specs.Written.{compact_text}
-use Rattle.definitions.specs.declared.kinds.Kind.{Kind}
-use Rattle.definitions.specs.declared.kinds.Kind.TheVariants.{Pod, ReplicaSet}
-use Rattle.definitions.specs.History.{Entries}
-use Rattle.definitions.specs.Keys.{Key}
-use Rattle.definitions.specs.Metadata.{name, namespace}
-use Rattle.controllers.specs.Commands.{Command, create, update, update_status, delete}
-use Rattle.controllers.specs.Hands.{Hand, Read}
-use Rattle.plans.specs.PodRanks.{cost}
-use Rattle.plans.specs.ReplicaSets.{plan, asks}
+use Rattle.spec_api.specs.declared.kinds.Kind.{Kind}
+use Rattle.spec_api.specs.declared.kinds.Kind.TheVariants.{Pod, ReplicaSet}
+use Rattle.spec_api.specs.History.{Entries}
+use Rattle.spec_api.specs.Keys.{Key}
+use Rattle.spec_api.specs.Metadata.{name, namespace}
+use Rattle.spec_client_go.specs.Commands.{Command, create, update, update_status, delete}
+use Rattle.spec_client_go.specs.Hands.{Hand, Read}
+use Rattle.spec_reconcile.specs.PodRanks.{cost}
+use Rattle.spec_reconcile.specs.ReplicaSets.{plan, asks}
 
 -- ---- what is looked at
 

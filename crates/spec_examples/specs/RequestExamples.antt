@@ -4,22 +4,22 @@ use Rattle.std.specs.List.{list_all, list_any}
 use Rattle.serde_json.specs.Data.{Data, string, array, object, no_items, no_members, member}
 use Rattle.serde_json.specs.Read.{read}
 use Rattle.serde_json.specs.Written.{compact_text}
-use Rattle.definitions.specs.declared.kinds.Kind.TheVariants.{ConfigMap, Pod, ReplicaSet, Deployment}
-use Rattle.definitions.specs.Refusals.{bad_request, not_found, no_such_path, method_not_allowed, already_exists, conflict, expired, length_required, too_large, unsupported_media_type, invalid, no_memory, too_new, storage_full, status_body, success_body}
-use Rattle.definitions.specs.declared.refusals.Part.TheVariants.{Token}
-use Rattle.definitions.specs.declared.refusals.Mismatch.TheVariants as mismatch
-use Rattle.definitions.specs.declared.refusals.Field.TheVariants as field
-use Rattle.definitions.specs.Verbs.{accept_at, refused, write_of}
-use Rattle.definitions.specs.ObjectRequests.{create_object}
-use Rattle.definitions.specs.declared.kinds.Kind.{Kind}
-use Rattle.definitions.specs.Kinds.{kind_text, api_version, plural, resource, has_status, has_generation}
-use Rattle.definitions.specs.Reading.{is_body}
-use Rattle.definitions.specs.Targets.{collection, object_at, status_of, path_text}
-use Rattle.line_protocol.specs.Lines.{replay}
-use Rattle.definitions.specs.Moments.{is_moment}
-use Rattle.definitions.specs.Keys.{is_subdomain, is_namespace}
-use Rattle.definitions.specs.Uids.{uid_text}
-use Rattle.definitions.specs.Values.{merged}
+use Rattle.spec_api.specs.declared.kinds.Kind.TheVariants.{ConfigMap, Pod, ReplicaSet, Deployment}
+use Rattle.spec_api.specs.Refusals.{bad_request, not_found, no_such_path, method_not_allowed, already_exists, conflict, expired, length_required, too_large, unsupported_media_type, invalid, no_memory, too_new, storage_full, status_body, success_body}
+use Rattle.spec_api.specs.declared.refusals.Part.TheVariants.{Token}
+use Rattle.spec_api.specs.declared.refusals.Mismatch.TheVariants as mismatch
+use Rattle.spec_api.specs.declared.refusals.Field.TheVariants as field
+use Rattle.spec_api.specs.Verbs.{accept_at, refused, write_of}
+use Rattle.spec_api.specs.ObjectRequests.{create_object}
+use Rattle.spec_api.specs.declared.kinds.Kind.{Kind}
+use Rattle.spec_api.specs.Kinds.{kind_text, api_version, plural, resource, has_status, has_generation}
+use Rattle.spec_api.specs.Reading.{is_body}
+use Rattle.spec_api.specs.Targets.{collection, object_at, status_of, path_text}
+use Rattle.spec_line_protocol.specs.Lines.{replay}
+use Rattle.spec_api.specs.Moments.{is_moment}
+use Rattle.spec_api.specs.Keys.{is_subdomain, is_namespace}
+use Rattle.spec_api.specs.Uids.{uid_text}
+use Rattle.spec_api.specs.Values.{merged}
 
 -- the list of an empty store has no items, at revision 1
 abbrev pub EmptyList : Type 0

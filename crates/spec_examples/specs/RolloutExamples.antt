@@ -1,9 +1,9 @@
 -- Worked numbers of rolling updates, computed from the definitions.
 use Rattle.std.specs.Prelude.{◌≡◌, ℕ, pos, [], ◌∷◌}
-use Rattle.definitions.specs.declared.amounts.Amount.TheVariants.{Pods, Percent}
-use Rattle.plans.specs.Rollouts.{pace, growth, resized, room, shrunk}
-use Rattle.plans.specs.declared.rollouts.Pace.{Pace}
-use Rattle.plans.specs.declared.rollouts.Tally.{Tally}
+use Rattle.spec_api.specs.declared.amounts.Amount.TheVariants.{Pods, Percent}
+use Rattle.spec_reconcile.specs.Rollouts.{pace, growth, resized, room, shrunk}
+use Rattle.spec_reconcile.specs.declared.rollouts.Pace.{Pace}
+use Rattle.spec_reconcile.specs.declared.rollouts.Tally.{Tally}
 
 abbrev pub of : ℕ → ℕ → Tally
 of n available = record { replicas = n; available = available }

@@ -2,13 +2,13 @@
 use Rattle.std.specs.Prelude.{◌≡◌, ℕ, List, [], ◌∷◌, Bool, true, false, codes, Option, None, Some, Result, Ok, Err, option_map}
 use Rattle.serde_json.specs.Data.{Members}
 use Rattle.serde_json.specs.Read.{read}
-use Rattle.definitions.specs.declared.selectors.Operator.TheVariants.{In, NotIn, Exists, DoesNotExist}
-use Rattle.definitions.specs.Labels.{is_label_value}
-use Rattle.definitions.specs.SelectorFields.{FieldRequirement, fields_of_text, fields_meet}
-use Rattle.definitions.specs.SelectorTexts.{selector_of_text}
-use Rattle.definitions.specs.SelectorValues.{Flaw, mistyped, unfit, selector_of_value}
-use Rattle.definitions.specs.Selectors.{Requirement, meets_all}
-use Rattle.definitions.specs.Values.{inner_of}
+use Rattle.spec_api.specs.declared.selectors.Operator.TheVariants.{In, NotIn, Exists, DoesNotExist}
+use Rattle.spec_api.specs.Labels.{is_label_value}
+use Rattle.spec_api.specs.SelectorFields.{FieldRequirement, fields_of_text, fields_meet}
+use Rattle.spec_api.specs.SelectorTexts.{selector_of_text}
+use Rattle.spec_api.specs.SelectorValues.{Flaw, mistyped, unfit, selector_of_value}
+use Rattle.spec_api.specs.Selectors.{Requirement, meets_all}
+use Rattle.spec_api.specs.Values.{inner_of}
 
 abbrev pub says : List ℕ → Option (List Requirement)
 says t = selector_of_text t

@@ -1,15 +1,15 @@
 -- Worked facts of servers, computed from the definitions.
 use Rattle.std.specs.Prelude.{◌≡◌, ℕ, List, [], ◌∷◌, ◌++◌, map, None, Result, Ok, Err, codes}
 use Rattle.std.specs.Result.{result_map_both}
-use Rattle.definitions.specs.declared.kinds.Kind.TheVariants.{ConfigMap, Pod}
-use Rattle.definitions.specs.History.{View, Entries, unfiltered}
-use Rattle.definitions.specs.Refusals.{Refusal, expired, too_new}
-use Rattle.definitions.specs.Streams.{bookmark}
-use Rattle.definitions.specs.declared.versions.At.TheVariants.{Present, NotOlder, Exact}
-use Rattle.definitions.specs.Versions.{listed_as, list_for, Watched, watched_from, compacts}
-use Rattle.definitions.specs.WatchReplies.{lines_from}
-use Rattle.server_state.specs.Servers.{Server, opened_server, after_entries, after_compaction, list_by, watch_by, compact_by}
-use Rattle.examples.specs.WindowExamples.{named, stored, puts, six_writes, config_maps, at_three, at_five}
+use Rattle.spec_api.specs.declared.kinds.Kind.TheVariants.{ConfigMap, Pod}
+use Rattle.spec_api.specs.History.{View, Entries, unfiltered}
+use Rattle.spec_api.specs.Refusals.{Refusal, expired, too_new}
+use Rattle.spec_api.specs.Streams.{bookmark}
+use Rattle.spec_api.specs.declared.versions.At.TheVariants.{Present, NotOlder, Exact}
+use Rattle.spec_api.specs.Versions.{listed_as, list_for, Watched, watched_from, compacts}
+use Rattle.spec_api.specs.WatchReplies.{lines_from}
+use Rattle.spec_server.specs.Servers.{Server, opened_server, after_entries, after_compaction, list_by, watch_by, compact_by}
+use Rattle.spec_examples.specs.WindowExamples.{named, stored, puts, six_writes, config_maps, at_three, at_five}
 
 abbrev pods : View
 pods = unfiltered Pod None

@@ -1,6 +1,6 @@
 -- Worked facts of pages, compactions, bookmarks and windows, computed from the definitions: what is written for these lines.
 use Rattle.std.specs.Prelude.{◌≡◌, ℕ, List, ◌++◌, codes, decimal}
-use Rattle.line_protocol.specs.Lines.{replay, replay_with}
+use Rattle.spec_line_protocol.specs.Lines.{replay, replay_with}
 
 abbrev create : List ℕ → List ℕ
 create name = codes "POST /api/v1/namespaces/default/configmaps {\"metadata\":{\"name\":\"" ++ (name ++ codes "\"}}\n")

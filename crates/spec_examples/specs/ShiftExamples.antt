@@ -1,14 +1,14 @@
 -- Worked facts of informers, computed from the definitions: what deltas make of the objects that are there, and what they change.
 use Rattle.std.specs.Prelude.{◌≡◌, ℕ, List, [], ◌∷◌, Some, None, codes}
 use Rattle.serde_json.specs.Data.{string, no_members, member}
-use Rattle.definitions.specs.declared.kinds.Kind.TheVariants.{Pod}
-use Rattle.definitions.specs.Keys.{Key}
-use Rattle.definitions.specs.Objects.{Object}
-use Rattle.server_state.specs.Snapshots.{Snapshot}
-use Rattle.controllers.specs.Informers.{applied}
-use Rattle.controllers.specs.Reflectors.{replace, put, remove, mark}
-use Rattle.controllers.specs.Shifts.{shifts_between, shifts_of}
-use Rattle.examples.specs.OwedExamples.{named, pod, free, controlled}
+use Rattle.spec_api.specs.declared.kinds.Kind.TheVariants.{Pod}
+use Rattle.spec_api.specs.Keys.{Key}
+use Rattle.spec_api.specs.Objects.{Object}
+use Rattle.spec_server.specs.Snapshots.{Snapshot}
+use Rattle.spec_client_go.specs.Informers.{applied}
+use Rattle.spec_client_go.specs.Reflectors.{replace, put, remove, mark}
+use Rattle.spec_client_go.specs.Shifts.{shifts_between, shifts_of}
+use Rattle.spec_examples.specs.OwedExamples.{named, pod, free, controlled}
 
 abbrev at : List ℕ → Key
 at n = named Pod n

@@ -1,17 +1,17 @@
 -- Worked facts of watches that begin with initial events (Kubernetes API Concepts, Streaming lists), computed from the definitions.
 use Rattle.std.specs.Prelude.{◌≡◌, ℕ, List, [], ◌∷◌, ◌++◌, length, None, Some, true, false, Ok, Err, codes}
-use Rattle.definitions.specs.declared.kinds.Kind.TheVariants.{ConfigMap}
-use Rattle.definitions.specs.declared.refusals.Part.TheVariants as part
-use Rattle.definitions.specs.History.{History, compaction}
-use Rattle.definitions.specs.Refusals.{expired, too_new}
-use Rattle.definitions.specs.Replies.{watch_reply}
-use Rattle.definitions.specs.Queries.{Pairs, pairs_of}
-use Rattle.line_protocol.specs.Lines.{reply_text}
-use Rattle.definitions.specs.ListQueries.{watch_options, read_by}
-use Rattle.definitions.specs.WatchReplies.{watch_lines}
-use Rattle.definitions.specs.Streams.{text_of_lines, initial, initial_end}
-use Rattle.definitions.specs.declared.versions.Start.TheVariants.{After, Listed, Streamed, Present}
-use Rattle.examples.specs.WindowExamples.{named, stored, puts, config_maps}
+use Rattle.spec_api.specs.declared.kinds.Kind.TheVariants.{ConfigMap}
+use Rattle.spec_api.specs.declared.refusals.Part.TheVariants as part
+use Rattle.spec_api.specs.History.{History, compaction}
+use Rattle.spec_api.specs.Refusals.{expired, too_new}
+use Rattle.spec_api.specs.Replies.{watch_reply}
+use Rattle.spec_api.specs.Queries.{Pairs, pairs_of}
+use Rattle.spec_line_protocol.specs.Lines.{reply_text}
+use Rattle.spec_api.specs.ListQueries.{watch_options, read_by}
+use Rattle.spec_api.specs.WatchReplies.{watch_lines}
+use Rattle.spec_api.specs.Streams.{text_of_lines, initial, initial_end}
+use Rattle.spec_api.specs.declared.versions.Start.TheVariants.{After, Listed, Streamed, Present}
+use Rattle.spec_examples.specs.WindowExamples.{named, stored, puts, config_maps}
 
 abbrev closing : List ℕ
 closing = codes "{\"object\":{\"apiVersion\":\"v1\",\"kind\":\"ConfigMap\",\"metadata\":{\"annotations\":{\"k8s.io/initial-events-end\":\"true\"},\"resourceVersion\":\"1\"}},\"type\":\"BOOKMARK\"}\n"

@@ -1,12 +1,12 @@
 -- Worked facts of creates, updates and patches, computed from the definitions: what is written for these lines.
 use Rattle.std.specs.Prelude.{◌≡◌, ℕ, List, codes, ◌++◌}
 use Rattle.serde_json.specs.Data.{Data}
-use Rattle.definitions.specs.declared.kinds.Kind.TheVariants.{ConfigMap}
-use Rattle.definitions.specs.History.{History}
-use Rattle.line_protocol.specs.Lines.{replay}
-use Rattle.definitions.specs.Refusals.{not_found}
-use Rattle.definitions.specs.Verbs.{refused, accept}
-use Rattle.definitions.specs.ObjectRequests.{update_status}
+use Rattle.spec_api.specs.declared.kinds.Kind.TheVariants.{ConfigMap}
+use Rattle.spec_api.specs.History.{History}
+use Rattle.spec_line_protocol.specs.Lines.{replay}
+use Rattle.spec_api.specs.Refusals.{not_found}
+use Rattle.spec_api.specs.Verbs.{refused, accept}
+use Rattle.spec_api.specs.ObjectRequests.{update_status}
 
 -- a name is made of the revision of the write
 abbrev pub GeneratedNamesAreTried : Type 0

@@ -1,24 +1,24 @@
 -- Worked facts of watches, computed from the definitions: exact bytes of frames, and what bytes are read as.
 use Rattle.std.specs.Prelude.{◌≡◌, ℕ, List, [], ◌∷◌, ◌++◌, map, length, Some, None, Result, Ok, Err, codes, replicate, true, false}
 use Rattle.serde_json.specs.Data.{Data, string, object, no_members, member}
-use Rattle.definitions.specs.declared.kinds.Kind.TheVariants.{ConfigMap, Pod, Deployment}
-use Rattle.definitions.specs.declared.frames.FrameKind.TheVariants.{Added, Error}
-use Rattle.controllers.specs.declared.frame_fault.FrameFault.TheVariants.{NotAFrame}
-use Rattle.definitions.specs.Keys.{Key}
-use Rattle.definitions.specs.History.{History, View, unfiltered, write, compaction}
-use Rattle.definitions.specs.Refusals.{too_new}
-use Rattle.definitions.specs.Events.{events as changes}
-use Rattle.definitions.specs.Frames.{frame_text, bookmark_frame, error_frame}
-use Rattle.controllers.specs.ReadFrames.{reading}
-use Rattle.definitions.specs.Streams.{event, text_of_lines}
+use Rattle.spec_api.specs.declared.kinds.Kind.TheVariants.{ConfigMap, Pod, Deployment}
+use Rattle.spec_api.specs.declared.frames.FrameKind.TheVariants.{Added, Error}
+use Rattle.spec_client_go.specs.declared.frame_fault.FrameFault.TheVariants.{NotAFrame}
+use Rattle.spec_api.specs.Keys.{Key}
+use Rattle.spec_api.specs.History.{History, View, unfiltered, write, compaction}
+use Rattle.spec_api.specs.Refusals.{too_new}
+use Rattle.spec_api.specs.Events.{events as changes}
+use Rattle.spec_api.specs.Frames.{frame_text, bookmark_frame, error_frame}
+use Rattle.spec_client_go.specs.ReadFrames.{reading}
+use Rattle.spec_api.specs.Streams.{event, text_of_lines}
 use Rattle.form_urlencoded.specs.Form.{raw_pairs}
-use Rattle.line_protocol.specs.Lines.{replay}
-use Rattle.definitions.specs.declared.refusals.Part.{Part}
-use Rattle.definitions.specs.declared.refusals.Part.TheVariants as part
-use Rattle.definitions.specs.declared.versions.Start.TheVariants.{After}
-use Rattle.definitions.specs.ListQueries.{Collection, watch, everything, collection_of}
-use Rattle.definitions.specs.declared.selectors.Operator.TheVariants.{In, DoesNotExist}
-use Rattle.definitions.specs.declared.selectors.SelectableField.TheVariants.{Name as NameField}
+use Rattle.spec_line_protocol.specs.Lines.{replay}
+use Rattle.spec_api.specs.declared.refusals.Part.{Part}
+use Rattle.spec_api.specs.declared.refusals.Part.TheVariants as part
+use Rattle.spec_api.specs.declared.versions.Start.TheVariants.{After}
+use Rattle.spec_api.specs.ListQueries.{Collection, watch, everything, collection_of}
+use Rattle.spec_api.specs.declared.selectors.Operator.TheVariants.{In, DoesNotExist}
+use Rattle.spec_api.specs.declared.selectors.SelectableField.TheVariants.{Name as NameField}
 
 -- a ConfigMap of a name, with a value and a version
 abbrev config_map : List ℕ → List ℕ → List ℕ → Data

@@ -1,14 +1,14 @@
 -- Worked facts of windows, computed from the definitions.
 use Rattle.std.specs.Prelude.{◌≡◌, ℕ, List, [], ◌∷◌, ◌++◌, map, Some, None, Result, Ok, Err, codes}
 use Rattle.serde_json.specs.Data.{Data, string, object, no_members, member}
-use Rattle.definitions.specs.declared.kinds.Kind.{Kind}
-use Rattle.definitions.specs.declared.kinds.Kind.TheVariants.{ConfigMap, Pod}
-use Rattle.definitions.specs.Keys.{Key}
-use Rattle.definitions.specs.History.{History, Entry, write, compaction, View, Entries, unfiltered, list}
-use Rattle.definitions.specs.Refusals.{Refusal, expired, too_new}
-use Rattle.definitions.specs.Events.{Event}
-use Rattle.definitions.specs.Windows.{Change, changes_of, floor, since, list_within}
-use Rattle.server_state.specs.Recorded.{Window, opened, recorded, recorded_since, recorded_list}
+use Rattle.spec_api.specs.declared.kinds.Kind.{Kind}
+use Rattle.spec_api.specs.declared.kinds.Kind.TheVariants.{ConfigMap, Pod}
+use Rattle.spec_api.specs.Keys.{Key}
+use Rattle.spec_api.specs.History.{History, Entry, write, compaction, View, Entries, unfiltered, list}
+use Rattle.spec_api.specs.Refusals.{Refusal, expired, too_new}
+use Rattle.spec_api.specs.Events.{Event}
+use Rattle.spec_api.specs.Windows.{Change, changes_of, floor, since, list_within}
+use Rattle.spec_server.specs.Recorded.{Window, opened, recorded, recorded_since, recorded_list}
 
 abbrev pub named : Kind → List ℕ → Key
 named kind name = record { kind = kind; namespace = codes "default"; name = name }

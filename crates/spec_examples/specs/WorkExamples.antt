@@ -1,11 +1,11 @@
 -- Worked facts of the queue, of delays and of expectations.
 use Rattle.std.specs.Prelude.{◌≡◌, ◌≤◌, ◌-◌, ℕ, zero, suc, true, false, List, [], ◌∷◌, Option, Some, None, codes}
 use Rattle.std.specs.FinMap as map
-use Rattle.controllers.specs.declared.controller.Controller.TheVariants.{ReplicaSet as ForReplicaSet, Deployment as ForDeployment}
-use Rattle.definitions.specs.declared.kinds.Kind.TheVariants.{ReplicaSet, Deployment}
-use Rattle.controllers.specs.WorkQueues.{WorkKey, idle, Call, add, get, finish, after_all, handed}
-use Rattle.controllers.specs.Delays.{Failures, failures, delay_after, failed, Delays, delayed, due}
-use Rattle.controllers.specs.Expectations.{Owner, Table, creations_expected, created, satisfied}
+use Rattle.spec_client_go.specs.declared.controller.Controller.TheVariants.{ReplicaSet as ForReplicaSet, Deployment as ForDeployment}
+use Rattle.spec_api.specs.declared.kinds.Kind.TheVariants.{ReplicaSet, Deployment}
+use Rattle.spec_client_go.specs.WorkQueues.{WorkKey, idle, Call, add, get, finish, after_all, handed}
+use Rattle.spec_client_go.specs.Delays.{Failures, failures, delay_after, failed, Delays, delayed, due}
+use Rattle.spec_client_go.specs.Expectations.{Owner, Table, creations_expected, created, satisfied}
 
 -- two ReplicaSets of one namespace, and a Deployment
 abbrev pub work_key_x : WorkKey

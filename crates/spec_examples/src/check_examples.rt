@@ -1,5 +1,5 @@
 //! Worked facts of defaults and checks.
-ghost use Rattle.examples.specs.CheckExamples.{NamesAreNeeded, NamesAreMade, LabelsAreChecked, FinalizersAreChecked, OwnersAreChecked, UidsOfTheFutureAreKnown, NumbersAreChecked, SelectorsAreChecked, TemplatesAreChecked, StrategiesAreChecked, PercentagesAreDigits, FirstFaultsAreSaid, UpdatesAreChecked, DefaultsAreFilledIn};
+ghost use Rattle.spec_examples.specs.CheckExamples.{NamesAreNeeded, NamesAreMade, LabelsAreChecked, FinalizersAreChecked, OwnersAreChecked, UidsOfTheFutureAreKnown, NumbersAreChecked, SelectorsAreChecked, TemplatesAreChecked, StrategiesAreChecked, PercentagesAreDigits, FirstFaultsAreSaid, UpdatesAreChecked, DefaultsAreFilledIn};
 
 /// What names and labels an object may have, each rule met and missed by one.
 pub fn names_and_labels_are_checked()

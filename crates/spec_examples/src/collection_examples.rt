@@ -1,5 +1,5 @@
 //! Worked facts of the queries of collections, which the checker computes from the definitions.
-ghost use Rattle.examples.specs.CollectionExamples.{TokensGoOn, VersionsAreMatched, WatchesAreAsked};
+ghost use Rattle.spec_examples.specs.CollectionExamples.{TokensGoOn, VersionsAreMatched, WatchesAreAsked};
 
 /// What the query of a collection asks.
 pub fn queries_are_read()

@@ -1,5 +1,5 @@
 //! Worked facts of the garbage collector, which the checker computes from the definitions.
-ghost use Rattle.examples.specs.CollectorExamples.{OwnersAreAskedOnce, NothingIsDoneToNothing, LiveOwnersAreKept, LiveOwnersGoFirst, OtherKindsStand, DeletionsAloneStand, NamesakesOwnNothing, GarbageGoesAtOnce, PoliciesAreKept, DependentsGoFirst, TheirsGoBeforeThem, ChainsAreCut, OrphansAreLetGo, BlockedOwnersWait, OthersGo, OtherFinalizersAreLeft};
+ghost use Rattle.spec_examples.specs.CollectorExamples.{OwnersAreAskedOnce, NothingIsDoneToNothing, LiveOwnersAreKept, LiveOwnersGoFirst, OtherKindsStand, DeletionsAloneStand, NamesakesOwnNothing, GarbageGoesAtOnce, PoliciesAreKept, DependentsGoFirst, TheirsGoBeforeThem, ChainsAreCut, OrphansAreLetGo, BlockedOwnersWait, OthersGo, OtherFinalizersAreLeft};
 
 /// Which owners are read live.
 pub fn owners_are_asked_for()

@@ -1,5 +1,5 @@
 //! Worked facts of reflectors whose stream is cut, expires, or says what can't be read.
-ghost use Rattle.examples.specs.CutExamples.{CutsDropParts, ExpiriesAskForLists, BookmarksAreReached, LongLinesEnd};
+ghost use Rattle.spec_examples.specs.CutExamples.{CutsDropParts, ExpiriesAskForLists, BookmarksAreReached, LongLinesEnd};
 
 /// A frame that is cut in its middle gives nothing, and is given whole once it is sent again.
 pub fn cuts_drop_parts()

@@ -1,5 +1,5 @@
 //! Worked facts of deletes.
-ghost use Rattle.examples.specs.DeletionExamples.{FinalizersKeepTheirObject, DeletesAreConditional, PoliciesAreFinalizers, RemovedPodsAreAnswered};
+ghost use Rattle.spec_examples.specs.DeletionExamples.{FinalizersKeepTheirObject, DeletesAreConditional, PoliciesAreFinalizers, RemovedPodsAreAnswered};
 
 /// What deletes do, line by line.
 pub fn deletes_are_answered()

@@ -1,6 +1,6 @@
 //! Worked plans of Deployments, which the checker computes from the definitions.
-ghost use Rattle.examples.specs.DeploymentExamples.{NewSetsAreMade, OldSetsShrink, NewSetsGrow, AvailablePodsAreReplaced, BrokenPodsGoFirst, RolledBackSetsAreRaised, RevisionsAloneAreRaised, EmptyLabelsAreAbsent, PausedOnesAreLeft, DeletedOnesAreLeft, CountsAreApart, TakenNamesAreCounted, CountsAreInNames, CountsEnd, RecreateStopsOldPodsFirst, RecreateWaitsForOldPods, RecreateThenMakes, SpentSetsAreDeleted, OthersStay, NoneGoBefore};
-ghost use Rattle.examples.specs.RolloutExamples.{PacesAreRounded, TenAreReplaced, NewSetsAreBounded};
+ghost use Rattle.spec_examples.specs.DeploymentExamples.{NewSetsAreMade, OldSetsShrink, NewSetsGrow, AvailablePodsAreReplaced, BrokenPodsGoFirst, RolledBackSetsAreRaised, RevisionsAloneAreRaised, EmptyLabelsAreAbsent, PausedOnesAreLeft, DeletedOnesAreLeft, CountsAreApart, TakenNamesAreCounted, CountsAreInNames, CountsEnd, RecreateStopsOldPodsFirst, RecreateWaitsForOldPods, RecreateThenMakes, SpentSetsAreDeleted, OthersStay, NoneGoBefore};
+ghost use Rattle.spec_examples.specs.RolloutExamples.{PacesAreRounded, TenAreReplaced, NewSetsAreBounded};
 
 /// How far rolling updates go, by their numbers alone.
 pub fn rolling_updates_are_bounded()

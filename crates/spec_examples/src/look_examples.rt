@@ -1,5 +1,5 @@
 //! Worked facts of looks for some changes, all or none, which the checker computes from the definitions.
-ghost use Rattle.examples.specs.LookExamples.{NoneMayBeAsked, SomeMayBeLeft, ListsComeFirst};
+ghost use Rattle.spec_examples.specs.LookExamples.{NoneMayBeAsked, SomeMayBeLeft, ListsComeFirst};
 
 /// A look that asks for no change, where some are left, where none is, and where it is refused.
 pub fn none_may_be_asked()

@@ -1,5 +1,5 @@
 //! Worked facts of what a change owes, which the checker computes from the definitions.
-ghost use Rattle.examples.specs.OwedExamples.{ControllersAreOwed, AdoptersAreOwed, OwnersAreOwed, BothAreOwed, DeploymentsAreOwed, DependentsAreOwed, DeletionsAreOwed, LiveOwnersOweNone};
+ghost use Rattle.spec_examples.specs.OwedExamples.{ControllersAreOwed, AdoptersAreOwed, OwnersAreOwed, BothAreOwed, DeploymentsAreOwed, DependentsAreOwed, DeletionsAreOwed, LiveOwnersOweNone};
 
 /// Which keys a Pod owes that is new, or has another controller than before.
 pub fn pods_owe_their_sets()

@@ -1,5 +1,5 @@
 //! Worked facts of pages, which the checker computes from the definitions.
-ghost use Rattle.examples.specs.PageExamples.{FiveByTwo, PlacesNeedNoObject, TokensAreWritten};
+ghost use Rattle.spec_examples.specs.PageExamples.{FiveByTwo, PlacesNeedNoObject, TokensAreWritten};
 
 /// How a list is cut into pages.
 pub fn lists_are_cut()

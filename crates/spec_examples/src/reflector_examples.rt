@@ -1,5 +1,5 @@
 //! Worked facts of reflectors, which the checker computes from the definitions.
-ghost use Rattle.examples.specs.ReflectorExamples.{ListsAreTakenIn, ChangesAreTakenIn, PartsAreHeld, EndsAreSeen};
+ghost use Rattle.spec_examples.specs.ReflectorExamples.{ListsAreTakenIn, ChangesAreTakenIn, PartsAreHeld, EndsAreSeen};
 
 /// What exact bytes do to a reflector.
 pub fn bytes_are_taken_in()

@@ -1,5 +1,5 @@
 //! Worked plans of ReplicaSets, which the checker computes from the definitions.
-ghost use Rattle.examples.specs.ReplicaSetExamples.{UnplacedGoFirst, UnreadyGoNext, NamesDecide, AllGo, NodesComeFirst, PhasesGoOneByOne, PhasesBeforeReadiness, ReadinessBeforeCosts, CheapGoFirst, CostsAreRead, MissingAreCreated, InactiveDoNotCount, NamespacesDiffer, UidsDecide, StraysGoOrphansCome, OtherReferencesStay, OrphansWait, OrphansAreAskedFor, StatusesAreTold, AllIsWell, GoneSetsAreLeft, ExpectedAreAwaited, DyingSetsAreLeft};
+ghost use Rattle.spec_examples.specs.ReplicaSetExamples.{UnplacedGoFirst, UnreadyGoNext, NamesDecide, AllGo, NodesComeFirst, PhasesGoOneByOne, PhasesBeforeReadiness, ReadinessBeforeCosts, CheapGoFirst, CostsAreRead, MissingAreCreated, InactiveDoNotCount, NamespacesDiffer, UidsDecide, StraysGoOrphansCome, OtherReferencesStay, OrphansWait, OrphansAreAskedFor, StatusesAreTold, AllIsWell, GoneSetsAreLeft, ExpectedAreAwaited, DyingSetsAreLeft};
 
 /// Which pods are deleted where there are too many.
 pub fn surplus_pods_are_deleted()

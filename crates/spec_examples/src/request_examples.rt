@@ -1,5 +1,5 @@
 //! Worked facts, which the checker computes from the definitions: a slip in a definition shows here.
-ghost use Rattle.examples.specs.RequestExamples.{EmptyList, FirstCreate, SecondUpdateConflicts, CreateReadsBack, SecondCreateExists, AbsentIsNotFound, NamesAreChecked, BodiesAreRead, ServerSetsMetadata, PathsComeFirst, MomentsAreDays, UidsAreWritten, NamesAreSubdomains, PatchesMerge, UpdateKeepsIdentity, ListsAreOrdered, RefusalsAreSaid, SuccessesAreSaid, LastRevisionIsKept, MembersAreTyped, MembersAreKept, LinesAreRead, KindsAreNamed, LimitsAreExact};
+ghost use Rattle.spec_examples.specs.RequestExamples.{EmptyList, FirstCreate, SecondUpdateConflicts, CreateReadsBack, SecondCreateExists, AbsentIsNotFound, NamesAreChecked, BodiesAreRead, ServerSetsMetadata, PathsComeFirst, MomentsAreDays, UidsAreWritten, NamesAreSubdomains, PatchesMerge, UpdateKeepsIdentity, ListsAreOrdered, RefusalsAreSaid, SuccessesAreSaid, LastRevisionIsKept, MembersAreTyped, MembersAreKept, LinesAreRead, KindsAreNamed, LimitsAreExact};
 
 /// What creates are answered, byte for byte.
 pub fn creates_are_answered()

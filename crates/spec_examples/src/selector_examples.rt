@@ -1,5 +1,5 @@
 //! Worked facts of selectors, which the checker computes from the definitions.
-ghost use Rattle.examples.specs.SelectorExamples.{AllFormsAreRead, EmptyTextSaysNothing, BlanksAreRefused, EmptyRequirementIsRefused, EmptyListIsRefused, EmptyItemsAreValues, EmptyValueIsRead, OpenParenthesisIsRefused, BlankBeforeWordIsNeeded, SplitOperatorIsRefused, BlankAfterMarkIsRead, QualifiedKeysAreRead, ValuesAreChecked, AbsentKeysAreSelected, ValuesAreSelectors, ValuesAreRefused, FieldsAreRead, FieldsAreRefused};
+ghost use Rattle.spec_examples.specs.SelectorExamples.{AllFormsAreRead, EmptyTextSaysNothing, BlanksAreRefused, EmptyRequirementIsRefused, EmptyListIsRefused, EmptyItemsAreValues, EmptyValueIsRead, OpenParenthesisIsRefused, BlankBeforeWordIsNeeded, SplitOperatorIsRefused, BlankAfterMarkIsRead, QualifiedKeysAreRead, ValuesAreChecked, AbsentKeysAreSelected, ValuesAreSelectors, ValuesAreRefused, FieldsAreRead, FieldsAreRefused};
 
 /// What texts of selectors say.
 pub fn texts_are_read()

@@ -1,5 +1,5 @@
 //! Worked facts of servers, which the checker computes from the definitions.
-ghost use Rattle.examples.specs.ServerExamples.{ListsAreAnswered, WatchesAreGiven, CompactionsMoveFloors};
+ghost use Rattle.spec_examples.specs.ServerExamples.{ListsAreAnswered, WatchesAreGiven, CompactionsMoveFloors};
 
 /// What a server answers that keeps room for the last writes.
 pub fn servers_answer()

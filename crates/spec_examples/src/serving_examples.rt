@@ -1,5 +1,5 @@
 //! Worked facts of pages, compactions, bookmarks and windows, which the checker computes from the definitions.
-ghost use Rattle.examples.specs.ServingExamples.{BookmarksAreShown, PagesGoOn, WindowsForget};
+ghost use Rattle.spec_examples.specs.ServingExamples.{BookmarksAreShown, PagesGoOn, WindowsForget};
 
 /// Whole replays of pages, watches and compactions.
 pub fn lines_are_served()

@@ -1,5 +1,5 @@
 //! Worked facts of what deltas change, which the checker computes from the definitions.
-ghost use Rattle.examples.specs.ShiftExamples.{ListsShift, ListsReplace, PutsShift, RemovalsShift, MarksShiftNothing};
+ghost use Rattle.spec_examples.specs.ShiftExamples.{ListsShift, ListsReplace, PutsShift, RemovalsShift, MarksShiftNothing};
 
 /// What a list changes.
 pub fn lists_shift()

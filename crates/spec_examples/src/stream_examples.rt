@@ -1,5 +1,5 @@
 //! Worked facts of watches that begin with initial events, which the checker computes from the definitions.
-ghost use Rattle.examples.specs.StreamExamples.{EmptyListsAreClosed, ListsAreClosed, StartsAreRead};
+ghost use Rattle.spec_examples.specs.StreamExamples.{EmptyListsAreClosed, ListsAreClosed, StartsAreRead};
 
 /// Initial events of the empty store.
 pub fn empty_lists_are_closed()

@@ -1,5 +1,5 @@
 //! Worked facts of creates, updates and patches.
-ghost use Rattle.examples.specs.VerbExamples.{GeneratedNamesAreTried, TakenNamesArePassedOver, NothingNewIsNotWritten, PatchesTakeOutNulls, DeploymentsAreFilledIn, GenerationsCountSpecs, ConfigMapsHaveNoStatus};
+ghost use Rattle.spec_examples.specs.VerbExamples.{GeneratedNamesAreTried, TakenNamesArePassedOver, NothingNewIsNotWritten, PatchesTakeOutNulls, DeploymentsAreFilledIn, GenerationsCountSpecs, ConfigMapsHaveNoStatus};
 
 /// The names that the server makes.
 pub fn names_are_generated()

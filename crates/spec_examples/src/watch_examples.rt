@@ -1,5 +1,5 @@
 //! Worked facts of watches, which the checker computes from the definitions.
-ghost use Rattle.examples.specs.WatchExamples.{WritesAreSeen, ViewsAreKept, WatchesBegin, BookmarksAreSaid, ErrorsAreSaid, FramesAreRead, OthersAreRefused, WatchesAreReplayed, QueriesAreRead, QueriesAreRefused, SelectionsAreLeft};
+ghost use Rattle.spec_examples.specs.WatchExamples.{WritesAreSeen, ViewsAreKept, WatchesBegin, BookmarksAreSaid, ErrorsAreSaid, FramesAreRead, OthersAreRefused, WatchesAreReplayed, QueriesAreRead, QueriesAreRefused, SelectionsAreLeft};
 
 /// What a watch shows of some writes.
 pub fn changes_are_seen()

@@ -1,5 +1,5 @@
 //! Worked facts of windows, which the checker computes from the definitions.
-ghost use Rattle.examples.specs.WindowExamples.{FloorsAreReached, WatchesReachBack, ListsReachBack};
+ghost use Rattle.spec_examples.specs.WindowExamples.{FloorsAreReached, WatchesReachBack, ListsReachBack};
 
 /// What a window of the last writes answers.
 pub fn windows_reach_back()

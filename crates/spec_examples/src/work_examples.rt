@@ -1,5 +1,5 @@
 //! Worked facts of the queue, of delays and of expectations.
-ghost use Rattle.examples.specs.WorkExamples.{KeysWaitOnce, DelaysDouble, KeysComeDue, CreationsAreAwaited};
+ghost use Rattle.spec_examples.specs.WorkExamples.{KeysWaitOnce, DelaysDouble, KeysComeDue, CreationsAreAwaited};
 
 /// A key that is added twice waits once; one that is added while a worker has it waits again once the worker is done.
 pub fn keys_wait_once()

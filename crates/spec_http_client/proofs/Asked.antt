@@ -8,25 +8,25 @@ use Rattle.std.proofs.lemmas.Slice.Eq.{bytes_eq-Decides}
 use Rattle.std.proofs.lemmas.List.Elements.{All-cons}
 use Rattle.std.proofs.lemmas.List.Sums.{AllPass-from_list_all}
 use Rattle.httparse.specs.Grammar.{crlf, AllPass, is_token, is_token_byte, is_uri_byte, is_value_byte, IsToken, Field, IsField, RequestHead, IsRequestHead, print_end, print_request, trim_ows}
-use Rattle.definitions.specs.declared.methods.Method.{Method}
-use Rattle.definitions.specs.declared.methods.Method.TheVariants.{Get, Post, Put, Patch, Delete}
-use Rattle.definitions.specs.Refusals.{Refusal, too_large}
-use Rattle.definitions.specs.Targets.{Asked, read_request}
+use Rattle.spec_api.specs.declared.methods.Method.{Method}
+use Rattle.spec_api.specs.declared.methods.Method.TheVariants.{Get, Post, Put, Patch, Delete}
+use Rattle.spec_api.specs.Refusals.{Refusal, too_large}
+use Rattle.spec_api.specs.Targets.{Asked, read_request}
 use Rattle.chunked.specs.Bodies as bodies
-use Rattle.connections.specs.Replies.{line}
-use Rattle.connections.specs.Heads.{head_of, values_of, stated_length, length_in, media_type, has_transfer_coding, needs_length, takes_type, without_parameters, method_named}
-use Rattle.connections.specs.Checks.{Opening, checked}
-use Rattle.connections.specs.Connections.{longest_head, IsWithinLimits, asked_after, AsksOnly}
-use Rattle.connections.specs.Laws.{IsProper}
-use Rattle.connections.proofs.OnLiterals.{http_on_literals}
-use Rattle.connections.proofs.Fields.{started, lines_of, written_as}
-use Rattle.connections.proofs.Halves.{heads_ask, half_a_head, half_a_body, large_heads}
-use Rattle.connections.proofs.Proper.{proper_read}
-use Rattle.exchanges.specs.Requests as words
-use Rattle.exchanges.specs.RequestLaws.{IsWritable, WrittenRequestsAreRead, LongRequestsAreRefused, CutRequestsAskNothing}
-use Rattle.exchanges.proofs.Checked.{body_stated}
-use Rattle.exchanges.proofs.Numerals.{trimmed, stated, in_value}
-use Rattle.exchanges.proofs.Printed.{field, length_field, field_from}
+use Rattle.spec_http_server.specs.Replies.{line}
+use Rattle.spec_http_server.specs.Heads.{head_of, values_of, stated_length, length_in, media_type, has_transfer_coding, needs_length, takes_type, without_parameters, method_named}
+use Rattle.spec_http_server.specs.Checks.{Opening, checked}
+use Rattle.spec_http_server.specs.Connections.{longest_head, IsWithinLimits, asked_after, AsksOnly}
+use Rattle.spec_http_server.specs.Laws.{IsProper}
+use Rattle.spec_http_server.proofs.OnLiterals.{http_on_literals}
+use Rattle.spec_http_server.proofs.Fields.{started, lines_of, written_as}
+use Rattle.spec_http_server.proofs.Halves.{heads_ask, half_a_head, half_a_body, large_heads}
+use Rattle.spec_http_server.proofs.Proper.{proper_read}
+use Rattle.spec_http_client.specs.Requests as words
+use Rattle.spec_http_client.specs.RequestLaws.{IsWritable, WrittenRequestsAreRead, LongRequestsAreRefused, CutRequestsAskNothing}
+use Rattle.spec_http_client.proofs.Checked.{body_stated}
+use Rattle.spec_http_client.proofs.Numerals.{trimmed, stated, in_value}
+use Rattle.spec_http_client.proofs.Printed.{field, length_field, field_from}
 
 -- the head that is written, in the words of the grammar
 abbrev head_with : List ℕ → List ℕ → List ℕ → List ℕ → List ℕ → RequestHead

@@ -1,12 +1,12 @@
 -- A head whose checks pass has a body of the length that it states.
 use Rattle.std.proofs.Common.{◌≡◌, ℕ, Bool, true, false, cond, Option, Some, None, Result, Ok, Err, refl, sym, ap, ◌∙◌}
-use Rattle.definitions.specs.declared.methods.Method.{Method}
-use Rattle.definitions.specs.declared.refusals.Part.{Part}
-use Rattle.definitions.specs.declared.refusals.Part.TheVariants as part
-use Rattle.definitions.specs.Refusals.{Refusal, bad_request, method_not_allowed, length_required, too_large, unsupported_media_type}
-use Rattle.definitions.specs.Targets.{Query, Route, route, path_of, names_namespace, is_allowed, query_for}
-use Rattle.connections.specs.Heads.{Head, stated_length, method_named}
-use Rattle.connections.specs.Checks.{Opening, length_or_none, body_checked, query_checked, method_checked, path_checked, length_checked, checked}
+use Rattle.spec_api.specs.declared.methods.Method.{Method}
+use Rattle.spec_api.specs.declared.refusals.Part.{Part}
+use Rattle.spec_api.specs.declared.refusals.Part.TheVariants as part
+use Rattle.spec_api.specs.Refusals.{Refusal, bad_request, method_not_allowed, length_required, too_large, unsupported_media_type}
+use Rattle.spec_api.specs.Targets.{Query, Route, route, path_of, names_namespace, is_allowed, query_for}
+use Rattle.spec_http_server.specs.Heads.{Head, stated_length, method_named}
+use Rattle.spec_http_server.specs.Checks.{Opening, length_or_none, body_checked, query_checked, method_checked, path_checked, length_checked, checked}
 
 unless : (b : Bool) (f : Refusal) (r : Result Opening Refusal) (o : Opening) → cond b (Err f) r ≡ Ok o → r ≡ Ok o
 unless true f r o e = absurd (cc)

@@ -5,16 +5,16 @@ use Rattle.httparse.proofs.GrammarLemmas.{response_unique, ReadsResponse-append}
 use Rattle.chunked.specs.Bodies.{IsBodyWithin, chunks_text, last_chunk}
 use Rattle.chunked.specs.Laws.{AreChunks, ReadsPieces, IsReadAs}
 use Rattle.chunked.specs.Reading.{Stops, longest_line}
-use Rattle.chunked.specs.declared.place.Place.{Place}
-use Rattle.chunked.specs.declared.place.Place.TheVariants as place
+use Rattle.chunked.specs.declared.place.BodyPlace.{BodyPlace}
+use Rattle.chunked.specs.declared.place.BodyPlace.TheVariants as place
 use Rattle.chunked.proofs.Bodies.{written}
 use Rattle.chunked.proofs.Runs.{read_as}
-use Rattle.exchanges.specs.Answers.{OpensWatch}
-use Rattle.exchanges.specs.Laws.{chunks_written, WatchesAreReadInPieces}
-use Rattle.exchanges.proofs.Read.{opens}
+use Rattle.spec_http_client.specs.Answers.{OpensWatch}
+use Rattle.spec_http_client.specs.Laws.{chunks_written, WatchesAreReadInPieces}
+use Rattle.spec_http_client.proofs.Read.{opens}
 
 -- what follows the input stays
-followed : (more : List ℕ) (pieces : List (List ℕ)) (p q : Place) (input left : List ℕ) → ReadsPieces p input pieces q left → ReadsPieces p (input ++ more) pieces q (left ++ more)
+followed : (more : List ℕ) (pieces : List (List ℕ)) (p q : BodyPlace) (input left : List ℕ) → ReadsPieces p input pieces q left → ReadsPieces p (input ++ more) pieces q (left ++ more)
 followed more [] p q input left (same, all) = (same, ap (λ b. b ++ more) all)
 followed more (piece ∷ pieces) p q input left (mid, between, (read, consumes, passes), others) =
     let on : input ++ more ≡ read ++ (between ++ more) = ap (λ b. b ++ more) consumes ∙ append_assoc read between more in

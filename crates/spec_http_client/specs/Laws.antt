@@ -1,17 +1,17 @@
 -- What follows for a client and a server that speak with one another.
 use Rattle.std.specs.Prelude.{◌≡◌, ◌<◌, ◌≤◌, ◌^◌, ℕ, List, [], ◌++◌, length, map, Option, Some}
-use Rattle.definitions.specs.declared.kinds.Kind.{Kind}
-use Rattle.definitions.specs.Frames.{frame_text}
-use Rattle.definitions.specs.Streams.{Line, frame_of}
+use Rattle.spec_api.specs.declared.kinds.Kind.{Kind}
+use Rattle.spec_api.specs.Frames.{frame_text}
+use Rattle.spec_api.specs.Streams.{Line, frame_of}
 use Rattle.chunked.specs.Bodies.{joined, chunks_text, last_chunk}
 use Rattle.chunked.specs.Laws.{AreChunks, ReadsPieces}
 use Rattle.chunked.specs.Reading.{Stops}
 use Rattle.chunked.specs.declared.fault.ChunkFault.{ChunkFault}
 use Rattle.chunked.specs.declared.fault.ChunkFault.TheVariants as fault
-use Rattle.chunked.specs.declared.place.Place.{Place}
-use Rattle.chunked.specs.declared.place.Place.TheVariants as place
-use Rattle.connections.specs.Replies.{response_text, watch_head, watch_text}
-use Rattle.exchanges.specs.Answers.{Replied, Says, OpensWatch, IsWatchOf}
+use Rattle.chunked.specs.declared.place.BodyPlace.{BodyPlace}
+use Rattle.chunked.specs.declared.place.BodyPlace.TheVariants as place
+use Rattle.spec_http_server.specs.Replies.{response_text, watch_head, watch_text}
+use Rattle.spec_http_client.specs.Answers.{Replied, Says, OpensWatch, IsWatchOf}
 
 -- a reply that a server can write: a status code of three digits (RFC 9110, Status Codes), and a body whose length is a number of 64 bits
 abbrev pub IsReply : Replied → Type 0
@@ -48,7 +48,7 @@ chunks_written chunks = watch_head ++ (chunks_text chunks ++ last_chunk)
 -- they are all of them, and nothing of the watch was cut; and of a whole watch no fault comes but the device's
 abbrev pub WatchesAreReadInPieces : Type 0
 WatchesAreReadInPieces =
-    (chunks : List (List ℕ)) (bytes more rest : List ℕ) (pieces : List (List ℕ)) (p : Place) (left : List ℕ) → AreChunks chunks → chunks_written chunks ≡ bytes ++ more
+    (chunks : List (List ℕ)) (bytes more rest : List ℕ) (pieces : List (List ℕ)) (p : BodyPlace) (left : List ℕ) → AreChunks chunks → chunks_written chunks ≡ bytes ++ more
     → OpensWatch bytes rest → ReadsPieces place.Line rest pieces p left
     → ((beyond : List ℕ) × (joined chunks ≡ joined pieces ++ beyond))
     × (p ≡ place.Ended → (joined pieces ≡ joined chunks) × (more ≡ []))

@@ -5,14 +5,14 @@ use Rattle.std.proofs.lemmas.List.{append_cancel_right, length-take-le, take-app
 use Rattle.httparse.specs.Grammar.{RequestHead, IsRequestHead, print_end, print_request, ReadsRequest}
 use Rattle.httparse.specs.Spans.{RequestExceeds}
 use Rattle.httparse.proofs.GrammarLemmas.{request_prefix_free}
-use Rattle.definitions.specs.Refusals.{Refusal, bad_request, too_large}
-use Rattle.definitions.specs.declared.refusals.Part.TheVariants as part
-use Rattle.connections.specs.Heads.{head_of}
-use Rattle.connections.specs.Checks.{Opening, checked}
-use Rattle.connections.specs.Connections.{longest_head, most_fields, IsHeadTooLarge, IsHalfAHead, asked_with_body, asked_after, AsksOnly}
-use Rattle.connections.specs.Laws.{HeadsAsk, HalfAHeadAsksNothing, HalfABodyAsksNothing, LargeHeadsAreRefused, ManyFieldsAreRefused, IllFormedHeadsAreRefused}
-use Rattle.connections.proofs.Fields.{started, lines_of, started_append, written_as, many_exceed, exceeds_overflows}
-use Rattle.connections.proofs.Meanings.{only, only_some}
+use Rattle.spec_api.specs.Refusals.{Refusal, bad_request, too_large}
+use Rattle.spec_api.specs.declared.refusals.Part.TheVariants as part
+use Rattle.spec_http_server.specs.Heads.{head_of}
+use Rattle.spec_http_server.specs.Checks.{Opening, checked}
+use Rattle.spec_http_server.specs.Connections.{longest_head, most_fields, IsHeadTooLarge, IsHalfAHead, asked_with_body, asked_after, AsksOnly}
+use Rattle.spec_http_server.specs.Laws.{HeadsAsk, HalfAHeadAsksNothing, HalfABodyAsksNothing, LargeHeadsAreRefused, ManyFieldsAreRefused, IllFormedHeadsAreRefused}
+use Rattle.spec_http_server.proofs.Fields.{started, lines_of, started_append, written_as, many_exceed, exceeds_overflows}
+use Rattle.spec_http_server.proofs.Meanings.{only, only_some}
 
 -- what is whole stays whole with nothing after it
 alone : (h : RequestHead) (rest : List ℕ) → IsRequestHead h → ReadsRequest ((print_request h ++ rest) ++ []) h rest

@@ -3,12 +3,12 @@ use Rattle.std.proofs.Common.{◌≡◌, ◌≤◌, ℕ, ◌+◌, ◌-◌, List,
 use Rattle.std.proofs.Math.Seq.{take-append-add}
 use Rattle.httparse.specs.Grammar.{RequestHead, print_request, ReadsRequest, NeverHasRequest, EndsInTarget}
 use Rattle.httparse.proofs.GrammarLemmas.{request_unique}
-use Rattle.definitions.specs.Refusals.{Refusal}
-use Rattle.definitions.specs.Targets.{Asked}
-use Rattle.connections.specs.Heads.{head_of}
-use Rattle.connections.specs.Checks.{checked}
-use Rattle.connections.specs.Connections.{longest_head, most_fields, IsWithinLimits, IsHeadTooLarge, IsHalfAHead, AsksByHead, asked_after, Asks, AsksOnly}
-use Rattle.connections.proofs.Fields.{exceeds_overflows}
+use Rattle.spec_api.specs.Refusals.{Refusal}
+use Rattle.spec_api.specs.Targets.{Asked}
+use Rattle.spec_http_server.specs.Heads.{head_of}
+use Rattle.spec_http_server.specs.Checks.{checked}
+use Rattle.spec_http_server.specs.Connections.{longest_head, most_fields, IsWithinLimits, IsHeadTooLarge, IsHalfAHead, AsksByHead, asked_after, Asks, AsksOnly}
+use Rattle.spec_http_server.proofs.Fields.{exceeds_overflows}
 
 abbrev pub Said : Type 0
 Said = Option (Result Asked Refusal)

@@ -5,15 +5,15 @@ use Rattle.std.proofs.lemmas.Str.{is_utf8-from_IsUtf8}
 use Rattle.std.proofs.Math.Seq.{take-append_seam}
 use Rattle.std.specs.Str.{IsUtf8}
 use Rattle.std.specs.Str.Lossy.{utf8_lossy}
-use Rattle.definitions.specs.declared.methods.Method.{Method}
-use Rattle.definitions.specs.declared.refusals.Part.{Part}
-use Rattle.definitions.specs.Refusals.{Refusal, bad_request, method_not_allowed, length_required, too_large, unsupported_media_type}
-use Rattle.definitions.specs.declared.refusals.Part.TheVariants as part
-use Rattle.definitions.specs.Targets.{Query, Route, route, path_of, names_namespace, is_allowed, query_for, longest_body, is_too_long, asked, asked_at, decoded, read_request}
-use Rattle.connections.specs.Heads.{Head, head_of, stated_length, method_named}
-use Rattle.connections.specs.Checks.{Opening, length_or_none, body_checked, query_checked, method_checked, path_checked, length_checked}
-use Rattle.connections.specs.Connections.{asked_with_body}
-use Rattle.connections.specs.Laws.{RequestsAreRead}
+use Rattle.spec_api.specs.declared.methods.Method.{Method}
+use Rattle.spec_api.specs.declared.refusals.Part.{Part}
+use Rattle.spec_api.specs.Refusals.{Refusal, bad_request, method_not_allowed, length_required, too_large, unsupported_media_type}
+use Rattle.spec_api.specs.declared.refusals.Part.TheVariants as part
+use Rattle.spec_api.specs.Targets.{Query, Route, route, path_of, names_namespace, is_allowed, query_for, longest_body, is_too_long, asked, asked_at, decoded, read_request}
+use Rattle.spec_http_server.specs.Heads.{Head, head_of, stated_length, method_named}
+use Rattle.spec_http_server.specs.Checks.{Opening, length_or_none, body_checked, query_checked, method_checked, path_checked, length_checked}
+use Rattle.spec_http_server.specs.Connections.{asked_with_body}
+use Rattle.spec_http_server.specs.Laws.{RequestsAreRead}
 
 -- a text is read as it is
 pub text_decoded : (t : List ℕ) → IsUtf8 t → decoded t ≡ t

@@ -4,12 +4,12 @@ use Rattle.std.proofs.lemmas.Bool.{le-ltb, ltb-false}
 use Rattle.std.proofs.lemmas.List.{take-append-le}
 use Rattle.httparse.specs.Grammar.{RequestHead, ReadsRequest, NeverHasRequest, HasNoRequest}
 use Rattle.httparse.proofs.GrammarLemmas.{ReadsRequest-append}
-use Rattle.definitions.specs.Refusals.{Refusal}
-use Rattle.definitions.specs.Targets.{Asked, asked}
-use Rattle.connections.specs.Heads.{head_of}
-use Rattle.connections.specs.Checks.{Opening, checked}
-use Rattle.connections.specs.Connections.{longest_head, IsHeadTooLarge, asked_with_body, asked_after, Asks}
-use Rattle.connections.specs.Laws.{AskedStaysAsked}
+use Rattle.spec_api.specs.Refusals.{Refusal}
+use Rattle.spec_api.specs.Targets.{Asked, asked}
+use Rattle.spec_http_server.specs.Heads.{head_of}
+use Rattle.spec_http_server.specs.Checks.{Opening, checked}
+use Rattle.spec_http_server.specs.Connections.{longest_head, IsHeadTooLarge, asked_with_body, asked_after, Asks}
+use Rattle.spec_http_server.specs.Laws.{AskedStaysAsked}
 
 -- ---- of a head
 

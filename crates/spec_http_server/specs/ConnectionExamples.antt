@@ -1,11 +1,11 @@
 -- What whole connections ask, from their first byte to their last.
 use Rattle.std.specs.Prelude.{◌≡◌, ℕ, List, [], ◌∷◌, length, replicate, codes, Some, None, Err}
 use Rattle.httparse.specs.Grammar.{RequestHead, print_request}
-use Rattle.definitions.specs.declared.methods.Method.TheVariants.{Get, Post}
-use Rattle.definitions.specs.Refusals.{too_large, length_required}
-use Rattle.definitions.specs.Targets.{read_request}
-use Rattle.connections.specs.Connections.{AsksOnly}
-use Rattle.connections.specs.HeadExamples.{head, all}
+use Rattle.spec_api.specs.declared.methods.Method.TheVariants.{Get, Post}
+use Rattle.spec_api.specs.Refusals.{too_large, length_required}
+use Rattle.spec_api.specs.Targets.{read_request}
+use Rattle.spec_http_server.specs.Connections.{AsksOnly}
+use Rattle.spec_http_server.specs.HeadExamples.{head, all}
 
 -- the path of a list
 abbrev pub pods : List ℕ

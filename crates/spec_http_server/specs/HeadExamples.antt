@@ -1,13 +1,13 @@
 -- Heads of requests as they are written, and by which check each is refused, computed from the definitions.
 use Rattle.std.specs.Prelude.{◌≡◌, ℕ, List, [], ◌∷◌, map, codes, Option, Some, None, Result, Ok, Err}
 use Rattle.httparse.specs.Grammar.{RequestHead, Field, crlf, print_request}
-use Rattle.definitions.specs.declared.methods.Method.TheVariants.{Patch}
-use Rattle.definitions.specs.declared.kinds.Kind.TheVariants.{ConfigMap}
-use Rattle.definitions.specs.declared.refusals.Part.TheVariants as part
-use Rattle.definitions.specs.Refusals.{Refusal, bad_request, no_such_path, method_not_allowed, length_required, too_large, unsupported_media_type}
-use Rattle.definitions.specs.Targets.{object_at}
-use Rattle.connections.specs.Heads.{head_of}
-use Rattle.connections.specs.Checks.{Opening, checked}
+use Rattle.spec_api.specs.declared.methods.Method.TheVariants.{Patch}
+use Rattle.spec_api.specs.declared.kinds.Kind.TheVariants.{ConfigMap}
+use Rattle.spec_api.specs.declared.refusals.Part.TheVariants as part
+use Rattle.spec_api.specs.Refusals.{Refusal, bad_request, no_such_path, method_not_allowed, length_required, too_large, unsupported_media_type}
+use Rattle.spec_api.specs.Targets.{object_at}
+use Rattle.spec_http_server.specs.Heads.{head_of}
+use Rattle.spec_http_server.specs.Checks.{Opening, checked}
 
 -- a head of HTTP/1.1 or 1.0 with these fields
 abbrev pub field : List ℕ × List ℕ → Field

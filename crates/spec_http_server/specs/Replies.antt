@@ -1,13 +1,13 @@
 -- What is written for an answer (RFC 9112, Message Format).
 use Rattle.std.specs.Prelude.{ℕ, List, [], ◌∷◌, ◌++◌, length, map, codes, decimal, Option, Some, None, Result, if◌then◌else◌, ◌==◌}
 use Rattle.serde_json.specs.Written.{compact_text}
-use Rattle.definitions.specs.declared.kinds.Kind.{Kind}
-use Rattle.definitions.specs.Frames.{frame_text}
-use Rattle.definitions.specs.Replies.{Reply, outcome, shown, compacted}
-use Rattle.definitions.specs.Refusals.{Refusal, success_body}
-use Rattle.definitions.specs.Streams.{Line, frame_of}
-use Rattle.definitions.specs.Targets.{Asked}
-use Rattle.definitions.specs.Verbs.{outcome_code, outcome_body}
+use Rattle.spec_api.specs.declared.kinds.Kind.{Kind}
+use Rattle.spec_api.specs.Frames.{frame_text}
+use Rattle.spec_api.specs.Replies.{Reply, outcome, shown, compacted}
+use Rattle.spec_api.specs.Refusals.{Refusal, success_body}
+use Rattle.spec_api.specs.Streams.{Line, frame_of}
+use Rattle.spec_api.specs.Targets.{Asked}
+use Rattle.spec_api.specs.Verbs.{outcome_code, outcome_body}
 use Rattle.chunked.specs.Bodies.{crlf, chunks_text, last_chunk}
 
 -- a line of a head

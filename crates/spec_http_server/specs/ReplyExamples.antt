@@ -2,15 +2,15 @@
 use Rattle.std.specs.Prelude.{◌≡◌, ℕ, List, [], ◌∷◌, map, codes, Some}
 use Rattle.http.specs.StatusCode.{reason_phrase}
 use Rattle.httparse.specs.Grammar.{RequestHead, print_request}
-use Rattle.definitions.specs.declared.kinds.Kind.TheVariants.{ConfigMap}
-use Rattle.definitions.specs.Replies.{Session, start, reply_for}
-use Rattle.line_protocol.specs.Lines.{after_lines}
-use Rattle.definitions.specs.Streams.{bookmark, initial_end}
-use Rattle.connections.specs.Heads.{head_of}
-use Rattle.connections.specs.Checks.{checked}
-use Rattle.connections.specs.Connections.{asked_after}
-use Rattle.connections.specs.HeadExamples.{head, all, one}
-use Rattle.connections.specs.Replies.{text_for, frames_text, phrases}
+use Rattle.spec_api.specs.declared.kinds.Kind.TheVariants.{ConfigMap}
+use Rattle.spec_api.specs.Replies.{Session, start, reply_for}
+use Rattle.spec_line_protocol.specs.Lines.{after_lines}
+use Rattle.spec_api.specs.Streams.{bookmark, initial_end}
+use Rattle.spec_http_server.specs.Heads.{head_of}
+use Rattle.spec_http_server.specs.Checks.{checked}
+use Rattle.spec_http_server.specs.Connections.{asked_after}
+use Rattle.spec_http_server.specs.HeadExamples.{head, all, one}
+use Rattle.spec_http_server.specs.Replies.{text_for, frames_text, phrases}
 
 -- what is written in a session for a head and what follows it
 abbrev pub written_in : Session → RequestHead → List ℕ → List ℕ

@@ -7,11 +7,11 @@ use Rattle.std.specs.BTreeMap.{insert_entry, is_at}
 use Rattle.serde_json.specs.Data.{Data}
 use Rattle.std.proofs.lemmas.List.{take-take, take-append-drop, drop-append-le, drop_all, length-take}
 use Rattle.std.proofs.lemmas.Bool.{cases_lt}
-use Rattle.definitions.specs.Keys.{Key, key_cmp}
-use Rattle.definitions.specs.History.{History, Write, View, Entries, up_to, writes, found, in_view, viewed, seen, last_of, after, after_all, put_or_remove, list}
-use Rattle.definitions.proofs.PutLaws.{name_cmp_total, same_name, IsAbove, IsAscending, IsAscending-after_all, IsAbove-filter, found-after_all}
-use Rattle.laws.specs.WatchLaws.{AreBetween}
-use Rattle.definitions.specs.Events.{Event, event_of, event_of_write, events_after, events, applied, apply}
+use Rattle.spec_api.specs.Keys.{Key, key_cmp}
+use Rattle.spec_api.specs.History.{History, Write, View, Entries, up_to, writes, found, in_view, viewed, seen, last_of, after, after_all, put_or_remove, list}
+use Rattle.spec_api.proofs.PutLaws.{name_cmp_total, same_name, IsAbove, IsAscending, IsAscending-after_all, IsAbove-filter, found-after_all}
+use Rattle.spec_laws.specs.WatchLaws.{AreBetween}
+use Rattle.spec_api.specs.Events.{Event, event_of, event_of_write, events_after, events, applied, apply}
 
 equal_from : (r : Ordering) → is_eq r ≡ true → r ≡ Equal
 equal_from Less h = cc

@@ -12,12 +12,12 @@ use Rattle.std.specs.FinMap as map
 use Rattle.std.specs.FinMap.{get-insert, get-retain_keys, get_tied}
 use Rattle.std.specs.FinSet as set
 use Rattle.std.specs.FinSet.{contains-empty, contains-from_list, contains-remove, empty_of_len, len-empty, same_set, nat_cmp-IsAntisymmetric, slice_cmp-IsAntisymmetric}
-use Rattle.laws.specs.AwaitedLaws.{deletions_of, is_awaited, all_deleted, is_among, are_among, SeenIsAwaitedNoMore, StrangersChangeNothing, WaitsForEach, DeletionsOnlyFall}
-use Rattle.definitions.specs.Keys.{is_same_key}
-use Rattle.controllers.specs.Expectations.{Owner, owner_cmp, Expectation, Table, Uids, change, deleted, deletions_expected, is_met, satisfied}
-use Rattle.laws.specs.ExpectationLaws.{Change, expect_creations, expect_deletions, see_created, see_deleted, forget, after, after_all, sets, sets_none}
-use Rattle.controllers.proofs.Expected.{owner_total, keys_tied, get_put}
-use Rattle.laws.proofs.Falling.{put_same, tied, fewer_deletions}
+use Rattle.spec_laws.specs.AwaitedLaws.{deletions_of, is_awaited, all_deleted, is_among, are_among, SeenIsAwaitedNoMore, StrangersChangeNothing, WaitsForEach, DeletionsOnlyFall}
+use Rattle.spec_api.specs.Keys.{is_same_key}
+use Rattle.spec_client_go.specs.Expectations.{Owner, owner_cmp, Expectation, Table, Uids, change, deleted, deletions_expected, is_met, satisfied}
+use Rattle.spec_laws.specs.ExpectationLaws.{Change, expect_creations, expect_deletions, see_created, see_deleted, forget, after, after_all, sets, sets_none}
+use Rattle.spec_client_go.proofs.Expected.{owner_total, keys_tied, get_put}
+use Rattle.spec_laws.proofs.Falling.{put_same, tied, fewer_deletions}
 
 -- ---- uids
 

@@ -2,28 +2,28 @@
 use Rattle.std.proofs.Common.{◌≡◌, ℕ, List, cond, None, Some, Result, Ok, Err, Bool, not, ◌||◌, ◌&&◌, ◌==◌, is_some, nat_le, length, refl, true, false, ◌+◌}
 use Rattle.serde_json.specs.Data.{Data}
 use Rattle.serde_json.specs.Events.{items_len}
-use Rattle.definitions.specs.declared.kinds.Kind.{Kind}
-use Rattle.definitions.specs.declared.refusals.Part.{Part}
-use Rattle.definitions.specs.declared.refusals.Part.TheVariants as part
-use Rattle.definitions.specs.declared.refusals.Mismatch.TheVariants as mismatch
-use Rattle.definitions.specs.declared.refusals.Field.TheVariants as field
-use Rattle.definitions.specs.Checks.{create_fault, update_fault, is_status_valid, finalizers}
-use Rattle.definitions.specs.DeleteOptions.{Options}
-use Rattle.definitions.specs.Deletion.{Fate, remove, mark, keep, fate, being_deleted, leaves, left_by, removal_of, kept_code, decided}
-use Rattle.definitions.specs.Kinds.{has_status}
-use Rattle.definitions.specs.Keys.{Key}
-use Rattle.definitions.specs.History as history
-use Rattle.definitions.specs.History.{History, found, entries_at, present}
-use Rattle.definitions.specs.Metadata.{namespace, uid, version, metadata_of, at_revision, is_being_deleted, is_other, differs}
-use Rattle.definitions.specs.NewObjects.{created, with_first_status}
-use Rattle.definitions.specs.Reading.{is_body, reading}
-use Rattle.definitions.specs.Refusals.{Refusal, bad_request, not_found, already_exists, conflict, invalid, too_large, storage_full}
-use Rattle.definitions.specs.Replacements.{in_place, is_finalized, says_the_same, updated, with_status_in}
-use Rattle.definitions.specs.Values.{merged}
-use Rattle.definitions.specs.Verbs.{Outcome, answered, refused, accept_at, accept, shown, stored, removed, object_in, new_name, put_in_place, take_out, if_same, replace, replace_status, by_decision, names_path, is_too_large, is_past_greatest, most_objects}
-use Rattle.definitions.specs.ObjectRequests.{Request, get_object, list_objects, create_object, update_object, update_status, patch_object, delete_object}
-use Rattle.definitions.proofs.VerbSteps.{create_as, create_checked, create_read, replace_changed, replace_with, update_read, restate, status_read, patch_read, patch, by_fate, delete, status_put}
-use Rattle.laws.proofs.Guards.{guard, guard_field, there, either}
+use Rattle.spec_api.specs.declared.kinds.Kind.{Kind}
+use Rattle.spec_api.specs.declared.refusals.Part.{Part}
+use Rattle.spec_api.specs.declared.refusals.Part.TheVariants as part
+use Rattle.spec_api.specs.declared.refusals.Mismatch.TheVariants as mismatch
+use Rattle.spec_api.specs.declared.refusals.Field.TheVariants as field
+use Rattle.spec_api.specs.Checks.{create_fault, update_fault, is_status_valid, finalizers}
+use Rattle.spec_api.specs.DeleteOptions.{Options}
+use Rattle.spec_api.specs.Deletion.{Fate, remove, mark, keep, fate, being_deleted, leaves, left_by, removal_of, kept_code, decided}
+use Rattle.spec_api.specs.Kinds.{has_status}
+use Rattle.spec_api.specs.Keys.{Key}
+use Rattle.spec_api.specs.History as history
+use Rattle.spec_api.specs.History.{History, found, entries_at, present}
+use Rattle.spec_api.specs.Metadata.{namespace, uid, version, metadata_of, at_revision, is_being_deleted, is_other, differs}
+use Rattle.spec_api.specs.NewObjects.{created, with_first_status}
+use Rattle.spec_api.specs.Reading.{is_body, reading}
+use Rattle.spec_api.specs.Refusals.{Refusal, bad_request, not_found, already_exists, conflict, invalid, too_large, storage_full}
+use Rattle.spec_api.specs.Replacements.{in_place, is_finalized, says_the_same, updated, with_status_in}
+use Rattle.spec_api.specs.Values.{merged}
+use Rattle.spec_api.specs.Verbs.{Outcome, answered, refused, accept_at, accept, shown, stored, removed, object_in, new_name, put_in_place, take_out, if_same, replace, replace_status, by_decision, names_path, is_too_large, is_past_greatest, most_objects}
+use Rattle.spec_api.specs.ObjectRequests.{Request, get_object, list_objects, create_object, update_object, update_status, patch_object, delete_object}
+use Rattle.spec_api.proofs.VerbSteps.{create_as, create_checked, create_read, replace_changed, replace_with, update_read, restate, status_read, patch_read, patch, by_fate, delete, status_put}
+use Rattle.spec_laws.proofs.Guards.{guard, guard_field, there, either}
 
 module _ (P : Outcome → Type 0) (refusal : (f : Refusal) → P (refused f)) where
   -- ---- create

@@ -8,24 +8,24 @@ use Rattle.std.specs.Str.{bytes_eq}
 use Rattle.serde_json.specs.Data.{Data, string, object, Members, put, no_items}
 use Rattle.serde_json.specs.Find.{get, get_member, as_array}
 use Rattle.serde_json.proofs.Views.{get_member-put, get_member-put_other}
-use Rattle.definitions.proofs.Truths.{and_true, both_true, right_true}
-use Rattle.definitions.specs.declared.kinds.Kind.{Kind}
-use Rattle.definitions.specs.declared.kinds.Kind.TheVariants.{ConfigMap, Pod, ReplicaSet, Deployment}
-use Rattle.definitions.specs.declared.refusals.Field.{Field}
-use Rattle.laws.specs.CheckLaws.{HasTemplate, SelectsItsTemplate, CreatedSelectTheirTemplates, UpdatedSelectTheirTemplates, StoredPassAgain}
-use Rattle.definitions.specs.Checks.{is_generating_byte, Check, first_fault, checks, checks_of, in_spec, requirements, is_selected, is_template_valid, are_labels, are_labels_valid, is_selector_valid, adds_no_finalizer, is_selector_kept, is_possible_uid, is_not_empty, is_owner, are_owners_valid, controllers, generate_name, is_name_valid, generates, passes_if_there, is_generate_name_valid, are_finalizers_valid, is_finalizer, text_is, is_not_negative, counts, is_strategy}
-use Rattle.definitions.specs.Metadata.{labels_of, Owner, metadata, metadata_of, name, owners, owners_in}
-use Rattle.definitions.specs.Selectors.{Requirement, meets_all}
-use Rattle.definitions.specs.SelectorValues.{all_items, items_in, is_some_and, selector_of_value}
-use Rattle.definitions.specs.Uids.{uid_text, uid_revision, cluster_word}
-use Rattle.definitions.specs.Values.{inner_of, members_of, without}
-use Rattle.definitions.specs.NewObjects.{created, first_status, new_metadata, with_first_status, with_generation, with_status}
-use Rattle.definitions.specs.Defaults.{unsigned_value}
-use Rattle.definitions.specs.Kinds.{has_generation}
-use Rattle.definitions.specs.Keys.{is_subdomain}
-use Rattle.laws.proofs.SetMetadata.{text-at_revision, name-new_metadata}
-use Rattle.definitions.proofs.JsonMembers.{apart, get_member-without_other, metadata_of-with, text_in}
-use Rattle.definitions.proofs.FirstStatus.{get-first, metadata_of-first}
+use Rattle.spec_api.proofs.Truths.{and_true, both_true, right_true}
+use Rattle.spec_api.specs.declared.kinds.Kind.{Kind}
+use Rattle.spec_api.specs.declared.kinds.Kind.TheVariants.{ConfigMap, Pod, ReplicaSet, Deployment}
+use Rattle.spec_api.specs.declared.refusals.Field.{Field}
+use Rattle.spec_laws.specs.CheckLaws.{HasTemplate, SelectsItsTemplate, CreatedSelectTheirTemplates, UpdatedSelectTheirTemplates, StoredPassAgain}
+use Rattle.spec_api.specs.Checks.{is_generating_byte, Check, first_fault, checks, checks_of, in_spec, requirements, is_selected, is_template_valid, are_labels, are_labels_valid, is_selector_valid, adds_no_finalizer, is_selector_kept, is_possible_uid, is_not_empty, is_owner, are_owners_valid, controllers, generate_name, is_name_valid, generates, passes_if_there, is_generate_name_valid, are_finalizers_valid, is_finalizer, text_is, is_not_negative, counts, is_strategy}
+use Rattle.spec_api.specs.Metadata.{labels_of, Owner, metadata, metadata_of, name, owners, owners_in}
+use Rattle.spec_api.specs.Selectors.{Requirement, meets_all}
+use Rattle.spec_api.specs.SelectorValues.{all_items, items_in, is_some_and, selector_of_value}
+use Rattle.spec_api.specs.Uids.{uid_text, uid_revision, cluster_word}
+use Rattle.spec_api.specs.Values.{inner_of, members_of, without}
+use Rattle.spec_api.specs.NewObjects.{created, first_status, new_metadata, with_first_status, with_generation, with_status}
+use Rattle.spec_api.specs.Defaults.{unsigned_value}
+use Rattle.spec_api.specs.Kinds.{has_generation}
+use Rattle.spec_api.specs.Keys.{is_subdomain}
+use Rattle.spec_laws.proofs.SetMetadata.{text-at_revision, name-new_metadata}
+use Rattle.spec_api.proofs.JsonMembers.{apart, get_member-without_other, metadata_of-with, text_in}
+use Rattle.spec_api.proofs.FirstStatus.{get-first, metadata_of-first}
 
 abbrev pub AllMet : List Check → Type 0
 AllMet [] = Unit {0}

@@ -1,9 +1,9 @@
 -- What a compaction leaves as it is.
 use Rattle.std.proofs.Common.{◌≡◌, ◌≤◌, ℕ, ◌+◌, ◌-◌, List, [], ◌∷◌, ◌++◌, length, take, sym, ◌∙◌, subst, arith, append-nil}
-use Rattle.definitions.specs.History.{History, Write, write, compaction, writes, present, after_all}
-use Rattle.laws.specs.Happening.{Follows}
-use Rattle.server_state.specs.Snapshots.{snapshot}
-use Rattle.laws.proofs.Past.{writes-append}
+use Rattle.spec_api.specs.History.{History, Write, write, compaction, writes, present, after_all}
+use Rattle.spec_laws.specs.Happening.{Follows}
+use Rattle.spec_server.specs.Snapshots.{snapshot}
+use Rattle.spec_laws.proofs.Past.{writes-append}
 
 pub writes-compaction : (h : History) (r : ℕ) → writes (h ++ compaction r ∷ []) ≡ writes h
 writes-compaction h r = writes-append h (compaction r ∷ []) ∙ append-nil (writes h)

@@ -2,19 +2,19 @@
 use Rattle.std.proofs.Common.{◌≡◌, ◌≤◌, List, ℕ, suc, Bool, true, false, cond, if◌then◌else◌, codes, is_some, Option, Some, None, Ok, refl, sym, ap, ◌∙◌, subst, arith}
 use Rattle.serde_json.specs.Data.{Data, null, boolean, number, string, array, object, Members, put, depth, members_depth}
 use Rattle.serde_json.specs.Find.{get_member}
-use Rattle.definitions.specs.declared.kinds.Kind.{Kind}
-use Rattle.definitions.specs.declared.kinds.Kind.TheVariants.{ConfigMap, Pod, ReplicaSet, Deployment}
-use Rattle.definitions.specs.declared.schemas.Shape.TheVariants.{Object}
-use Rattle.definitions.specs.declared.schemas.Schema.{Schema}
-use Rattle.definitions.specs.declared.schemas.Schema.TheVariants.{Root, ReplicaSetSpec, DeploymentSpec, Strategy, Unknown}
-use Rattle.laws.proofs.NeatMembers.{One, Neat, Neat-put, Neat-get, Neat-of, Neat-fits, Neat-tidy, Neat-depth, Neat-whole, Neat-good, opens}
-use Rattle.laws.specs.CheckLaws.{DefaultsReadAgain}
-use Rattle.definitions.specs.Defaults.{unsigned_value, with_changed, rolling_defaults, is_rolling_update, with_rolling, strategy_defaults, replica_set_defaults, deployment_defaults, defaulted}
-use Rattle.definitions.proofs.FoundMembers.{with_found}
-use Rattle.definitions.specs.Schemas.{property_at}
-use Rattle.definitions.specs.Values.{with_default}
-use Rattle.definitions.specs.Reading.{fits, members_fit, is_absent, empty, reading}
-use Rattle.laws.proofs.ReadAgain.{IsTidy, Has, Has-put, Filled, filled_members, Filled-filled, settled}
+use Rattle.spec_api.specs.declared.kinds.Kind.{Kind}
+use Rattle.spec_api.specs.declared.kinds.Kind.TheVariants.{ConfigMap, Pod, ReplicaSet, Deployment}
+use Rattle.spec_api.specs.declared.schemas.Shape.TheVariants.{Object}
+use Rattle.spec_api.specs.declared.schemas.Schema.{Schema}
+use Rattle.spec_api.specs.declared.schemas.Schema.TheVariants.{Root, ReplicaSetSpec, DeploymentSpec, Strategy, Unknown}
+use Rattle.spec_laws.proofs.NeatMembers.{One, Neat, Neat-put, Neat-get, Neat-of, Neat-fits, Neat-tidy, Neat-depth, Neat-whole, Neat-good, opens}
+use Rattle.spec_laws.specs.CheckLaws.{DefaultsReadAgain}
+use Rattle.spec_api.specs.Defaults.{unsigned_value, with_changed, rolling_defaults, is_rolling_update, with_rolling, strategy_defaults, replica_set_defaults, deployment_defaults, defaulted}
+use Rattle.spec_api.proofs.FoundMembers.{with_found}
+use Rattle.spec_api.specs.Schemas.{property_at}
+use Rattle.spec_api.specs.Values.{with_default}
+use Rattle.spec_api.specs.Reading.{fits, members_fit, is_absent, empty, reading}
+use Rattle.spec_laws.proofs.ReadAgain.{IsTidy, Has, Has-put, Filled, filled_members, Filled-filled, settled}
 
 abbrev OneIf : ℕ → Schema → List ℕ → Option Data → Type 0
 OneIf n p k None = Unit {0}

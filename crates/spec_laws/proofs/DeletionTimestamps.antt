@@ -7,22 +7,22 @@ use Rattle.serde_json.specs.Data.{Data, null, boolean, number, unsigned, negativ
 use Rattle.serde_json.specs.Find.{get_member, as_number, as_u64}
 use Rattle.serde_json.specs.Written.{compact_text, members_text}
 use Rattle.serde_json.proofs.Views.{get_member-put, get_member-put_other}
-use Rattle.definitions.specs.declared.kinds.Kind.{Kind}
-use Rattle.definitions.specs.declared.policies.Policy.{Policy}
-use Rattle.definitions.specs.Checks.{finalizers}
-use Rattle.definitions.specs.Defaults.{unsigned_value}
-use Rattle.definitions.specs.Deletion.{left_by, others_then, of_policy, with_deletion}
-use Rattle.definitions.specs.Kinds.{has_generation}
-use Rattle.definitions.specs.Metadata.{metadata_of, with_metadata, at_revision, is_being_deleted}
-use Rattle.definitions.specs.Replacements.{generation, with_next_generation}
-use Rattle.definitions.specs.Revisions.{greatest_revision}
-use Rattle.definitions.specs.SelectorValues.{items_in}
-use Rattle.definitions.specs.Values.{members_of}
-use Rattle.definitions.proofs.JsonMembers.{apart, metadata_of-with, text_in, text_in-put, text_in-put_other}
-use Rattle.laws.proofs.JsonOrder.{IsOrdered, IsOrdered-put}
-use Rattle.laws.proofs.LeftFinalizers.{others, of_left, length-others, length-with_policy, others_with_policy}
-use Rattle.definitions.proofs.EscapedTexts.{length-quoted}
-use Rattle.laws.proofs.TextLengths.{fits_at, length-put, length-put_new, put_both, put_same, put_twice}
+use Rattle.spec_api.specs.declared.kinds.Kind.{Kind}
+use Rattle.spec_api.specs.declared.policies.Policy.{Policy}
+use Rattle.spec_api.specs.Checks.{finalizers}
+use Rattle.spec_api.specs.Defaults.{unsigned_value}
+use Rattle.spec_api.specs.Deletion.{left_by, others_then, of_policy, with_deletion}
+use Rattle.spec_api.specs.Kinds.{has_generation}
+use Rattle.spec_api.specs.Metadata.{metadata_of, with_metadata, at_revision, is_being_deleted}
+use Rattle.spec_api.specs.Replacements.{generation, with_next_generation}
+use Rattle.spec_api.specs.Revisions.{greatest_revision}
+use Rattle.spec_api.specs.SelectorValues.{items_in}
+use Rattle.spec_api.specs.Values.{members_of}
+use Rattle.spec_api.proofs.JsonMembers.{apart, metadata_of-with, text_in, text_in-put, text_in-put_other}
+use Rattle.spec_laws.proofs.JsonOrder.{IsOrdered, IsOrdered-put}
+use Rattle.spec_laws.proofs.LeftFinalizers.{others, of_left, length-others, length-with_policy, others_with_policy}
+use Rattle.spec_api.proofs.EscapedTexts.{length-quoted}
+use Rattle.spec_laws.proofs.TextLengths.{fits_at, length-put, length-put_new, put_both, put_same, put_twice}
 
 -- how long the text of an object is with this metadata, at one revision
 abbrev pub size : Data → Members → ℕ

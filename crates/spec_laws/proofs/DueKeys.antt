@@ -13,12 +13,12 @@ use Rattle.std.specs.FinSet.{contains-from_list, same_set}
 use Rattle.std.specs.List.{filter, list_any, AllByRecursion}
 use Rattle.std.specs.List.Sorted.{IsStrictlySortedBy}
 use Rattle.std.specs.Ordering.{eq_by_cmp, is_eq, is_lt, ordering_reverse}
-use Rattle.controllers.specs.WorkQueues.{WorkKey, work_key_cmp}
-use Rattle.controllers.specs.Delays.{Delays, Alarm, alarm_cmp, alarms, due, has_come}
-use Rattle.laws.specs.DueLaws.{IsDue, alarm_at, AreInTurn, DueHaveCome, DueAreInTurn, DueAreTheOnlyList, StillDelayedAreLater}
-use Rattle.controllers.proofs.Alarms.{alarm_total, alarm_tells, alarm_of, contains-alarms, moment_of, find_mark, marked_entries, mark, is_moment, same_at_itself}
-use Rattle.controllers.proofs.Due.{AreAlarms, get-still}
-use Rattle.controllers.proofs.WorkKeyOrder.{work_key_total, work_key_tells}
+use Rattle.spec_client_go.specs.WorkQueues.{WorkKey, work_key_cmp}
+use Rattle.spec_client_go.specs.Delays.{Delays, Alarm, alarm_cmp, alarms, due, has_come}
+use Rattle.spec_laws.specs.DueLaws.{IsDue, alarm_at, AreInTurn, DueHaveCome, DueAreInTurn, DueAreTheOnlyList, StillDelayedAreLater}
+use Rattle.spec_client_go.proofs.Alarms.{alarm_total, alarm_tells, alarm_of, contains-alarms, moment_of, find_mark, marked_entries, mark, is_moment, same_at_itself}
+use Rattle.spec_client_go.proofs.Due.{AreAlarms, get-still}
+use Rattle.spec_client_go.proofs.WorkKeyOrder.{work_key_total, work_key_tells}
 
 -- ---- lists in order
 

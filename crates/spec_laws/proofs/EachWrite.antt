@@ -5,11 +5,11 @@ use Rattle.std.specs.List.{AllByRecursion}
 use Rattle.std.specs.Map.{remove_entry}
 use Rattle.std.specs.Ordering.{match_ordering}
 use Rattle.serde_json.specs.Data.{Data}
-use Rattle.definitions.specs.History.{History, Write, View, Entries, write, writes, state, last_of, up_to, after_all, put_or_remove, in_view, viewed, list}
-use Rattle.definitions.specs.Keys.{Key, key_cmp, is_same_key}
-use Rattle.definitions.specs.Verbs.{with_write}
-use Rattle.definitions.proofs.PutLaws.{same_name}
-use Rattle.laws.proofs.Past.{writes-append}
+use Rattle.spec_api.specs.History.{History, Write, View, Entries, write, writes, state, last_of, up_to, after_all, put_or_remove, in_view, viewed, list}
+use Rattle.spec_api.specs.Keys.{Key, key_cmp, is_same_key}
+use Rattle.spec_api.specs.Verbs.{with_write}
+use Rattle.spec_api.proofs.PutLaws.{same_name}
+use Rattle.spec_laws.proofs.Past.{writes-append}
 
 -- a property of an object under its name
 module _ (P : Key → Data → Type 0) where

@@ -6,17 +6,17 @@ use Rattle.serde_json.specs.Events.{items_len}
 use Rattle.std.specs.Str.{IsUtf8}
 use Rattle.json.proofs.Printed.Utf8.{IsUtf8-are_ascii}
 use Rattle.serde_json.specs.Written.{has_float, items_have_float}
-use Rattle.definitions.proofs.Truths.{and_true, both_true}
-use Rattle.definitions.specs.declared.kinds.Kind.{Kind}
-use Rattle.definitions.specs.declared.schemas.Shape.TheVariants.{Object}
-use Rattle.definitions.specs.declared.schemas.Schema.TheVariants.{Root, Metadata, OwnerReference}
-use Rattle.definitions.specs.Metadata.{metadata, metadata_of, with_metadata}
-use Rattle.definitions.specs.Reading.{fits, items_fit, reading}
-use Rattle.definitions.specs.Values.{members_of}
-use Rattle.laws.specs.ParsedLaws.{IsFlag, AreEdited, none, left_out, as_it_was, set, ReferencesStayParsed, ReferencesReadAgain}
-use Rattle.laws.proofs.NeatMembers.{One, Neat, Neat-put, Neat-get, Neat-of, Neat-fits, Neat-tidy, Neat-depth, Neat-whole, Neat-good, Neat-metadata, Filled-put, one_metadata, opens}
-use Rattle.laws.proofs.Parsed.{joined, inside, Both-put}
-use Rattle.laws.proofs.ReadAgain.{IsTidy, ItemsTidy, Filled, Filled-filled, filled_members, settled}
+use Rattle.spec_api.proofs.Truths.{and_true, both_true}
+use Rattle.spec_api.specs.declared.kinds.Kind.{Kind}
+use Rattle.spec_api.specs.declared.schemas.Shape.TheVariants.{Object}
+use Rattle.spec_api.specs.declared.schemas.Schema.TheVariants.{Root, Metadata, OwnerReference}
+use Rattle.spec_api.specs.Metadata.{metadata, metadata_of, with_metadata}
+use Rattle.spec_api.specs.Reading.{fits, items_fit, reading}
+use Rattle.spec_api.specs.Values.{members_of}
+use Rattle.spec_laws.specs.ParsedLaws.{IsFlag, AreEdited, none, left_out, as_it_was, set, ReferencesStayParsed, ReferencesReadAgain}
+use Rattle.spec_laws.proofs.NeatMembers.{One, Neat, Neat-put, Neat-get, Neat-of, Neat-fits, Neat-tidy, Neat-depth, Neat-whole, Neat-good, Neat-metadata, Filled-put, one_metadata, opens}
+use Rattle.spec_laws.proofs.Parsed.{joined, inside, Both-put}
+use Rattle.spec_laws.proofs.ReadAgain.{IsTidy, ItemsTidy, Filled, Filled-filled, filled_members, settled}
 
 flag_text : (q : List ℕ) → IsFlag q → IsUtf8 q
 flag_text q (inl is) = subst IsUtf8 (sym is) (IsUtf8-are_ascii (codes "controller") refl)

@@ -9,10 +9,10 @@ use Rattle.std.specs.FinMap as map
 use Rattle.std.specs.FinMap.{get-insert, get-retain_keys, get_tied, same_map}
 use Rattle.std.specs.FinSet as set
 use Rattle.std.specs.FinSet.{len-remove}
-use Rattle.definitions.specs.Keys.{is_same_key}
-use Rattle.controllers.specs.Expectations.{Owner, owner_cmp, Expectation, Table, Uids, change, created, is_met, satisfied}
-use Rattle.laws.specs.ExpectationLaws.{Change, expect_creations, expect_deletions, see_created, see_deleted, forget, after, after_all, sets, sets_none, creations_of, creations_left}
-use Rattle.controllers.proofs.Expected.{owner_total, owner_tells, keys_tied}
+use Rattle.spec_api.specs.Keys.{is_same_key}
+use Rattle.spec_client_go.specs.Expectations.{Owner, owner_cmp, Expectation, Table, Uids, change, created, is_met, satisfied}
+use Rattle.spec_laws.specs.ExpectationLaws.{Change, expect_creations, expect_deletions, see_created, see_deleted, forget, after, after_all, sets, sets_none, creations_of, creations_left}
+use Rattle.spec_client_go.proofs.Expected.{owner_total, owner_tells, keys_tied}
 
 pub tied : (o p : Owner) → is_eq (owner_cmp o p) ≡ true → owner_cmp o p ≡ Equal
 tied o p e = (Equal-is (owner_cmp o p)).0 e

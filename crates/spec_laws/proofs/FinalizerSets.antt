@@ -2,13 +2,13 @@
 use Rattle.std.proofs.Common.{◌≡◌, ℕ, List, Bool, true, false, true≢false, ◌&&◌, ◌||◌, cond, bytes_eq, refl, sym, subst, ap, ap₂, ◌∙◌}
 use Rattle.std.proofs.lemmas.Slice.Eq.{bytes_eq-Decides}
 use Rattle.serde_json.specs.Data.{Data, null, boolean, number, string, array, object, Items, no_items, item}
-use Rattle.definitions.proofs.Truths.{and_true, both_false, left_true, right_true}
-use Rattle.definitions.specs.declared.policies.Policy.{Policy}
-use Rattle.definitions.specs.declared.policies.Policy.TheVariants.{Orphan, Foreground, Background}
-use Rattle.definitions.specs.Checks.{has_text, text_is}
-use Rattle.definitions.specs.Deletion.{orphan, foreground, is_of_policy, of_policy, others_then, are_of}
-use Rattle.laws.specs.FinalizerLaws.{without_policies, followed_by, replaced_by, are_among, NoPolicyLeavesAll, PoliciesReplaceFinalizers, is_text}
-use Rattle.definitions.specs.SelectorValues.{all_items}
+use Rattle.spec_api.proofs.Truths.{and_true, both_false, left_true, right_true}
+use Rattle.spec_api.specs.declared.policies.Policy.{Policy}
+use Rattle.spec_api.specs.declared.policies.Policy.TheVariants.{Orphan, Foreground, Background}
+use Rattle.spec_api.specs.Checks.{has_text, text_is}
+use Rattle.spec_api.specs.Deletion.{orphan, foreground, is_of_policy, of_policy, others_then, are_of}
+use Rattle.spec_laws.specs.FinalizerLaws.{without_policies, followed_by, replaced_by, are_among, NoPolicyLeavesAll, PoliciesReplaceFinalizers, is_text}
+use Rattle.spec_api.specs.SelectorValues.{all_items}
 
 -- ---- the others, and one after them
 

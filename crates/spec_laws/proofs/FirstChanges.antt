@@ -3,12 +3,12 @@ use Rattle.std.proofs.Common.{◌≡◌, ℕ, zero, suc, ◌+◌, ◌≤◌, ◌
 use Rattle.std.proofs.lemmas.Bool.Decides.{nat_tests}
 use Rattle.std.proofs.lemmas.List.{length-take, take-take}
 use Rattle.std.specs.Result.{result_map_both}
-use Rattle.definitions.specs.Events.{Event, events}
-use Rattle.definitions.specs.History.{present}
-use Rattle.definitions.specs.Refusals.{Refusal, expired, too_new}
-use Rattle.laws.specs.VersionLaws.{nth_revision, first_changes, WatchesGiveFirstChanges}
-use Rattle.definitions.specs.Versions.{last_change, watched}
-use Rattle.definitions.specs.Windows.{floor, within}
+use Rattle.spec_api.specs.Events.{Event, events}
+use Rattle.spec_api.specs.History.{present}
+use Rattle.spec_api.specs.Refusals.{Refusal, expired, too_new}
+use Rattle.spec_laws.specs.VersionLaws.{nth_revision, first_changes, WatchesGiveFirstChanges}
+use Rattle.spec_api.specs.Versions.{last_change, watched}
+use Rattle.spec_api.specs.Windows.{floor, within}
 
 -- where there are n changes, a change that is found before says nothing of the start
 any_start : (a b n : ℕ) (cs : List Event) → n < length cs → unwrap_or (option_map (λ (c : Event). c.revision) (slice_get cs n)) a ≡ unwrap_or (option_map (λ (c : Event). c.revision) (slice_get cs n)) b

@@ -2,12 +2,12 @@
 use Rattle.std.proofs.Common.{zero, suc, ◌≡◌, ◌≤◌, ℕ, ◌+◌, ◌-◌, List, [], ◌∷◌, length, take, drop, Bool, true, false, cond, refl, ap, arith, length-drop}
 use Rattle.std.specs.Prelude.{nat_lt}
 use Rattle.std.proofs.lemmas.Bool.{ltb-true, ltb-false, lt-ltb}
-use Rattle.laws.specs.FloorLaws.{NonePassed, IsRemembered, RememberedAreServed}
-use Rattle.definitions.specs.History.{History, write, compaction, View, writes, present}
-use Rattle.definitions.specs.Windows.{Change, changes_of, all_but, last_revision, IsRising, compacted, floor}
-use Rattle.server_state.specs.Recorded.{above}
-use Rattle.laws.proofs.RecordedChanges.{rising, rising_least, rising_take, above_dropped}
-use Rattle.laws.proofs.ServedWindows.{revisions_served}
+use Rattle.spec_laws.specs.FloorLaws.{NonePassed, IsRemembered, RememberedAreServed}
+use Rattle.spec_api.specs.History.{History, write, compaction, View, writes, present}
+use Rattle.spec_api.specs.Windows.{Change, changes_of, all_but, last_revision, IsRising, compacted, floor}
+use Rattle.spec_server.specs.Recorded.{above}
+use Rattle.spec_laws.proofs.RecordedChanges.{rising, rising_least, rising_take, above_dropped}
+use Rattle.spec_laws.proofs.ServedWindows.{revisions_served}
 
 -- ---- compactions
 

@@ -2,12 +2,12 @@
 use Rattle.std.proofs.Common.{◌≡◌, ℕ, ◌-◌, List, [], ◌∷◌, ◌++◌, length, take, drop, max, true, false, refl, sym, ap, ap₂, ◌∙◌, subst, arith, append-nil, length-append, length-drop}
 use Rattle.std.proofs.lemmas.List.{take-append-le, take_all, drop-append-le, drop_all, drop-drop}
 use Rattle.std.proofs.Math.Seq.{take-add}
-use Rattle.definitions.specs.declared.kinds.Kind.{Kind}
-use Rattle.definitions.specs.History.{History, Write, write, compaction, writes}
-use Rattle.laws.specs.WindowLaws.{WindowsOpen, WindowsRecord, WindowsStay, WindowsCompact}
-use Rattle.definitions.specs.Windows.{Change, is_of, change_of, changes_after, changes_of, all_but, last_n, last_revision, IsRising, compacted}
-use Rattle.laws.proofs.Past.{writes-append}
-use Rattle.laws.proofs.RecordedChanges.{rising, rising_least, rising_take, kept_after-append}
+use Rattle.spec_api.specs.declared.kinds.Kind.{Kind}
+use Rattle.spec_api.specs.History.{History, Write, write, compaction, writes}
+use Rattle.spec_laws.specs.WindowLaws.{WindowsOpen, WindowsRecord, WindowsStay, WindowsCompact}
+use Rattle.spec_api.specs.Windows.{Change, is_of, change_of, changes_after, changes_of, all_but, last_n, last_revision, IsRising, compacted}
+use Rattle.spec_laws.proofs.Past.{writes-append}
+use Rattle.spec_laws.proofs.RecordedChanges.{rising, rising_least, rising_take, kept_after-append}
 
 last-append : (r : ℕ) (xs ys : List Change) → last_revision r (xs ++ ys) ≡ last_revision (last_revision r xs) ys
 last-append r [] ys = refl

@@ -2,11 +2,11 @@
 use Rattle.std.proofs.Common.{◌≡◌, ℕ, ◌<◌, ◌^◌, List, true, ◌&&◌, nat_lt, bytes_eq, arith, sym, subst}
 use Rattle.std.proofs.lemmas.Bool.Decides.{nat_tests}
 use Rattle.std.proofs.lemmas.Slice.Eq.{bytes_eq-Decides}
-use Rattle.definitions.proofs.Truths.{and_true, left_true, right_true}
-use Rattle.definitions.specs.Checks.{is_of_the_future}
-use Rattle.laws.specs.UidLaws.{IsUidAbove, FutureUidsAreLater}
-use Rattle.definitions.specs.Uids.{uid_text, uid_revision, cluster_word}
-use Rattle.definitions.proofs.Uids.{existing}
+use Rattle.spec_api.proofs.Truths.{and_true, left_true, right_true}
+use Rattle.spec_api.specs.Checks.{is_of_the_future}
+use Rattle.spec_laws.specs.UidLaws.{IsUidAbove, FutureUidsAreLater}
+use Rattle.spec_api.specs.Uids.{uid_text, uid_revision, cluster_word}
+use Rattle.spec_api.proofs.Uids.{existing}
 
 below : (a b : ℕ) → nat_lt a b ≡ true → a < b
 below a b h = grind (arith, nat_tests)

@@ -4,32 +4,32 @@ use Rattle.std.proofs.lemmas.Slice.Eq.{bytes_eq-Decides}
 use Rattle.serde_json.specs.Data.{Data, string, array, object, Items, Members, put}
 use Rattle.serde_json.specs.Find.{get, get_member, as_number, as_u64}
 use Rattle.serde_json.proofs.Views.{get_member-put, get_member-put_other}
-use Rattle.definitions.specs.declared.kinds.Kind.{Kind}
-use Rattle.definitions.specs.declared.kinds.Kind.TheVariants.{ConfigMap, Pod, ReplicaSet, Deployment}
-use Rattle.definitions.specs.Checks.{finalizers, text_or_empty}
-use Rattle.definitions.specs.Defaults.{unsigned_value}
-use Rattle.definitions.specs.DeleteOptions.{Options}
-use Rattle.definitions.specs.Deletion.{left_by, being_deleted, with_deletion}
-use Rattle.definitions.specs.History.{History, found, entries_at, present, state}
-use Rattle.definitions.specs.Kinds.{has_generation}
-use Rattle.laws.specs.HistoryLaws.{OfStored, is_delete}
-use Rattle.laws.specs.LifecycleLaws.{OfReplaced, rises, GenerationsCount, GenerationsBegin, StatusesChangeNothingElse, NoWriteNoChange}
-use Rattle.definitions.specs.Metadata.{metadata, metadata_of, at_revision, is_being_deleted}
-use Rattle.definitions.specs.Keys.{Key}
-use Rattle.definitions.specs.NewObjects.{created, first_status, new_metadata, with_generation, with_status}
-use Rattle.definitions.specs.Reading.{reading}
-use Rattle.definitions.specs.Replacements.{generation, next_generation, has_changed, has_new_annotations, has_new_spec, in_place, is_new_generation, status_in, updated, with_next_generation, with_status_in}
-use Rattle.definitions.specs.Uids.{uid_text, cluster_word}
-use Rattle.definitions.specs.Values.{members_of, without}
-use Rattle.definitions.specs.Verbs.{Outcome, with_write, shown, object_in, new_name}
-use Rattle.definitions.specs.ObjectRequests.{Request, get_object, list_objects, create_object, update_object, update_status, patch_object, delete_object}
-use Rattle.laws.proofs.Cases.{of_create, of_delete, of_patch, of_status, of_update}
-use Rattle.laws.proofs.Guards.{there}
-use Rattle.laws.proofs.SetMetadata.{generation-in_place}
-use Rattle.definitions.proofs.JsonMembers.{apart, metadata_of-with}
-use Rattle.laws.proofs.Removals.{at_held, member-at_revision, member-restated, member-updated}
-use Rattle.laws.proofs.VerbLaws.{found-state, none_from, of_none}
-use Rattle.definitions.proofs.FirstStatus.{get-members_of}
+use Rattle.spec_api.specs.declared.kinds.Kind.{Kind}
+use Rattle.spec_api.specs.declared.kinds.Kind.TheVariants.{ConfigMap, Pod, ReplicaSet, Deployment}
+use Rattle.spec_api.specs.Checks.{finalizers, text_or_empty}
+use Rattle.spec_api.specs.Defaults.{unsigned_value}
+use Rattle.spec_api.specs.DeleteOptions.{Options}
+use Rattle.spec_api.specs.Deletion.{left_by, being_deleted, with_deletion}
+use Rattle.spec_api.specs.History.{History, found, entries_at, present, state}
+use Rattle.spec_api.specs.Kinds.{has_generation}
+use Rattle.spec_laws.specs.HistoryLaws.{OfStored, is_delete}
+use Rattle.spec_laws.specs.LifecycleLaws.{OfReplaced, rises, GenerationsCount, GenerationsBegin, StatusesChangeNothingElse, NoWriteNoChange}
+use Rattle.spec_api.specs.Metadata.{metadata, metadata_of, at_revision, is_being_deleted}
+use Rattle.spec_api.specs.Keys.{Key}
+use Rattle.spec_api.specs.NewObjects.{created, first_status, new_metadata, with_generation, with_status}
+use Rattle.spec_api.specs.Reading.{reading}
+use Rattle.spec_api.specs.Replacements.{generation, next_generation, has_changed, has_new_annotations, has_new_spec, in_place, is_new_generation, status_in, updated, with_next_generation, with_status_in}
+use Rattle.spec_api.specs.Uids.{uid_text, cluster_word}
+use Rattle.spec_api.specs.Values.{members_of, without}
+use Rattle.spec_api.specs.Verbs.{Outcome, with_write, shown, object_in, new_name}
+use Rattle.spec_api.specs.ObjectRequests.{Request, get_object, list_objects, create_object, update_object, update_status, patch_object, delete_object}
+use Rattle.spec_laws.proofs.Cases.{of_create, of_delete, of_patch, of_status, of_update}
+use Rattle.spec_laws.proofs.Guards.{there}
+use Rattle.spec_laws.proofs.SetMetadata.{generation-in_place}
+use Rattle.spec_api.proofs.JsonMembers.{apart, metadata_of-with}
+use Rattle.spec_laws.proofs.Removals.{at_held, member-at_revision, member-restated, member-updated}
+use Rattle.spec_laws.proofs.VerbLaws.{found-state, none_from, of_none}
+use Rattle.spec_api.proofs.FirstStatus.{get-members_of}
 
 -- the whole number that a member says
 abbrev count_of : Option Data → ℕ

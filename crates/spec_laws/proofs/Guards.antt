@@ -1,10 +1,10 @@
 -- What is true of an outcome behind a guard.
 use Rattle.std.proofs.Common.{◌≡◌, Bool, true, false, cond, Option, Some, None, refl}
 use Rattle.serde_json.specs.Data.{Data}
-use Rattle.definitions.specs.declared.refusals.Field.{Field}
-use Rattle.definitions.specs.Keys.{Key}
-use Rattle.definitions.specs.Refusals.{Refusal, not_found, invalid}
-use Rattle.definitions.specs.Verbs.{Outcome, refused, refuse_if, refuse_field, or_not_found}
+use Rattle.spec_api.specs.declared.refusals.Field.{Field}
+use Rattle.spec_api.specs.Keys.{Key}
+use Rattle.spec_api.specs.Refusals.{Refusal, not_found, invalid}
+use Rattle.spec_api.specs.Verbs.{Outcome, refused, refuse_if, refuse_field, or_not_found}
 
 module _ (P : Outcome → Type 0) (refusal : (f : Refusal) → P (refused f)) where
   pub guard : (b : Bool) (f : Refusal) (o : Outcome) → (b ≡ false → P o) → P (refuse_if b f o)

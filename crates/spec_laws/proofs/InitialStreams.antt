@@ -3,19 +3,19 @@ use Rattle.std.proofs.Common.{◌≡◌, ◌≤◌, ℕ, ◌-◌, List, [], ◌�
 use Rattle.std.specs.Result.{result_map_both}
 use Rattle.std.proofs.lemmas.List.{take-append-le}
 use Rattle.serde_json.specs.Data.{Data}
-use Rattle.definitions.specs.Keys.{Key}
-use Rattle.definitions.specs.declared.kinds.Kind.{Kind}
-use Rattle.definitions.specs.History.{History, View, Entries, writes, up_to, present, viewed, after_all, list}
-use Rattle.definitions.specs.Frames.{frame_text}
-use Rattle.definitions.specs.Streams.{Line, event, initial, initial_end, frame_of, added_lines, text_of_lines, IsInitialStream}
-use Rattle.definitions.specs.Versions.{once_present, watched_from}
-use Rattle.definitions.specs.WatchReplies.{Initial, initial_at, initial_from, lines_from, opening_lines, opened_lines, closing_lines, added_events}
-use Rattle.laws.proofs.Looks.{goes_further, looks_are_one_stream}
-use Rattle.laws.proofs.StandingWatches.{writes_past}
-use Rattle.laws.proofs.ServerAnswers.{watches_held}
-use Rattle.laws.specs.LookLaws.{Look, AreLooks, last_history, last_stand, look_lines}
-use Rattle.server_state.specs.Servers.{Server, IsServerAfter, watch_by}
-use Rattle.laws.specs.StreamLaws.{ServersBegin, OpeningsAreLists, InitialStreamsAreServed, InitialStreamsAreSent, FirstLooksAreSent, InitialsAreServed, EarlyClosingsAreNone}
+use Rattle.spec_api.specs.Keys.{Key}
+use Rattle.spec_api.specs.declared.kinds.Kind.{Kind}
+use Rattle.spec_api.specs.History.{History, View, Entries, writes, up_to, present, viewed, after_all, list}
+use Rattle.spec_api.specs.Frames.{frame_text}
+use Rattle.spec_api.specs.Streams.{Line, event, initial, initial_end, frame_of, added_lines, text_of_lines, IsInitialStream}
+use Rattle.spec_api.specs.Versions.{once_present, watched_from}
+use Rattle.spec_api.specs.WatchReplies.{Initial, initial_at, initial_from, lines_from, opening_lines, opened_lines, closing_lines, added_events}
+use Rattle.spec_laws.proofs.Looks.{goes_further, looks_are_one_stream}
+use Rattle.spec_laws.proofs.StandingWatches.{writes_past}
+use Rattle.spec_laws.proofs.ServerAnswers.{watches_held}
+use Rattle.spec_laws.specs.LookLaws.{Look, AreLooks, last_history, last_stand, look_lines}
+use Rattle.spec_server.specs.Servers.{Server, IsServerAfter, watch_by}
+use Rattle.spec_laws.specs.StreamLaws.{ServersBegin, OpeningsAreLists, InitialStreamsAreServed, InitialStreamsAreSent, FirstLooksAreSent, InitialsAreServed, EarlyClosingsAreNone}
 use Rattle.std.specs.Prelude.{nat_lt, IsOk, ◌↔◌}
 use Rattle.std.proofs.lemmas.Bool.{ltb-false, ltb-true}
 

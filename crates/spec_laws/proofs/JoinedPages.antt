@@ -1,11 +1,11 @@
 -- Pages, joined.
 use Rattle.std.proofs.Common.{append-nil, ◌≡◌, ℕ, List, [], ◌∷◌, ◌++◌, length, take, drop, Option, Some, None, refl, sym, ap, ap₂, ◌∙◌, append_assoc, nat_le, nat_eq}
 use Rattle.std.proofs.lemmas.List.{take-append-drop}
-use Rattle.definitions.specs.History.{History, View, Entries, list}
-use Rattle.definitions.specs.Pages.{Place, after_place, last_place, Page, page_of}
-use Rattle.definitions.proofs.PageLists.{order, no_next, has_next, left_after, ascending_list, all_after}
-use Rattle.definitions.proofs.PutLaws.{IsAscending}
-use Rattle.laws.specs.PageLaws.{ArePages, joined}
+use Rattle.spec_api.specs.History.{History, View, Entries, list}
+use Rattle.spec_api.specs.Pages.{Place, after_place, last_place, Page, page_of}
+use Rattle.spec_api.proofs.PageLists.{order, no_next, has_next, left_after, ascending_list, all_after}
+use Rattle.spec_api.proofs.PutLaws.{IsAscending}
+use Rattle.spec_laws.specs.PageLaws.{ArePages, joined}
 
 joined_from : (ms : Entries) (gs : List Page) (front rest : Entries) (p : Option Place) → IsAscending order ms → ms ≡ front ++ rest → after_place p ms ≡ rest → ArePages ms p gs → joined gs ≡ rest
 joined_from ms [] front rest p a is left h = absurd h

@@ -5,15 +5,15 @@ use Rattle.std.specs.Ordering.{match_ordering, ordering_reverse}
 use Rattle.std.specs.Cmp.Lexicographic.{slice_cmp}
 use Rattle.serde_json.specs.Data.{Data, string, Members, no_members, member, put}
 use Rattle.serde_json.specs.Find.{get_member}
-use Rattle.definitions.specs.declared.kinds.Kind.{Kind}
-use Rattle.definitions.specs.declared.kinds.Kind.TheVariants.{ConfigMap, Pod, ReplicaSet, Deployment}
-use Rattle.definitions.specs.declared.schemas.Schema.{Schema}
-use Rattle.definitions.specs.Kinds.{api_version, kind_text}
-use Rattle.definitions.specs.Reached.{IsBefore}
-use Rattle.definitions.specs.Reading.{is_absent, tidied, tidied_members, empty}
-use Rattle.definitions.specs.Schemas.{property_at}
-use Rattle.definitions.specs.Values.{without}
-use Rattle.laws.proofs.ReadAgain.{same_name, defaulted, spec_members, filled_members}
+use Rattle.spec_api.specs.declared.kinds.Kind.{Kind}
+use Rattle.spec_api.specs.declared.kinds.Kind.TheVariants.{ConfigMap, Pod, ReplicaSet, Deployment}
+use Rattle.spec_api.specs.declared.schemas.Schema.{Schema}
+use Rattle.spec_api.specs.Kinds.{api_version, kind_text}
+use Rattle.spec_api.specs.Reached.{IsBefore}
+use Rattle.spec_api.specs.Reading.{is_absent, tidied, tidied_members, empty}
+use Rattle.spec_api.specs.Schemas.{property_at}
+use Rattle.spec_api.specs.Values.{without}
+use Rattle.spec_laws.proofs.ReadAgain.{same_name, defaulted, spec_members, filled_members}
 
 abbrev pub IsOrdered : Members → Type 0
 IsOrdered no_members = Unit {0}

@@ -10,7 +10,7 @@ use Rattle.json.specs.Word.{head, after_number, number_before, ends_word, litera
 use Rattle.json.specs.Ascii as ascii
 use Rattle.json.specs.Json as json
 use Rattle.json.specs.Json.{Parse, parse_map, after_end_array, read_key, items_step, members_step, value_with, items, members, value}
-use Rattle.laws.proofs.TextsRead.{after_byte, content_text}
+use Rattle.spec_laws.proofs.TextsRead.{after_byte, content_text}
 
 -- ---- lexemes
 

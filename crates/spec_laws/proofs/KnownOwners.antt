@@ -6,37 +6,37 @@ use Rattle.std.proofs.lemmas.Bool.{le-ltb, ltb-false}
 use Rattle.serde_json.specs.Data.{Data, Items, no_items, put, string, array}
 use Rattle.serde_json.specs.Find.{as_array, get_member}
 use Rattle.serde_json.proofs.Views.{get_member-put_other}
-use Rattle.definitions.proofs.Truths.{left_true, right_true}
-use Rattle.definitions.specs.declared.kinds.Kind.{Kind}
-use Rattle.definitions.specs.Checks.{finalizers, generate_name, is_owner, is_of_the_future, is_possible_uid, is_not_empty, are_owners_valid, controllers, checks, update_fault, adds_no_finalizer, is_selector_kept}
-use Rattle.definitions.specs.Deletion.{left_by, being_deleted, with_deletion}
-use Rattle.definitions.specs.GeneratedNames.{name_from}
-use Rattle.definitions.specs.History.{History, found, entries_at, present, state, Write, write, writes}
-use Rattle.definitions.specs.Kinds.{has_generation}
-use Rattle.laws.specs.HistoryLaws.{OfStored}
-use Rattle.definitions.specs.Metadata.{Owner, owners, owners_in, metadata, metadata_of, name, at_revision, is_being_deleted}
-use Rattle.definitions.specs.Keys.{Key, is_same_key}
-use Rattle.definitions.specs.NewObjects.{created, with_first_status}
-use Rattle.definitions.specs.Reading.{reading}
-use Rattle.definitions.specs.Replacements.{in_place, updated, with_status_in, with_next_generation}
-use Rattle.definitions.specs.SelectorValues.{is_some_and}
-use Rattle.definitions.specs.Uids.{uid_text, uid_revision, cluster_word}
-use Rattle.definitions.specs.Verbs.{Outcome, accept, shown, object_in, new_name, is_free, with_write, write_of}
-use Rattle.definitions.specs.ObjectRequests.{Request, get_object, list_objects, create_object, update_object, update_status, patch_object, delete_object}
-use Rattle.laws.proofs.Cases.{of_create, of_delete, of_patch, of_status, of_update}
-use Rattle.laws.proofs.CheckLaws.{all_met, stored_pass}
-use Rattle.laws.proofs.Guards.{there as if_there}
-use Rattle.definitions.proofs.FirstStatus.{metadata_of-first}
-use Rattle.definitions.proofs.JsonMembers.{apart, metadata_of-with}
-use Rattle.laws.proofs.Removals.{member-at_revision, member-with_next_generation, member-updated, member-restated}
-use Rattle.laws.proofs.VerbLaws.{found-state}
-use Rattle.laws.proofs.Compacted.{same_writes}
-use Rattle.laws.proofs.Past.{writes-append}
+use Rattle.spec_api.proofs.Truths.{left_true, right_true}
+use Rattle.spec_api.specs.declared.kinds.Kind.{Kind}
+use Rattle.spec_api.specs.Checks.{finalizers, generate_name, is_owner, is_of_the_future, is_possible_uid, is_not_empty, are_owners_valid, controllers, checks, update_fault, adds_no_finalizer, is_selector_kept}
+use Rattle.spec_api.specs.Deletion.{left_by, being_deleted, with_deletion}
+use Rattle.spec_api.specs.GeneratedNames.{name_from}
+use Rattle.spec_api.specs.History.{History, found, entries_at, present, state, Write, write, writes}
+use Rattle.spec_api.specs.Kinds.{has_generation}
+use Rattle.spec_laws.specs.HistoryLaws.{OfStored}
+use Rattle.spec_api.specs.Metadata.{Owner, owners, owners_in, metadata, metadata_of, name, at_revision, is_being_deleted}
+use Rattle.spec_api.specs.Keys.{Key, is_same_key}
+use Rattle.spec_api.specs.NewObjects.{created, with_first_status}
+use Rattle.spec_api.specs.Reading.{reading}
+use Rattle.spec_api.specs.Replacements.{in_place, updated, with_status_in, with_next_generation}
+use Rattle.spec_api.specs.SelectorValues.{is_some_and}
+use Rattle.spec_api.specs.Uids.{uid_text, uid_revision, cluster_word}
+use Rattle.spec_api.specs.Verbs.{Outcome, accept, shown, object_in, new_name, is_free, with_write, write_of}
+use Rattle.spec_api.specs.ObjectRequests.{Request, get_object, list_objects, create_object, update_object, update_status, patch_object, delete_object}
+use Rattle.spec_laws.proofs.Cases.{of_create, of_delete, of_patch, of_status, of_update}
+use Rattle.spec_laws.proofs.CheckLaws.{all_met, stored_pass}
+use Rattle.spec_laws.proofs.Guards.{there as if_there}
+use Rattle.spec_api.proofs.FirstStatus.{metadata_of-first}
+use Rattle.spec_api.proofs.JsonMembers.{apart, metadata_of-with}
+use Rattle.spec_laws.proofs.Removals.{member-at_revision, member-with_next_generation, member-updated, member-restated}
+use Rattle.spec_laws.proofs.VerbLaws.{found-state}
+use Rattle.spec_laws.proofs.Compacted.{same_writes}
+use Rattle.spec_laws.proofs.Past.{writes-append}
 use Rattle.std.proofs.lemmas.Bool.{leb-true, leb-false}
-use Rattle.laws.specs.IdentityLaws.{Each, IsKnown, OwnersAreKnown}
-use Rattle.laws.proofs.Reaching.{by_reached}
-use Rattle.laws.proofs.Traced.{there, now, there_before, there_after}
-use Rattle.laws.proofs.Versions.{Among, put_by}
+use Rattle.spec_laws.specs.IdentityLaws.{Each, IsKnown, OwnersAreKnown}
+use Rattle.spec_laws.proofs.Reaching.{by_reached}
+use Rattle.spec_laws.proofs.Traced.{there, now, there_before, there_after}
+use Rattle.spec_laws.proofs.Versions.{Among, put_by}
 
 abbrev pub Known : ℕ → Data → Type 0
 Known n d = Each (IsKnown n) (owners d)

@@ -4,18 +4,18 @@ use Rattle.serde_json.specs.Data.{Data, null, boolean, number, string, array, ob
 use Rattle.serde_json.specs.Events.{items_len}
 use Rattle.serde_json.specs.Find.{get_member}
 use Rattle.serde_json.specs.Written.{comma_if, compact_text, items_text, items_have_float}
-use Rattle.definitions.proofs.Truths.{both_true}
-use Rattle.definitions.specs.declared.policies.Policy.{Policy}
-use Rattle.definitions.specs.declared.policies.Policy.TheVariants.{Orphan, Foreground, Background}
-use Rattle.definitions.specs.declared.schemas.Schema.TheVariants.{Metadata}
-use Rattle.definitions.specs.declared.schemas.Shape.TheVariants.{Text}
-use Rattle.definitions.specs.Deletion.{orphan, foreground, is_of_policy, of_policy, others_then, are_of, left_by}
-use Rattle.definitions.specs.Reading.{fits, items_fit}
-use Rattle.definitions.specs.SelectorValues.{items_in}
-use Rattle.laws.proofs.NeatMembers.{Neat, Neat-get, One}
-use Rattle.laws.proofs.ReadAgain.{ItemsTidy}
-use Rattle.definitions.proofs.EscapedTexts.{length-quoted}
-use Rattle.laws.proofs.TextLengths.{short_comma}
+use Rattle.spec_api.proofs.Truths.{both_true}
+use Rattle.spec_api.specs.declared.policies.Policy.{Policy}
+use Rattle.spec_api.specs.declared.policies.Policy.TheVariants.{Orphan, Foreground, Background}
+use Rattle.spec_api.specs.declared.schemas.Schema.TheVariants.{Metadata}
+use Rattle.spec_api.specs.declared.schemas.Shape.TheVariants.{Text}
+use Rattle.spec_api.specs.Deletion.{orphan, foreground, is_of_policy, of_policy, others_then, are_of, left_by}
+use Rattle.spec_api.specs.Reading.{fits, items_fit}
+use Rattle.spec_api.specs.SelectorValues.{items_in}
+use Rattle.spec_laws.proofs.NeatMembers.{Neat, Neat-get, One}
+use Rattle.spec_laws.proofs.ReadAgain.{ItemsTidy}
+use Rattle.spec_api.proofs.EscapedTexts.{length-quoted}
+use Rattle.spec_laws.proofs.TextLengths.{short_comma}
 
 -- those that are of no policy
 abbrev pub others : Items → Items

@@ -1,12 +1,12 @@
 -- Limits of all that is reached.
 use Rattle.std.proofs.Common.{◌≤◌, ◌+◌, ℕ, [], ◌∷◌, ◌++◌, length, false, IfSome, Option, Some, None, ◌≡◌, sym, subst, arith}
-use Rattle.definitions.specs.History.{History, Write, write, compaction, entries_at, present}
-use Rattle.laws.specs.Happening.{Follows, CanHappen}
-use Rattle.definitions.specs.Verbs.{accept, with_write, write_of, overflows}
-use Rattle.laws.proofs.Compacted.{snapshot-compaction, follows_compaction}
-use Rattle.laws.proofs.Limits.{Within, within-write, room}
-use Rattle.laws.specs.ReachedLaws.{ReachedCanHappen, ReachedStayWithinLimits}
-use Rattle.laws.proofs.Reaching.{by_reached}
+use Rattle.spec_api.specs.History.{History, Write, write, compaction, entries_at, present}
+use Rattle.spec_laws.specs.Happening.{Follows, CanHappen}
+use Rattle.spec_api.specs.Verbs.{accept, with_write, write_of, overflows}
+use Rattle.spec_laws.proofs.Compacted.{snapshot-compaction, follows_compaction}
+use Rattle.spec_laws.proofs.Limits.{Within, within-write, room}
+use Rattle.spec_laws.specs.ReachedLaws.{ReachedCanHappen, ReachedStayWithinLimits}
+use Rattle.spec_laws.proofs.Reaching.{by_reached}
 
 each_outcome : (h : History) (o : Option Write) → IfSome o (λ w. overflows (entries_at h (present h)) (present h) w ≡ false) → Within h → Within (with_write h o)
 each_outcome h None r w = w

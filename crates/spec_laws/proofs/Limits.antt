@@ -5,21 +5,21 @@ use Rattle.std.specs.Ordering.{match_ordering}
 use Rattle.std.specs.Map.{lookup, remove_entry}
 use Rattle.std.specs.BTreeMap.{insert_entry, is_at}
 use Rattle.serde_json.specs.Data.{Data}
-use Rattle.laws.specs.HistoryLaws.{BodiesFit, WritesHaveRoom}
-use Rattle.definitions.proofs.Truths.{both_false}
-use Rattle.definitions.specs.Keys.{Key, key_cmp}
-use Rattle.definitions.specs.History.{History, Write, write, writes, up_to, Entries, after, after_all, put_or_remove, entries_at, found, present}
-use Rattle.definitions.specs.declared.methods.Method.{Method}
-use Rattle.definitions.specs.declared.refusals.Part.{Part}
-use Rattle.definitions.specs.declared.refusals.Part.TheVariants as part
-use Rattle.definitions.specs.Refusals.{Refusal, bad_request, method_not_allowed, too_large}
-use Rattle.definitions.specs.Targets.{Query, Asked, Route, asked, asked_at, asked_with, decoded, is_allowed, is_too_long, names_namespace, path_of, query_for, route}
-use Rattle.definitions.specs.Verbs.{new_name, write_of, overflows, most_objects, is_past_greatest}
-use Rattle.laws.proofs.Cases.{of_accept_at}
-use Rattle.laws.proofs.Past.{writes-append, whole}
-use Rattle.definitions.proofs.PutLaws.{IsAscending, IsAbove-below, none_above, name_cmp_total, IsAscending-after_all}
-use Rattle.laws.proofs.SetMetadata.{at_most}
-use Rattle.laws.proofs.VerbLaws.{present-write}
+use Rattle.spec_laws.specs.HistoryLaws.{BodiesFit, WritesHaveRoom}
+use Rattle.spec_api.proofs.Truths.{both_false}
+use Rattle.spec_api.specs.Keys.{Key, key_cmp}
+use Rattle.spec_api.specs.History.{History, Write, write, writes, up_to, Entries, after, after_all, put_or_remove, entries_at, found, present}
+use Rattle.spec_api.specs.declared.methods.Method.{Method}
+use Rattle.spec_api.specs.declared.refusals.Part.{Part}
+use Rattle.spec_api.specs.declared.refusals.Part.TheVariants as part
+use Rattle.spec_api.specs.Refusals.{Refusal, bad_request, method_not_allowed, too_large}
+use Rattle.spec_api.specs.Targets.{Query, Asked, Route, asked, asked_at, asked_with, decoded, is_allowed, is_too_long, names_namespace, path_of, query_for, route}
+use Rattle.spec_api.specs.Verbs.{new_name, write_of, overflows, most_objects, is_past_greatest}
+use Rattle.spec_laws.proofs.Cases.{of_accept_at}
+use Rattle.spec_laws.proofs.Past.{writes-append, whole}
+use Rattle.spec_api.proofs.PutLaws.{IsAscending, IsAbove-below, none_above, name_cmp_total, IsAscending-after_all}
+use Rattle.spec_laws.proofs.SetMetadata.{at_most}
+use Rattle.spec_laws.proofs.VerbLaws.{present-write}
 
 -- what is asked where the test for a refusal fails
 unless : (b : Bool) (f : Refusal) (r : Result Asked Refusal) (q : Asked) → cond b (Err f) r ≡ Ok q → (b ≡ false) × (r ≡ Ok q)

@@ -4,19 +4,19 @@ use Rattle.std.specs.Prelude.{nat_lt, nat_le, IsOk}
 use Rattle.std.specs.Result.{result_map_both}
 use Rattle.std.proofs.lemmas.Bool.{ltb-false, le-leb}
 use Rattle.std.proofs.lemmas.List.{drop_all, length-take}
-use Rattle.definitions.specs.declared.frames.FrameKind.TheVariants.{Added}
-use Rattle.definitions.specs.Events.{Event, events, events_after}
-use Rattle.definitions.specs.History.{History, View, Entries, up_to, present, writes, list}
-use Rattle.laws.specs.LookLaws.{Look, AreLooks, last_history, last_stand, look_lines, LooksAskForAnyNumber, LooksAreOneStream, WatchesBeginWithTheList}
-use Rattle.definitions.specs.Streams.{Line, event, bookmark, initial, initial_end, frame_of, AreEventsWithBookmarks, IsStream, applied_lines, added_lines}
-use Rattle.definitions.specs.Versions.{watched}
-use Rattle.definitions.specs.WatchReplies.{lines_from}
-use Rattle.laws.specs.WatchLaws.{AreBetween}
-use Rattle.definitions.specs.Windows.{floor, within}
-use Rattle.laws.proofs.AppliedEvents.{goes_on, lie_between}
-use Rattle.laws.proofs.ServedWindows.{within_is}
-use Rattle.laws.proofs.StandingWatches.{given_stands, lines_stream, changes_past}
-use Rattle.laws.proofs.Streamed.{stream_applied, all_put, list_ascending}
+use Rattle.spec_api.specs.declared.frames.FrameKind.TheVariants.{Added}
+use Rattle.spec_api.specs.Events.{Event, events, events_after}
+use Rattle.spec_api.specs.History.{History, View, Entries, up_to, present, writes, list}
+use Rattle.spec_laws.specs.LookLaws.{Look, AreLooks, last_history, last_stand, look_lines, LooksAskForAnyNumber, LooksAreOneStream, WatchesBeginWithTheList}
+use Rattle.spec_api.specs.Streams.{Line, event, bookmark, initial, initial_end, frame_of, AreEventsWithBookmarks, IsStream, applied_lines, added_lines}
+use Rattle.spec_api.specs.Versions.{watched}
+use Rattle.spec_api.specs.WatchReplies.{lines_from}
+use Rattle.spec_laws.specs.WatchLaws.{AreBetween}
+use Rattle.spec_api.specs.Windows.{floor, within}
+use Rattle.spec_laws.proofs.AppliedEvents.{goes_on, lie_between}
+use Rattle.spec_laws.proofs.ServedWindows.{within_is}
+use Rattle.spec_laws.proofs.StandingWatches.{given_stands, lines_stream, changes_past}
+use Rattle.spec_laws.proofs.Streamed.{stream_applied, all_put, list_ascending}
 
 -- ---- two streams in a row
 

@@ -5,9 +5,9 @@ use Rattle.std.proofs.lemmas.Bool.Decides.{nat_tests}
 use Rattle.std.specs.List.{list_all}
 use Rattle.std.specs.Str.{IsUtf8}
 use Rattle.json.proofs.Printed.Utf8.{are_ascii, IsUtf8-are_ascii}
-use Rattle.definitions.proofs.Truths.{and_true, left_true, right_true}
-use Rattle.definitions.specs.Keys.{is_label, is_namespace, is_subdomain}
-use Rattle.laws.proofs.SelectorPlain.{is_plain, label-plain, subdomain-plain}
+use Rattle.spec_api.proofs.Truths.{and_true, left_true, right_true}
+use Rattle.spec_api.specs.Keys.{is_label, is_namespace, is_subdomain}
+use Rattle.spec_laws.proofs.SelectorPlain.{is_plain, label-plain, subdomain-plain}
 
 plain_byte : (b : ℕ) → is_plain b ≡ true → b < 128
 plain_byte b h = grind (arith, nat_tests)

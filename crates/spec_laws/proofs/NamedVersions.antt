@@ -1,17 +1,17 @@
 -- What a request that names a version, or a uid, takes effect on.
 use Rattle.std.proofs.Common.{◌≡◌, ℕ, List, false, Some, Ok, refl, sym, ap, ◌∙◌}
 use Rattle.serde_json.specs.Data.{Data}
-use Rattle.definitions.specs.Defaults.{defaulted}
-use Rattle.definitions.specs.History.{History, found, entries_at, present, state}
-use Rattle.laws.specs.LifecycleLaws.{ReplacesVersion, ReplacesUid, UpdatesReplaceTheirVersion, StatusesReplaceTheirVersion, PatchesReplaceTheirVersion, DeletesRemoveTheirVersion, DeletesFindTheirUid}
-use Rattle.definitions.specs.Metadata.{uid, version, differs}
-use Rattle.definitions.specs.Keys.{Key}
-use Rattle.definitions.specs.Reading.{reading}
-use Rattle.definitions.specs.Values.{merged}
-use Rattle.definitions.specs.Verbs.{object_in}
-use Rattle.definitions.proofs.VerbSteps.{with_defaults}
-use Rattle.laws.proofs.Cases.{of_delete, of_patch, of_status, of_update}
-use Rattle.laws.proofs.VerbLaws.{found-state, one_object, same, version-defaulted}
+use Rattle.spec_api.specs.Defaults.{defaulted}
+use Rattle.spec_api.specs.History.{History, found, entries_at, present, state}
+use Rattle.spec_laws.specs.LifecycleLaws.{ReplacesVersion, ReplacesUid, UpdatesReplaceTheirVersion, StatusesReplaceTheirVersion, PatchesReplaceTheirVersion, DeletesRemoveTheirVersion, DeletesFindTheirUid}
+use Rattle.spec_api.specs.Metadata.{uid, version, differs}
+use Rattle.spec_api.specs.Keys.{Key}
+use Rattle.spec_api.specs.Reading.{reading}
+use Rattle.spec_api.specs.Values.{merged}
+use Rattle.spec_api.specs.Verbs.{object_in}
+use Rattle.spec_api.proofs.VerbSteps.{with_defaults}
+use Rattle.spec_laws.proofs.Cases.{of_delete, of_patch, of_status, of_update}
+use Rattle.spec_laws.proofs.VerbLaws.{found-state, one_object, same, version-defaulted}
 
 -- the stored version is the one that is named
 named_is : (p existing : Data) (named : List ℕ) → version p ≡ Some named → differs (version p) (version existing) ≡ false → version existing ≡ Some named

@@ -6,19 +6,19 @@ use Rattle.std.specs.Cmp.Lexicographic.{slice_cmp}
 use Rattle.serde_json.specs.Data.{Data, null, boolean, number, string, array, object, Members, no_members, member, put, depth, members_depth}
 use Rattle.serde_json.specs.Find.{get_member}
 use Rattle.serde_json.specs.Written.{has_float, members_have_float}
-use Rattle.definitions.proofs.Truths.{both_true}
-use Rattle.definitions.specs.declared.kinds.Kind.{Kind}
-use Rattle.definitions.specs.declared.kinds.Kind.TheVariants.{ConfigMap, Pod, ReplicaSet, Deployment}
-use Rattle.definitions.specs.declared.schemas.Shape.TheVariants.{Object}
-use Rattle.definitions.specs.declared.schemas.Schema.{Schema}
-use Rattle.definitions.specs.declared.schemas.Schema.TheVariants.{Root, Metadata}
-use Rattle.definitions.specs.Metadata.{metadata_of}
-use Rattle.definitions.specs.Reading.{fits, members_fit, is_absent, reading, tidied, tidied_members, is_body, filled}
-use Rattle.definitions.specs.Schemas.{property_at}
-use Rattle.definitions.specs.Values.{members_of, inner_of, without, is_null}
-use Rattle.definitions.specs.Replacements.{as_stored, keeping}
-use Rattle.definitions.proofs.NoFloatsRead.{has_float-tidied, has_float-filled, has_float-is_body}
-use Rattle.laws.proofs.ReadAgain.{IsTidy, MembersTidy, MembersTidy-tidied, members_fit-tidied, members_depth-tidied, Good, Good-of, Good-filled, Has-put, Filled, HasSpec, filled_members, filled-object, opened, same_name}
+use Rattle.spec_api.proofs.Truths.{both_true}
+use Rattle.spec_api.specs.declared.kinds.Kind.{Kind}
+use Rattle.spec_api.specs.declared.kinds.Kind.TheVariants.{ConfigMap, Pod, ReplicaSet, Deployment}
+use Rattle.spec_api.specs.declared.schemas.Shape.TheVariants.{Object}
+use Rattle.spec_api.specs.declared.schemas.Schema.{Schema}
+use Rattle.spec_api.specs.declared.schemas.Schema.TheVariants.{Root, Metadata}
+use Rattle.spec_api.specs.Metadata.{metadata_of}
+use Rattle.spec_api.specs.Reading.{fits, members_fit, is_absent, reading, tidied, tidied_members, is_body, filled}
+use Rattle.spec_api.specs.Schemas.{property_at}
+use Rattle.spec_api.specs.Values.{members_of, inner_of, without, is_null}
+use Rattle.spec_api.specs.Replacements.{as_stored, keeping}
+use Rattle.spec_api.proofs.NoFloatsRead.{has_float-tidied, has_float-filled, has_float-is_body}
+use Rattle.spec_laws.proofs.ReadAgain.{IsTidy, MembersTidy, MembersTidy-tidied, members_fit-tidied, members_depth-tidied, Good, Good-of, Good-filled, Has-put, Filled, HasSpec, filled_members, filled-object, opened, same_name}
 
 -- a member that may stand, nested no deeper than n
 abbrev pub One : ℕ → Schema → List ℕ → Data → Type 0

@@ -5,7 +5,7 @@ use Rattle.std.proofs.Math.IntN.{neg_ℤ}
 use Rattle.std.proofs.lemmas.Bool.{ltb-true, leb-true}
 use Rattle.serde_json.specs.Data.{Num, unsigned, negative, float, number}
 use Rattle.serde_json.specs.Read.{number_of}
-use Rattle.definitions.specs.Reached.{IsInRange, IsParsed}
+use Rattle.spec_api.specs.Reached.{IsInRange, IsParsed}
 
 -- where there is a number, it is in range
 record Ranges (o : Option Num) : Type 0 where

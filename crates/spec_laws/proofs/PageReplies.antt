@@ -6,32 +6,32 @@ use Rattle.std.specs.List.{AllByRecursion}
 use Rattle.std.specs.Str.{IsUtf8}
 use Rattle.serde_json.specs.Data.{Data, Items, item}
 use Rattle.serde_json.specs.View.{items_of}
-use Rattle.definitions.specs.declared.kinds.Kind.{Kind}
-use Rattle.definitions.specs.declared.versions.At.{At}
-use Rattle.definitions.specs.declared.versions.At.TheVariants.{Present, NotOlder, Exact}
-use Rattle.definitions.specs.ListQueries.{ListOptions, going_on}
-use Rattle.definitions.specs.History.{History, View, Entries, present, viewed, list}
-use Rattle.definitions.specs.Lists.{list_answer, page_body, told_count, token_after}
-use Rattle.definitions.specs.Metadata.{metadata_text}
-use Rattle.definitions.specs.Keys.{Key}
-use Rattle.definitions.specs.Pages.{Place, Page, place_of, is_after, after_place, last_place, page_of}
-use Rattle.laws.specs.PageLaws.{ArePages, joined}
-use Rattle.definitions.specs.PageTokens.{Token, token_place, token_text, token_of}
-use Rattle.definitions.specs.Refusals.{Refusal, bad_request, not_found, no_such_path, method_not_allowed, already_exists, conflict, expired, length_required, too_large, unsupported_media_type, invalid, no_memory, too_new, storage_full, code}
-use Rattle.laws.specs.ReplyLaws.{Asked, body_of, IsAnswered, continue_in, GoOn, items_in, then_items, all_items, revision_at, revision_of, AreAt, PageRepliesAreLists}
-use Rattle.definitions.specs.Revisions.{greatest_revision}
-use Rattle.definitions.specs.Verbs.{as_item, outcome_code, outcome_body}
-use Rattle.definitions.specs.Versions.{listed_as, list_for}
-use Rattle.definitions.specs.Windows.{floor}
-use Rattle.definitions.specs.Reached.{IsReached}
-use Rattle.laws.proofs.EachWrite.{listed_put}
-use Rattle.laws.proofs.Limited.{limited}
-use Rattle.laws.proofs.NameBytes.{namespace_text, name_text}
-use Rattle.laws.proofs.Past.{past}
-use Rattle.laws.proofs.ValidNames.{IsValid, IsValidAt, all_valid}
-use Rattle.definitions.proofs.PageLists.{has_next}
-use Rattle.laws.proofs.JoinedPages.{pages_are_lists}
-use Rattle.definitions.proofs.TokensRead.{token_is_read}
+use Rattle.spec_api.specs.declared.kinds.Kind.{Kind}
+use Rattle.spec_api.specs.declared.versions.At.{At}
+use Rattle.spec_api.specs.declared.versions.At.TheVariants.{Present, NotOlder, Exact}
+use Rattle.spec_api.specs.ListQueries.{ListOptions, going_on}
+use Rattle.spec_api.specs.History.{History, View, Entries, present, viewed, list}
+use Rattle.spec_api.specs.Lists.{list_answer, page_body, told_count, token_after}
+use Rattle.spec_api.specs.Metadata.{metadata_text}
+use Rattle.spec_api.specs.Keys.{Key}
+use Rattle.spec_api.specs.Pages.{Place, Page, place_of, is_after, after_place, last_place, page_of}
+use Rattle.spec_laws.specs.PageLaws.{ArePages, joined}
+use Rattle.spec_api.specs.PageTokens.{Token, token_place, token_text, token_of}
+use Rattle.spec_api.specs.Refusals.{Refusal, bad_request, not_found, no_such_path, method_not_allowed, already_exists, conflict, expired, length_required, too_large, unsupported_media_type, invalid, no_memory, too_new, storage_full, code}
+use Rattle.spec_laws.specs.ReplyLaws.{Asked, body_of, IsAnswered, continue_in, GoOn, items_in, then_items, all_items, revision_at, revision_of, AreAt, PageRepliesAreLists}
+use Rattle.spec_api.specs.Revisions.{greatest_revision}
+use Rattle.spec_api.specs.Verbs.{as_item, outcome_code, outcome_body}
+use Rattle.spec_api.specs.Versions.{listed_as, list_for}
+use Rattle.spec_api.specs.Windows.{floor}
+use Rattle.spec_api.specs.Reached.{IsReached}
+use Rattle.spec_laws.proofs.EachWrite.{listed_put}
+use Rattle.spec_laws.proofs.Limited.{limited}
+use Rattle.spec_laws.proofs.NameBytes.{namespace_text, name_text}
+use Rattle.spec_laws.proofs.Past.{past}
+use Rattle.spec_laws.proofs.ValidNames.{IsValid, IsValidAt, all_valid}
+use Rattle.spec_api.proofs.PageLists.{has_next}
+use Rattle.spec_laws.proofs.JoinedPages.{pages_are_lists}
+use Rattle.spec_api.proofs.TokensRead.{token_is_read}
 
 -- ---- what an answer of 200 is
 

@@ -7,31 +7,31 @@ use Rattle.json.specs.Json as json
 use Rattle.serde_json.specs.Data.{Data, null, boolean, number, string, array, object, Items, no_items, item, Members, no_members, member, put}
 use Rattle.serde_json.specs.Find.{get, get_member}
 use Rattle.serde_json.specs.Read.{read, of_json, of_items, of_members, max_depth}
-use Rattle.definitions.specs.declared.kinds.Kind.{Kind}
-use Rattle.definitions.specs.declared.kinds.Kind.TheVariants.{ConfigMap, Pod, ReplicaSet, Deployment}
-use Rattle.definitions.specs.declared.refusals.Part.{Part}
-use Rattle.definitions.specs.declared.schemas.Schema.{Schema}
-use Rattle.definitions.specs.declared.schemas.Schema.TheVariants.{Root}
-use Rattle.definitions.specs.declared.schemas.Shape.{Shape}
-use Rattle.definitions.specs.Defaults as defaults
-use Rattle.definitions.specs.Defaults.{unsigned_value, replica_set_defaults, deployment_defaults, strategy_defaults, rolling_defaults, is_rolling_update}
-use Rattle.definitions.proofs.FoundMembers.{with_found}
-use Rattle.definitions.specs.Kinds.{api_version, kind_text}
-use Rattle.definitions.specs.Reading.{is_absent, schema_of, item_of, tidied, tidied_items, tidied_members, empty, reading}
-use Rattle.definitions.specs.Schemas.{property_at}
-use Rattle.definitions.specs.Values.{data_of, members_of, inner_of, without, found_or_null, is_null, merged, merged_members, with_member, with_default}
-use Rattle.definitions.specs.Verbs.{object_in}
-use Rattle.definitions.proofs.VerbSteps.{with_defaults}
-use Rattle.laws.proofs.JsonOrder.{IsOrdered, IsOrdered-put, IsOrdered-without, IsOrdered-tidied, IsOrdered-filled}
-use Rattle.laws.proofs.NeatMembers.{opens}
-use Rattle.laws.proofs.NumbersRead.{number_read}
-use Rattle.laws.proofs.JsonTexts.{InText, ItemsInText, MembersInText, document_text}
+use Rattle.spec_api.specs.declared.kinds.Kind.{Kind}
+use Rattle.spec_api.specs.declared.kinds.Kind.TheVariants.{ConfigMap, Pod, ReplicaSet, Deployment}
+use Rattle.spec_api.specs.declared.refusals.Part.{Part}
+use Rattle.spec_api.specs.declared.schemas.Schema.{Schema}
+use Rattle.spec_api.specs.declared.schemas.Schema.TheVariants.{Root}
+use Rattle.spec_api.specs.declared.schemas.Shape.{Shape}
+use Rattle.spec_api.specs.Defaults as defaults
+use Rattle.spec_api.specs.Defaults.{unsigned_value, replica_set_defaults, deployment_defaults, strategy_defaults, rolling_defaults, is_rolling_update}
+use Rattle.spec_api.proofs.FoundMembers.{with_found}
+use Rattle.spec_api.specs.Kinds.{api_version, kind_text}
+use Rattle.spec_api.specs.Reading.{is_absent, schema_of, item_of, tidied, tidied_items, tidied_members, empty, reading}
+use Rattle.spec_api.specs.Schemas.{property_at}
+use Rattle.spec_api.specs.Values.{data_of, members_of, inner_of, without, found_or_null, is_null, merged, merged_members, with_member, with_default}
+use Rattle.spec_api.specs.Verbs.{object_in}
+use Rattle.spec_api.proofs.VerbSteps.{with_defaults}
+use Rattle.spec_laws.proofs.JsonOrder.{IsOrdered, IsOrdered-put, IsOrdered-without, IsOrdered-tidied, IsOrdered-filled}
+use Rattle.spec_laws.proofs.NeatMembers.{opens}
+use Rattle.spec_laws.proofs.NumbersRead.{number_read}
+use Rattle.spec_laws.proofs.JsonTexts.{InText, ItemsInText, MembersInText, document_text}
 use Rattle.json.proofs.Printed.Utf8.{are_ascii, IsUtf8-are_ascii}
 use Rattle.std.specs.Str.{IsUtf8, is_utf8}
 use Rattle.std.proofs.lemmas.Str.{IsUtf8-from_is_utf8}
-use Rattle.laws.proofs.ReadAgain.{defaulted, spec_members, filled_members}
-use Rattle.definitions.proofs.FirstStatus.{get-members_of}
-use Rattle.definitions.specs.Reached.{AreInOrder, IsParsed, AreParsed}
+use Rattle.spec_laws.proofs.ReadAgain.{defaulted, spec_members, filled_members}
+use Rattle.spec_api.proofs.FirstStatus.{get-members_of}
+use Rattle.spec_api.specs.Reached.{AreInOrder, IsParsed, AreParsed}
 
 -- ---- order, and what stands in it
 

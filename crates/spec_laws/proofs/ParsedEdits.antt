@@ -3,20 +3,20 @@ use Rattle.std.proofs.Common.{ℕ, ◌+◌, [], ◌∷◌, List, codes, IfSome, 
 use Rattle.serde_json.specs.Data.{Data, string, array, object, no_members, member, put}
 use Rattle.serde_json.specs.Find.{get}
 use Rattle.json.proofs.Printed.Utf8.{IsUtf8-are_ascii}
-use Rattle.definitions.specs.History.{History, Write, writes}
-use Rattle.definitions.specs.Checks.{in_spec}
-use Rattle.definitions.specs.Metadata.{metadata_of}
-use Rattle.definitions.specs.Reading.{empty}
-use Rattle.definitions.specs.Replacements.{as_stored, keeping}
-use Rattle.definitions.specs.Keys.{Key}
-use Rattle.definitions.specs.Values.{members_of, inner_of, without}
-use Rattle.laws.proofs.EachWrite.{AllPut, there_put, listed_put}
-use Rattle.definitions.specs.Reached.{IsParsed, IsReached}
-use Rattle.laws.specs.ParsedLaws.{StoredAreParsed, ListedAreParsed, MetadataEditsStayParsed, MembersStayParsed, InnerEditsStayParsed, MadePodsAreParsed, copied}
-use Rattle.laws.proofs.SentObjects.{IsStored}
-use Rattle.laws.proofs.Stored.{AreStored, all_stored}
-use Rattle.laws.proofs.ParsedObjects.{meta, with_meta, held_put, keeps}
-use Rattle.laws.proofs.Parsed.{Both, joined, inside, Both-put, Both-set, Both-without, found, inner}
+use Rattle.spec_api.specs.History.{History, Write, writes}
+use Rattle.spec_api.specs.Checks.{in_spec}
+use Rattle.spec_api.specs.Metadata.{metadata_of}
+use Rattle.spec_api.specs.Reading.{empty}
+use Rattle.spec_api.specs.Replacements.{as_stored, keeping}
+use Rattle.spec_api.specs.Keys.{Key}
+use Rattle.spec_api.specs.Values.{members_of, inner_of, without}
+use Rattle.spec_laws.proofs.EachWrite.{AllPut, there_put, listed_put}
+use Rattle.spec_api.specs.Reached.{IsParsed, IsReached}
+use Rattle.spec_laws.specs.ParsedLaws.{StoredAreParsed, ListedAreParsed, MetadataEditsStayParsed, MembersStayParsed, InnerEditsStayParsed, MadePodsAreParsed, copied}
+use Rattle.spec_laws.proofs.SentObjects.{IsStored}
+use Rattle.spec_laws.proofs.Stored.{AreStored, all_stored}
+use Rattle.spec_laws.proofs.ParsedObjects.{meta, with_meta, held_put, keeps}
+use Rattle.spec_laws.proofs.Parsed.{Both, joined, inside, Both-put, Both-set, Both-without, found, inner}
 
 -- ---- what is written
 

@@ -10,24 +10,24 @@ use Rattle.std.proofs.lemmas.Fmt.{IsAscii-decimal}
 use Rattle.std.proofs.lemmas.Str.{IsUtf8-from_ascii, IsUtf8-append, IsUtf8-nil}
 use Rattle.std.proofs.lemmas.Bool.Decides.{nat_tests}
 use Rattle.std.specs.Char.{digit_char}
-use Rattle.laws.proofs.TextsRead.{one_byte}
+use Rattle.spec_laws.proofs.TextsRead.{one_byte}
 use Rattle.json.proofs.Printed.Utf8.{are_ascii, IsUtf8-are_ascii}
-use Rattle.definitions.proofs.Truths.{both_true}
-use Rattle.definitions.specs.declared.kinds.Kind.{Kind}
-use Rattle.definitions.specs.declared.kinds.Kind.TheVariants.{ConfigMap, Pod, ReplicaSet, Deployment}
-use Rattle.definitions.specs.declared.policies.Policy.{Policy}
-use Rattle.definitions.specs.declared.policies.Policy.TheVariants.{Orphan, Foreground, Background}
-use Rattle.definitions.specs.Checks.{finalizers}
-use Rattle.definitions.specs.Defaults.{unsigned_value}
-use Rattle.definitions.specs.Deletion.{left_by, with_deletion, others_then, of_policy, are_of, is_of_policy}
-use Rattle.definitions.specs.Kinds.{has_generation}
-use Rattle.definitions.specs.Metadata.{metadata, metadata_of, with_metadata, at_revision, is_being_deleted}
-use Rattle.definitions.specs.NewObjects.{new_metadata, first_status, with_status}
-use Rattle.definitions.specs.Replacements.{as_stored, keeping, unchanged_metadata, unchanged_members, in_place, status_in, with_status_in, with_next_generation, next_generation, generation}
-use Rattle.definitions.specs.Uids.{hex, uid_text, cluster_word}
-use Rattle.definitions.specs.Values.{members_of, without}
-use Rattle.definitions.specs.Reached.{IsInRange, IsParsed, AreParsed}
-use Rattle.laws.proofs.Parsed.{Both, joined, inside, Both-set, Both-without, found as found_at, found_in, inner}
+use Rattle.spec_api.proofs.Truths.{both_true}
+use Rattle.spec_api.specs.declared.kinds.Kind.{Kind}
+use Rattle.spec_api.specs.declared.kinds.Kind.TheVariants.{ConfigMap, Pod, ReplicaSet, Deployment}
+use Rattle.spec_api.specs.declared.policies.Policy.{Policy}
+use Rattle.spec_api.specs.declared.policies.Policy.TheVariants.{Orphan, Foreground, Background}
+use Rattle.spec_api.specs.Checks.{finalizers}
+use Rattle.spec_api.specs.Defaults.{unsigned_value}
+use Rattle.spec_api.specs.Deletion.{left_by, with_deletion, others_then, of_policy, are_of, is_of_policy}
+use Rattle.spec_api.specs.Kinds.{has_generation}
+use Rattle.spec_api.specs.Metadata.{metadata, metadata_of, with_metadata, at_revision, is_being_deleted}
+use Rattle.spec_api.specs.NewObjects.{new_metadata, first_status, with_status}
+use Rattle.spec_api.specs.Replacements.{as_stored, keeping, unchanged_metadata, unchanged_members, in_place, status_in, with_status_in, with_next_generation, next_generation, generation}
+use Rattle.spec_api.specs.Uids.{hex, uid_text, cluster_word}
+use Rattle.spec_api.specs.Values.{members_of, without}
+use Rattle.spec_api.specs.Reached.{IsInRange, IsParsed, AreParsed}
+use Rattle.spec_laws.proofs.Parsed.{Both, joined, inside, Both-set, Both-without, found as found_at, found_in, inner}
 
 -- ---- objects with other members
 

@@ -1,10 +1,10 @@
 -- What a window keeps has happened.
 use Rattle.std.proofs.Common.{zero, suc, ◌≤◌, ℕ, ◌+◌, ◌-◌, List, [], ◌∷◌, ◌++◌, length, drop, Bool, true, false, cond, sym, subst, arith}
-use Rattle.definitions.specs.declared.kinds.Kind.{Kind}
-use Rattle.definitions.specs.History.{Write, writes, present}
-use Rattle.laws.specs.WindowLaws.{RecordedChangesArePast}
-use Rattle.definitions.specs.Windows.{Change, is_of, change_of, changes_after, changes_of, last_revision}
-use Rattle.laws.proofs.RecordedChanges.{pushed}
+use Rattle.spec_api.specs.declared.kinds.Kind.{Kind}
+use Rattle.spec_api.specs.History.{Write, writes, present}
+use Rattle.spec_laws.specs.WindowLaws.{RecordedChangesArePast}
+use Rattle.spec_api.specs.Windows.{Change, is_of, change_of, changes_after, changes_of, last_revision}
+use Rattle.spec_laws.proofs.RecordedChanges.{pushed}
 
 -- each revision is at most m
 abbrev AreWithin : ℕ → List Change → Type 0

@@ -3,14 +3,14 @@ use Rattle.std.proofs.Common.{◌≡◌, ℕ, List, [], ◌∷◌, ◌++◌, ◌
 use Rattle.std.proofs.lemmas.Slice.Eq.{bytes_eq-Decides}
 use Rattle.std.specs.List.{onto_first, list_all, find}
 use Rattle.std.specs.Option.{option_map_or}
-use Rattle.definitions.proofs.Truths.{both_true}
-use Rattle.definitions.specs.declared.kinds.Kind.{Kind}
-use Rattle.definitions.specs.declared.kinds.Group.{Group}
-use Rattle.definitions.specs.declared.kinds.Group.TheVariants.{Core, Apps}
-use Rattle.definitions.specs.Kinds.{kinds, group, text_of_group, group_name, plural, has_status, kind_with_plural}
-use Rattle.laws.specs.HistoryLaws.{PathsAreRoutes}
-use Rattle.definitions.specs.Targets.{Route, collection, object_at, status_of, prefix, collection_text, path_text, segments, after_words, is_filled, kind_with_status}
-use Rattle.definitions.proofs.PathForms.{Form, all_form, namespace_form, object_form, status_form, below, by_prefix, form_of, route_of, by_form}
+use Rattle.spec_api.proofs.Truths.{both_true}
+use Rattle.spec_api.specs.declared.kinds.Kind.{Kind}
+use Rattle.spec_api.specs.declared.kinds.Group.{Group}
+use Rattle.spec_api.specs.declared.kinds.Group.TheVariants.{Core, Apps}
+use Rattle.spec_api.specs.Kinds.{kinds, group, text_of_group, group_name, plural, has_status, kind_with_plural}
+use Rattle.spec_laws.specs.HistoryLaws.{PathsAreRoutes}
+use Rattle.spec_api.specs.Targets.{Route, collection, object_at, status_of, prefix, collection_text, path_text, segments, after_words, is_filled, kind_with_status}
+use Rattle.spec_api.proofs.PathForms.{Form, all_form, namespace_form, object_form, status_form, below, by_prefix, form_of, route_of, by_form}
 
 -- the parts with a `/` before each
 rest_text : List (List ℕ) → List ℕ

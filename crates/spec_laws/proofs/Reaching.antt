@@ -1,10 +1,10 @@
 -- What is true of everything reached, one step after another.
 use Rattle.std.proofs.Common.{◌≡◌, ◌≤◌, ℕ, List, [], ◌∷◌, ◌++◌, Option, Some, None, refl, ap, subst, ◌∙◌, append-nil, ◌⊎◌, inl, inr}
-use Rattle.definitions.specs.History.{History, Entry, Write, write, compaction, present}
-use Rattle.definitions.specs.Verbs.{accept, with_write, write_of}
-use Rattle.definitions.specs.ObjectRequests.{Request}
-use Rattle.definitions.specs.Reached.{CanBeRead, IsTimestamp, IsReached, opened, asks, compacts}
-use Rattle.laws.specs.ReachedLaws.{PastsAreReached}
+use Rattle.spec_api.specs.History.{History, Entry, Write, write, compaction, present}
+use Rattle.spec_api.specs.Verbs.{accept, with_write, write_of}
+use Rattle.spec_api.specs.ObjectRequests.{Request}
+use Rattle.spec_api.specs.Reached.{CanBeRead, IsTimestamp, IsReached, opened, asks, compacts}
+use Rattle.spec_laws.specs.ReachedLaws.{PastsAreReached}
 
 -- a property of histories that a request leaves, and a compaction
 module _ (P : History → Type 0) (each : (q : Request) (h : History) (moment : List ℕ) → CanBeRead q → IsTimestamp moment → P h → P (with_write h (write_of (accept q h moment)))) (still : (h : History) (r : ℕ) → r ≤ present h → P h → P (h ++ compaction r ∷ [])) where

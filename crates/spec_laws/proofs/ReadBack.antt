@@ -17,12 +17,12 @@ use Rattle.serde_json.proofs.Texts.{print-outline}
 use Rattle.std.proofs.lemmas.Bool.{cases_eq}
 use Rattle.std.proofs.Common.{◌⊎◌, inl, inr}
 use Rattle.serde_json.specs.Find.{is_float}
-use Rattle.definitions.proofs.Truths.{left_false, right_false}
-use Rattle.definitions.proofs.TokensOfData.{depth-outline, read_tokens}
-use Rattle.definitions.proofs.OnLiterals.{on_literals}
-use Rattle.definitions.specs.Reached.{IsBefore, IsInRange, IsParsed, AreParsed, AreInOrder}
-use Rattle.laws.proofs.JsonOrder.{IsOrdered}
-use Rattle.laws.proofs.Parsed.{parts}
+use Rattle.spec_api.proofs.Truths.{left_false, right_false}
+use Rattle.spec_api.proofs.TokensOfData.{depth-outline, read_tokens}
+use Rattle.spec_api.proofs.OnLiterals.{on_literals}
+use Rattle.spec_api.specs.Reached.{IsBefore, IsInRange, IsParsed, AreParsed, AreInOrder}
+use Rattle.spec_laws.proofs.JsonOrder.{IsOrdered}
+use Rattle.spec_laws.proofs.Parsed.{parts}
 
 -- ---- numbers
 

@@ -4,31 +4,31 @@ use Rattle.std.proofs.lemmas.Bool.{ltb-true, lt-ltb}
 use Rattle.std.proofs.lemmas.Bool.Decides.{nat_tests}
 use Rattle.json.proofs.Printed.Utf8.{are_ascii, IsUtf8-are_ascii}
 use Rattle.serde_json.specs.Data.{Data}
-use Rattle.definitions.proofs.Truths.{both_true}
-use Rattle.definitions.specs.declared.methods.Method.{Method}
-use Rattle.definitions.specs.declared.methods.Method.TheVariants.{Get, Post, Put, Patch, Delete}
-use Rattle.definitions.specs.declared.refusals.Part.{Part}
-use Rattle.definitions.specs.declared.refusals.Part.TheVariants as part
-use Rattle.definitions.specs.History.{History, compaction, present}
-use Rattle.definitions.specs.Replies.{Session, start, reply_for, history_from, default_window}
-use Rattle.line_protocol.specs.Lines.{history_of, Line, ask, at, compact, compact_at, unreadable, ask_if, cut, target_alone, target_and_body, line_from, line_of, session_after, next, after_lines}
-use Rattle.definitions.specs.Moments as moments
-use Rattle.definitions.specs.Moments.{has_form, is_day, is_digit, is_moment}
-use Rattle.definitions.specs.Keys.{Key}
-use Rattle.definitions.specs.ListQueries as collections
-use Rattle.definitions.specs.ListQueries.{Read}
-use Rattle.definitions.specs.Revisions.{revision_of}
-use Rattle.definitions.specs.Values.{data_of}
-use Rattle.definitions.specs.Refusals.{Refusal, bad_request, method_not_allowed, too_large}
-use Rattle.definitions.specs.Targets.{Query, Asked, request, list, watch, Route, collection, object_at, status_of, route, path_of, decoded, query_for, names_namespace, is_allowed, is_too_long, body_of, asks_with, delete_options, read_as, selected, asked, asked_with, asked_at, read_request}
-use Rattle.definitions.specs.Verbs.{accept, with_write, write_of}
-use Rattle.definitions.specs.ObjectRequests.{Request, create_object, update_object, update_status, patch_object, delete_object}
-use Rattle.definitions.specs.DeleteOptions.{Options}
-use Rattle.definitions.specs.History as history
-use Rattle.laws.proofs.Parsed.{parsed_data}
-use Rattle.laws.proofs.Runs.{kept_asked, kept_watched, by_compaction}
-use Rattle.definitions.specs.Reached.{IsParsed, CanBeRead, IsTimestamp, IsReached, opened, asks, compacts}
-use Rattle.laws.specs.ReachedLaws.{RunsAreReached, RequestsAreAsked, MomentsAreTimes}
+use Rattle.spec_api.proofs.Truths.{both_true}
+use Rattle.spec_api.specs.declared.methods.Method.{Method}
+use Rattle.spec_api.specs.declared.methods.Method.TheVariants.{Get, Post, Put, Patch, Delete}
+use Rattle.spec_api.specs.declared.refusals.Part.{Part}
+use Rattle.spec_api.specs.declared.refusals.Part.TheVariants as part
+use Rattle.spec_api.specs.History.{History, compaction, present}
+use Rattle.spec_api.specs.Replies.{Session, start, reply_for, history_from, default_window}
+use Rattle.spec_line_protocol.specs.Lines.{history_of, Line, ask, at, compact, compact_at, unreadable, ask_if, cut, target_alone, target_and_body, line_from, line_of, session_after, next, after_lines}
+use Rattle.spec_api.specs.Moments as moments
+use Rattle.spec_api.specs.Moments.{has_form, is_day, is_digit, is_moment}
+use Rattle.spec_api.specs.Keys.{Key}
+use Rattle.spec_api.specs.ListQueries as collections
+use Rattle.spec_api.specs.ListQueries.{Read}
+use Rattle.spec_api.specs.Revisions.{revision_of}
+use Rattle.spec_api.specs.Values.{data_of}
+use Rattle.spec_api.specs.Refusals.{Refusal, bad_request, method_not_allowed, too_large}
+use Rattle.spec_api.specs.Targets.{Query, Asked, request, list, watch, Route, collection, object_at, status_of, route, path_of, decoded, query_for, names_namespace, is_allowed, is_too_long, body_of, asks_with, delete_options, read_as, selected, asked, asked_with, asked_at, read_request}
+use Rattle.spec_api.specs.Verbs.{accept, with_write, write_of}
+use Rattle.spec_api.specs.ObjectRequests.{Request, create_object, update_object, update_status, patch_object, delete_object}
+use Rattle.spec_api.specs.DeleteOptions.{Options}
+use Rattle.spec_api.specs.History as history
+use Rattle.spec_laws.proofs.Parsed.{parsed_data}
+use Rattle.spec_laws.proofs.Runs.{kept_asked, kept_watched, by_compaction}
+use Rattle.spec_api.specs.Reached.{IsParsed, CanBeRead, IsTimestamp, IsReached, opened, asks, compacts}
+use Rattle.spec_laws.specs.ReachedLaws.{RunsAreReached, RequestsAreAsked, MomentsAreTimes}
 
 abbrev AsksWell : Result Asked Refusal → Type 0
 AsksWell (Err f) = Unit {0}

@@ -5,14 +5,14 @@ use Rattle.std.proofs.lemmas.List.{take-append-drop, length-take}
 use Rattle.std.proofs.lemmas.List.Elements.{filter-append}
 use Rattle.std.proofs.lemmas.Bool.{lt-ltb, le-ltb}
 use Rattle.serde_json.specs.Data.{Data}
-use Rattle.definitions.specs.declared.kinds.Kind.{Kind}
-use Rattle.definitions.specs.Keys.{Key}
-use Rattle.definitions.specs.History.{Write, View, Entries, last_of, viewed, after_all, put_or_remove, seen}
-use Rattle.definitions.specs.Events.{Event, events_after, event_of_write, applied}
-use Rattle.definitions.specs.Windows.{Change, is_of, change_of, changes_after as kept_after, all_but, last_n, last_revision, IsRising}
-use Rattle.server_state.specs.Recorded.{above, events_recorded, undone}
-use Rattle.laws.proofs.AppliedEvents.{one_more}
-use Rattle.laws.proofs.Undone.{write_undone}
+use Rattle.spec_api.specs.declared.kinds.Kind.{Kind}
+use Rattle.spec_api.specs.Keys.{Key}
+use Rattle.spec_api.specs.History.{Write, View, Entries, last_of, viewed, after_all, put_or_remove, seen}
+use Rattle.spec_api.specs.Events.{Event, events_after, event_of_write, applied}
+use Rattle.spec_api.specs.Windows.{Change, is_of, change_of, changes_after as kept_after, all_but, last_n, last_revision, IsRising}
+use Rattle.spec_server.specs.Recorded.{above, events_recorded, undone}
+use Rattle.spec_laws.proofs.AppliedEvents.{one_more}
+use Rattle.spec_laws.proofs.Undone.{write_undone}
 
 one_rising : (b : Bool) (x : Change) (lo : ℕ) (ks : List Change) → lo < x.revision → IsRising x.revision ks → IsRising lo ks → IsRising lo (cond b (x ∷ []) [] ++ ks)
 one_rising true x lo ks l later low = (l, later)

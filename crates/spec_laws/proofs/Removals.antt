@@ -6,30 +6,30 @@ use Rattle.serde_json.specs.Data.{Data, null, boolean, number, string, array, ob
 use Rattle.serde_json.specs.Events.{items_len}
 use Rattle.serde_json.specs.Find.{get_member}
 use Rattle.serde_json.proofs.Views.{get_member-put, get_member-put_other}
-use Rattle.definitions.proofs.Truths.{both_true}
-use Rattle.definitions.specs.declared.kinds.Kind.{Kind}
-use Rattle.definitions.specs.declared.policies.Policy.{Policy}
-use Rattle.definitions.specs.Checks.{finalizers, has_text, text_is, checks, update_fault, adds_no_finalizer, is_selector_kept}
-use Rattle.definitions.specs.DeleteOptions.{Options}
-use Rattle.definitions.specs.Deletion.{left_by, being_deleted, others_then, of_policy, are_of, is_of_policy, with_deletion}
-use Rattle.definitions.specs.History.{History, found, entries_at, present, state}
-use Rattle.laws.specs.HistoryLaws.{KeepsText, is_delete}
-use Rattle.laws.specs.LifecycleLaws.{OfReplaced, OfRemoved, all_of_policy, DeletesSpareFinalizers, LastFinalizersRemove, WritesKeepDeletions, NoFinalizerIsAdded}
-use Rattle.definitions.specs.Metadata.{metadata, metadata_of, metadata_text, at_revision, is_being_deleted}
-use Rattle.definitions.specs.Keys.{Key}
-use Rattle.definitions.specs.NewObjects.{created}
-use Rattle.definitions.specs.Reading.{reading}
-use Rattle.definitions.specs.Replacements.{in_place, is_finalized, is_new_generation, updated, with_next_generation, with_status_in, next_generation, generation}
-use Rattle.definitions.specs.Defaults.{unsigned_value}
-use Rattle.definitions.specs.SelectorValues.{all_items, items_in}
-use Rattle.definitions.specs.Verbs.{Outcome, shown, outcome_body, object_in, new_name}
-use Rattle.definitions.specs.ObjectRequests.{Request, get_object, list_objects, create_object, update_object, update_status, patch_object, delete_object}
-use Rattle.laws.proofs.Cases.{of_accept, of_create, of_delete, of_patch, of_status, of_update}
-use Rattle.laws.proofs.CheckLaws.{all_met}
-use Rattle.laws.proofs.Guards.{there}
-use Rattle.laws.proofs.SetMetadata.{moved, text-at_revision, text-updated, deletion-in_place}
-use Rattle.definitions.proofs.JsonMembers.{apart, text_in, text_in-put_other, metadata_of-with}
-use Rattle.laws.proofs.VerbLaws.{found-state, none_from, of_held, of_none, text-restated, metadata_of-status}
+use Rattle.spec_api.proofs.Truths.{both_true}
+use Rattle.spec_api.specs.declared.kinds.Kind.{Kind}
+use Rattle.spec_api.specs.declared.policies.Policy.{Policy}
+use Rattle.spec_api.specs.Checks.{finalizers, has_text, text_is, checks, update_fault, adds_no_finalizer, is_selector_kept}
+use Rattle.spec_api.specs.DeleteOptions.{Options}
+use Rattle.spec_api.specs.Deletion.{left_by, being_deleted, others_then, of_policy, are_of, is_of_policy, with_deletion}
+use Rattle.spec_api.specs.History.{History, found, entries_at, present, state}
+use Rattle.spec_laws.specs.HistoryLaws.{KeepsText, is_delete}
+use Rattle.spec_laws.specs.LifecycleLaws.{OfReplaced, OfRemoved, all_of_policy, DeletesSpareFinalizers, LastFinalizersRemove, WritesKeepDeletions, NoFinalizerIsAdded}
+use Rattle.spec_api.specs.Metadata.{metadata, metadata_of, metadata_text, at_revision, is_being_deleted}
+use Rattle.spec_api.specs.Keys.{Key}
+use Rattle.spec_api.specs.NewObjects.{created}
+use Rattle.spec_api.specs.Reading.{reading}
+use Rattle.spec_api.specs.Replacements.{in_place, is_finalized, is_new_generation, updated, with_next_generation, with_status_in, next_generation, generation}
+use Rattle.spec_api.specs.Defaults.{unsigned_value}
+use Rattle.spec_api.specs.SelectorValues.{all_items, items_in}
+use Rattle.spec_api.specs.Verbs.{Outcome, shown, outcome_body, object_in, new_name}
+use Rattle.spec_api.specs.ObjectRequests.{Request, get_object, list_objects, create_object, update_object, update_status, patch_object, delete_object}
+use Rattle.spec_laws.proofs.Cases.{of_accept, of_create, of_delete, of_patch, of_status, of_update}
+use Rattle.spec_laws.proofs.CheckLaws.{all_met}
+use Rattle.spec_laws.proofs.Guards.{there}
+use Rattle.spec_laws.proofs.SetMetadata.{moved, text-at_revision, text-updated, deletion-in_place}
+use Rattle.spec_api.proofs.JsonMembers.{apart, text_in, text_in-put_other, metadata_of-with}
+use Rattle.spec_laws.proofs.VerbLaws.{found-state, none_from, of_held, of_none, text-restated, metadata_of-status}
 
 -- ---- what a delete leaves
 

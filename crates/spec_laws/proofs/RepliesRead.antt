@@ -12,27 +12,27 @@ use Rattle.serde_json.specs.Data.{Data, null, boolean, number, string, array, ob
 use Rattle.serde_json.specs.Read.{read}
 use Rattle.serde_json.specs.View.{items_of}
 use Rattle.serde_json.specs.Written.{compact_text, has_float, items_have_float, members_have_float}
-use Rattle.definitions.proofs.Truths.{left_false, right_false}
-use Rattle.definitions.specs.declared.kinds.Kind.{Kind}
-use Rattle.definitions.specs.History.{History, Write, View, Entries, writes, present, list}
-use Rattle.definitions.specs.Kinds.{api_version, kind_text}
-use Rattle.definitions.specs.Keys.{Key}
-use Rattle.definitions.specs.Reached.{IsParsed, AreParsed, IsReached}
-use Rattle.definitions.specs.Values.{members_of, without}
-use Rattle.definitions.specs.Verbs.{as_item, list_body}
-use Rattle.definitions.proofs.PageLists.{all_after}
-use Rattle.laws.specs.ReplyLaws.{list_reply, RepliesAreRead, ObjectsAreReadBack}
-use Rattle.laws.specs.SentLaws.{whole}
-use Rattle.definitions.proofs.NoFloatsRead.{has_float-is_body}
-use Rattle.laws.proofs.Parsed.{joined, inside, Both-without, version_ascii, kind_ascii}
-use Rattle.laws.proofs.Limited.{limited}
-use Rattle.laws.proofs.WrittenTexts.{text_written}
-use Rattle.laws.proofs.ParsedEdits.{listed_parsed}
-use Rattle.laws.proofs.ReadBack.{read_back}
-use Rattle.laws.proofs.SentChanges.{read_body, nests}
-use Rattle.laws.proofs.SentLists.{Lists, all_listed, lists_nest, lists_read}
-use Rattle.laws.proofs.SentObjects.{IsStored}
-use Rattle.laws.proofs.Stored.{AreStored, all_stored}
+use Rattle.spec_api.proofs.Truths.{left_false, right_false}
+use Rattle.spec_api.specs.declared.kinds.Kind.{Kind}
+use Rattle.spec_api.specs.History.{History, Write, View, Entries, writes, present, list}
+use Rattle.spec_api.specs.Kinds.{api_version, kind_text}
+use Rattle.spec_api.specs.Keys.{Key}
+use Rattle.spec_api.specs.Reached.{IsParsed, AreParsed, IsReached}
+use Rattle.spec_api.specs.Values.{members_of, without}
+use Rattle.spec_api.specs.Verbs.{as_item, list_body}
+use Rattle.spec_api.proofs.PageLists.{all_after}
+use Rattle.spec_laws.specs.ReplyLaws.{list_reply, RepliesAreRead, ObjectsAreReadBack}
+use Rattle.spec_laws.specs.SentLaws.{whole}
+use Rattle.spec_api.proofs.NoFloatsRead.{has_float-is_body}
+use Rattle.spec_laws.proofs.Parsed.{joined, inside, Both-without, version_ascii, kind_ascii}
+use Rattle.spec_laws.proofs.Limited.{limited}
+use Rattle.spec_laws.proofs.WrittenTexts.{text_written}
+use Rattle.spec_laws.proofs.ParsedEdits.{listed_parsed}
+use Rattle.spec_laws.proofs.ReadBack.{read_back}
+use Rattle.spec_laws.proofs.SentChanges.{read_body, nests}
+use Rattle.spec_laws.proofs.SentLists.{Lists, all_listed, lists_nest, lists_read}
+use Rattle.spec_laws.proofs.SentObjects.{IsStored}
+use Rattle.spec_laws.proofs.Stored.{AreStored, all_stored}
 
 -- what is answered is the list
 reply_is : (size : ℕ) (h : History) (k : Kind) → list_reply size h k ≡ list_body k (present h) (list h (whole k) (present h))

@@ -1,20 +1,20 @@
 -- What is true after any lines.
 use Rattle.std.proofs.Common.{◌≡◌, ◌≤◌, ℕ, ◌==◌, List, [], ◌∷◌, ◌++◌, length, Bool, true, false, cond, nat_lt, Option, Some, None, Result, Ok, Err, append_assoc, subst, refl, sym, ap, ◌∙◌}
 use Rattle.std.proofs.lemmas.Bool.{ltb-false}
-use Rattle.definitions.specs.declared.kinds.Kind.{Kind}
-use Rattle.definitions.specs.ListQueries.{ListOptions, WatchOptions}
-use Rattle.definitions.specs.History.{History, Entry, Write, View, write, compaction, present}
-use Rattle.laws.specs.HistoryLaws.{RunsOnlyAdd, WindowsOnlyForget}
-use Rattle.definitions.specs.Replies.{Session, start, outcome, reply_for, watch_reply, compact_reply, history_from}
-use Rattle.line_protocol.specs.Lines.{Line, ask, at, compact, unreadable, line_of, session_after, next, after_lines}
-use Rattle.definitions.specs.Lists.{list_answer}
-use Rattle.definitions.specs.Refusals.{Refusal, too_new}
-use Rattle.definitions.specs.Streams as streams
-use Rattle.definitions.specs.Targets.{Asked, request, list, watch, read_request}
-use Rattle.definitions.specs.Verbs.{accept, with_write, write_of}
-use Rattle.definitions.specs.ObjectRequests.{Request}
-use Rattle.definitions.specs.Versions.{Listed, list_for, compacts}
-use Rattle.definitions.specs.WatchReplies.{watch_lines}
+use Rattle.spec_api.specs.declared.kinds.Kind.{Kind}
+use Rattle.spec_api.specs.ListQueries.{ListOptions, WatchOptions}
+use Rattle.spec_api.specs.History.{History, Entry, Write, View, write, compaction, present}
+use Rattle.spec_laws.specs.HistoryLaws.{RunsOnlyAdd, WindowsOnlyForget}
+use Rattle.spec_api.specs.Replies.{Session, start, outcome, reply_for, watch_reply, compact_reply, history_from}
+use Rattle.spec_line_protocol.specs.Lines.{Line, ask, at, compact, unreadable, line_of, session_after, next, after_lines}
+use Rattle.spec_api.specs.Lists.{list_answer}
+use Rattle.spec_api.specs.Refusals.{Refusal, too_new}
+use Rattle.spec_api.specs.Streams as streams
+use Rattle.spec_api.specs.Targets.{Asked, request, list, watch, read_request}
+use Rattle.spec_api.specs.Verbs.{accept, with_write, write_of}
+use Rattle.spec_api.specs.ObjectRequests.{Request}
+use Rattle.spec_api.specs.Versions.{Listed, list_for, compacts}
+use Rattle.spec_api.specs.WatchReplies.{watch_lines}
 
 -- a list and a watch leave what has happened as it is
 kept_list : (h : History) (v : View) (o : ListOptions) (r : Result Listed Refusal) → history_from h (outcome (list_answer v o r)) ≡ h

@@ -6,18 +6,18 @@ use Rattle.std.specs.Ordering.{match_ordering}
 use Rattle.serde_json.specs.Data.{Data, null, boolean, number, string, array, object, Members, no_members, member, put}
 use Rattle.serde_json.specs.Find.{get, get_member}
 use Rattle.serde_json.specs.Written.{compact_text}
-use Rattle.definitions.specs.Metadata.{metadata, metadata_of, with_metadata}
-use Rattle.laws.specs.ReplacementLaws.{without_version, IsReadBack, SameButForTheVersion, UpdatesAreAtTheVersion}
-use Rattle.definitions.specs.Replacements.{as_stored, keeping, unchanged_metadata, unchanged_members, status_in}
-use Rattle.definitions.specs.Values.{data_of, members_of, inner_of, without}
+use Rattle.spec_api.specs.Metadata.{metadata, metadata_of, with_metadata}
+use Rattle.spec_laws.specs.ReplacementLaws.{without_version, IsReadBack, SameButForTheVersion, UpdatesAreAtTheVersion}
+use Rattle.spec_api.specs.Replacements.{as_stored, keeping, unchanged_metadata, unchanged_members, status_in}
+use Rattle.spec_api.specs.Values.{data_of, members_of, inner_of, without}
 use Rattle.serde_json.proofs.Views.{get_member-put}
-use Rattle.definitions.proofs.JsonMembers.{metadata_of-with}
-use Rattle.laws.proofs.JsonOrder.{IsOrdered, put_back}
-use Rattle.definitions.specs.Reached.{IsParsed}
-use Rattle.laws.proofs.Parsed.{inside, parsed_data}
-use Rattle.laws.proofs.ParsedObjects.{meta}
-use Rattle.laws.proofs.TextLengths.{put_same, put_twice}
-use Rattle.laws.proofs.VerbLaws.{metadata_of-status}
+use Rattle.spec_api.proofs.JsonMembers.{metadata_of-with}
+use Rattle.spec_laws.proofs.JsonOrder.{IsOrdered, put_back}
+use Rattle.spec_api.specs.Reached.{IsParsed}
+use Rattle.spec_laws.proofs.Parsed.{inside, parsed_data}
+use Rattle.spec_laws.proofs.ParsedObjects.{meta}
+use Rattle.spec_laws.proofs.TextLengths.{put_same, put_twice}
+use Rattle.spec_laws.proofs.VerbLaws.{metadata_of-status}
 
 none_at : (o : Ordering) (k l : List ℕ) (e : Data) (ms : Members) → match_ordering o (get_member k ms) (Some e) (get_member k ms) ≡ None → (get_member k ms ≡ None → without k ms ≡ ms)
     → cond (is_eq o) ms (member l e (without k ms)) ≡ member l e ms

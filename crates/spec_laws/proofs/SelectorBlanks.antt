@@ -4,10 +4,10 @@ use Rattle.std.proofs.lemmas.Bool.Decides.{nat_tests}
 use Rattle.std.proofs.lemmas.List.{length-reverse, reverse-append, reverse-reverse}
 use Rattle.std.proofs.lemmas.List.Folds.{list_all-append}
 use Rattle.std.specs.List.{list_all, list_any}
-use Rattle.laws.specs.SelectorGrammar.{AreBlanks}
-use Rattle.definitions.proofs.Truths.{and_true, left_true, right_true}
-use Rattle.definitions.specs.SelectorTexts.{is_blank, is_comma, is_equals, is_opening, without_first_blanks, trimmed}
-use Rattle.laws.proofs.SelectorPlain.{is_plain, is_closing, is_mark, begins, begins-plain, no-blank-first, ends-in}
+use Rattle.spec_laws.specs.SelectorGrammar.{AreBlanks}
+use Rattle.spec_api.proofs.Truths.{and_true, left_true, right_true}
+use Rattle.spec_api.specs.SelectorTexts.{is_blank, is_comma, is_equals, is_opening, without_first_blanks, trimmed}
+use Rattle.spec_laws.proofs.SelectorPlain.{is_plain, is_closing, is_mark, begins, begins-plain, no-blank-first, ends-in}
 
 -- ---- bytes
 

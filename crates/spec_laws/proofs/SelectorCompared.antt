@@ -4,18 +4,18 @@ use Rattle.std.proofs.lemmas.Bool.Decides.{nat_tests}
 use Rattle.std.proofs.lemmas.List.{length-append}
 use Rattle.std.proofs.lemmas.List.Folds.{list_any-append}
 use Rattle.std.specs.List.{list_all, list_any}
-use Rattle.definitions.proofs.Truths.{left_true, right_true}
-use Rattle.definitions.specs.declared.selectors.Operator.{Operator}
-use Rattle.definitions.specs.declared.selectors.Operator.TheVariants.{In, NotIn, Exists, DoesNotExist}
-use Rattle.definitions.specs.Labels.{is_label_key, is_label_value}
-use Rattle.laws.specs.SelectorGrammar.{AreBlanks, IsValueText, IsKeyText, IsNegatedText, IsComparedText}
-use Rattle.definitions.specs.Selectors.{label_key, label_value, each_read, put_first, requiring}
-use Rattle.definitions.specs.SelectorTexts as texts
-use Rattle.definitions.specs.SelectorTexts.{is_comma, is_equals, is_opening, trimmed, before_last, compared_requirement, without_equals, plain_requirement, unblanked_requirement, requirement}
-use Rattle.laws.proofs.SelectorBlanks.{ends-plain, is_soft, soft-no-comma, soft-no-equals, soft-no-opening, soft-no-mark, all-append, all-none, all-at, soft-plain, soft-blanks, shortened, trimmed-over, trimmed-around, trimmed-plain-around, trimmed-plain-after, trimmed-plain-before, trimmed-shortened, all-shortened}
-use Rattle.laws.proofs.SelectorForms.{own-key, own-value}
-use Rattle.laws.proofs.SelectorPlain.{is_plain, cut-at, key-plain, value-plain, begins, begins-plain, ends-with, trimmed-plain}
-use Rattle.laws.proofs.SelectorTextsRead.{closes, last-here, not-marked, compares, no-key, exists-read}
+use Rattle.spec_api.proofs.Truths.{left_true, right_true}
+use Rattle.spec_api.specs.declared.selectors.Operator.{Operator}
+use Rattle.spec_api.specs.declared.selectors.Operator.TheVariants.{In, NotIn, Exists, DoesNotExist}
+use Rattle.spec_api.specs.Labels.{is_label_key, is_label_value}
+use Rattle.spec_laws.specs.SelectorGrammar.{AreBlanks, IsValueText, IsKeyText, IsNegatedText, IsComparedText}
+use Rattle.spec_api.specs.Selectors.{label_key, label_value, each_read, put_first, requiring}
+use Rattle.spec_api.specs.SelectorTexts as texts
+use Rattle.spec_api.specs.SelectorTexts.{is_comma, is_equals, is_opening, trimmed, before_last, compared_requirement, without_equals, plain_requirement, unblanked_requirement, requirement}
+use Rattle.spec_laws.proofs.SelectorBlanks.{ends-plain, is_soft, soft-no-comma, soft-no-equals, soft-no-opening, soft-no-mark, all-append, all-none, all-at, soft-plain, soft-blanks, shortened, trimmed-over, trimmed-around, trimmed-plain-around, trimmed-plain-after, trimmed-plain-before, trimmed-shortened, all-shortened}
+use Rattle.spec_laws.proofs.SelectorForms.{own-key, own-value}
+use Rattle.spec_laws.proofs.SelectorPlain.{is_plain, cut-at, key-plain, value-plain, begins, begins-plain, ends-with, trimmed-plain}
+use Rattle.spec_laws.proofs.SelectorTextsRead.{closes, last-here, not-marked, compares, no-key, exists-read}
 
 -- what is shown of a requirement's text: it is one part, is read as the requirement, and is not empty
 abbrev pub IsRead : List ℕ → List ℕ → Operator → List (List ℕ) → Type 0

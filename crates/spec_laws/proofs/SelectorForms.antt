@@ -5,16 +5,16 @@ use Rattle.std.specs.Str.{is_utf8}
 use Rattle.serde_json.specs.Data.{Data, string, array, object, Items, item, no_members, member}
 use Rattle.serde_json.specs.Written.{has_float, items_have_float}
 use Rattle.serde_json.proofs.OnLiterals.{serde_json_on_literals}
-use Rattle.definitions.proofs.Truths.{left_true, right_true}
-use Rattle.definitions.specs.declared.selectors.Operator.{Operator}
-use Rattle.definitions.specs.declared.selectors.Operator.TheVariants.{In, NotIn, Exists, DoesNotExist}
-use Rattle.definitions.specs.declared.schemas.Shape.TheVariants.{Object, Text}
-use Rattle.definitions.specs.declared.schemas.Schema.TheVariants.{Expression}
-use Rattle.definitions.specs.Labels.{is_label_key, is_label_value}
-use Rattle.definitions.specs.Reading.{fits, items_fit, tidied, tidied_items}
-use Rattle.laws.specs.SelectorForms.{is_sound, text_items, operator_name, expression_value, expression_items, selector_value, pair_value}
-use Rattle.definitions.specs.SelectorValues.{mistyped, operator_named, item_values, fitting, expression_requirement, expression_requirements, both, unfit, selector_of_value}
-use Rattle.definitions.specs.Selectors.{Requirement, label_key, label_value, each_read, put_first, requiring}
+use Rattle.spec_api.proofs.Truths.{left_true, right_true}
+use Rattle.spec_api.specs.declared.selectors.Operator.{Operator}
+use Rattle.spec_api.specs.declared.selectors.Operator.TheVariants.{In, NotIn, Exists, DoesNotExist}
+use Rattle.spec_api.specs.declared.schemas.Shape.TheVariants.{Object, Text}
+use Rattle.spec_api.specs.declared.schemas.Schema.TheVariants.{Expression}
+use Rattle.spec_api.specs.Labels.{is_label_key, is_label_value}
+use Rattle.spec_api.specs.Reading.{fits, items_fit, tidied, tidied_items}
+use Rattle.spec_laws.specs.SelectorForms.{is_sound, text_items, operator_name, expression_value, expression_items, selector_value, pair_value}
+use Rattle.spec_api.specs.SelectorValues.{mistyped, operator_named, item_values, fitting, expression_requirement, expression_requirements, both, unfit, selector_of_value}
+use Rattle.spec_api.specs.Selectors.{Requirement, label_key, label_value, each_read, put_first, requiring}
 
 pub own-value : (v : List ℕ) → is_label_value v ≡ true → label_value v ≡ Some v
 own-value v h = rw h refl

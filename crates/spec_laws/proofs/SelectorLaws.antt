@@ -1,11 +1,11 @@
 -- Requirements that stand in both of two lists.
 use Rattle.std.proofs.Common.{◌≡◌, inl, inr, ◌↔◌, ℕ, List, [], ◌∷◌, ◌++◌, Bool, true, false, ◌&&◌, None, refl, sym, ap, ◌∙◌}
 use Rattle.serde_json.specs.Data.{Members}
-use Rattle.definitions.proofs.Truths.{and_true, left_true, right_true}
-use Rattle.definitions.specs.declared.selectors.Operator.TheVariants.{In, NotIn}
-use Rattle.definitions.specs.Labels.{label_at}
-use Rattle.definitions.specs.Selectors.{Requirement, holds, meets, meets_all}
-use Rattle.laws.specs.SelectorLaws.{IsSaid}
+use Rattle.spec_api.proofs.Truths.{and_true, left_true, right_true}
+use Rattle.spec_api.specs.declared.selectors.Operator.TheVariants.{In, NotIn}
+use Rattle.spec_api.specs.Labels.{label_at}
+use Rattle.spec_api.specs.Selectors.{Requirement, holds, meets, meets_all}
+use Rattle.spec_laws.specs.SelectorLaws.{IsSaid}
 
 meets-said : (r : Requirement) (rs : List Requirement) (l : Members) → meets_all rs l ≡ true → IsSaid r rs → meets r l ≡ true
 meets-said r [] l h m = absurd m

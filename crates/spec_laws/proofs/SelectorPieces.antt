@@ -5,14 +5,14 @@ use Rattle.std.proofs.lemmas.List.{take_more}
 use Rattle.std.proofs.lemmas.List.Splits.{join_with_byte-slice_split, length-slice_split}
 use Rattle.std.proofs.lemmas.List.Sums.{split_at_first, passes_at_first}
 use Rattle.std.specs.List.{list_any, before_first, after_first, count_by, join_with_byte, position_or_len, slice_split}
-use Rattle.definitions.proofs.Truths.{left_true, right_true}
-use Rattle.definitions.specs.declared.selectors.Operator.{Operator}
-use Rattle.definitions.specs.Labels.{is_label_key, is_label_value}
-use Rattle.laws.specs.SelectorGrammar.{AreBlanks, IsValueText, AreValuesText, IsKeyText}
-use Rattle.definitions.specs.Selectors.{Requirement, label_key, label_value, each_read, only_if, put_first, requiring}
-use Rattle.definitions.specs.SelectorTexts.{is_blank, is_comma, trimmed, before_last, value_in}
-use Rattle.laws.proofs.SelectorBlanks.{all-append, trims}
-use Rattle.definitions.proofs.FirstPlaces.{some-place}
+use Rattle.spec_api.proofs.Truths.{left_true, right_true}
+use Rattle.spec_api.specs.declared.selectors.Operator.{Operator}
+use Rattle.spec_api.specs.Labels.{is_label_key, is_label_value}
+use Rattle.spec_laws.specs.SelectorGrammar.{AreBlanks, IsValueText, AreValuesText, IsKeyText}
+use Rattle.spec_api.specs.Selectors.{Requirement, label_key, label_value, each_read, only_if, put_first, requiring}
+use Rattle.spec_api.specs.SelectorTexts.{is_blank, is_comma, trimmed, before_last, value_in}
+use Rattle.spec_laws.proofs.SelectorBlanks.{all-append, trims}
+use Rattle.spec_api.proofs.FirstPlaces.{some-place}
 
 -- ---- what a result says of its parts
 

@@ -6,11 +6,11 @@ use Rattle.std.proofs.lemmas.List.{reverse-append, reverse-reverse}
 use Rattle.std.proofs.lemmas.List.Folds.{list_all-append}
 use Rattle.std.proofs.lemmas.List.Sums.{split_at_first, passes_at_first}
 use Rattle.std.specs.List.{list_all, list_any, join_with_byte, slice_split, onto_first, before_first, after_first, position_or_len}
-use Rattle.definitions.proofs.FirstPlaces.{some-place}
-use Rattle.definitions.proofs.Truths.{and_true, left_true, right_true}
-use Rattle.definitions.specs.Keys.{is_letter_or_digit, is_label, is_subdomain}
-use Rattle.definitions.specs.Labels.{is_name_byte, is_alphanumeric, is_short_name, is_label_value, is_label_key, is_slash}
-use Rattle.definitions.specs.SelectorTexts.{is_blank, is_comma, is_equals, is_opening, without_first_blanks, trimmed}
+use Rattle.spec_api.proofs.FirstPlaces.{some-place}
+use Rattle.spec_api.proofs.Truths.{and_true, left_true, right_true}
+use Rattle.spec_api.specs.Keys.{is_letter_or_digit, is_label, is_subdomain}
+use Rattle.spec_api.specs.Labels.{is_name_byte, is_alphanumeric, is_short_name, is_label_value, is_label_key, is_slash}
+use Rattle.spec_api.specs.SelectorTexts.{is_blank, is_comma, is_equals, is_opening, without_first_blanks, trimmed}
 
 abbrev pub is_plain : ℕ → Bool
 is_plain b = is_name_byte b || is_slash b

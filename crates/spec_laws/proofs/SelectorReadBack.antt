@@ -3,16 +3,16 @@ use Rattle.std.proofs.Common.{◌≡◌, ℕ, ◌+◌, ◌<◌, ◌≤◌, List,
 use Rattle.std.proofs.lemmas.List.{drop_all}
 use Rattle.std.proofs.lemmas.Slice.Eq.{bytes_eq-Decides}
 use Rattle.std.specs.List.{list_all, list_any, before_first, after_first, join_with_byte, onto_first, position_or_len, slice_split}
-use Rattle.definitions.proofs.Truths.{and_true, left_true}
-use Rattle.definitions.specs.declared.selectors.Operator.{Operator}
-use Rattle.definitions.specs.declared.selectors.Operator.TheVariants.{In, NotIn, Exists, DoesNotExist}
-use Rattle.laws.specs.GrammarLaws.{ReadTextsAreWritten}
-use Rattle.laws.specs.SelectorGrammar.{AreBlanks, IsKeyText, IsSign, IsWord, IsRequirementText, alone, negated, compared, listed, IsSelectorText}
-use Rattle.definitions.specs.Selectors.{Requirement, label_key, label_value, each_read, only_if, requiring}
-use Rattle.definitions.specs.SelectorTexts as texts
-use Rattle.definitions.specs.SelectorTexts.{is_blank, is_comma, is_equals, is_opening, trimmed, still_inside, parts_from, parts, before_last, compared_requirement, without_equals, set_operator, value_in, listed_values, in_requirement, plain_requirement, unblanked_requirement, requirement, selector_of_text}
-use Rattle.laws.proofs.SelectorBlanks.{only-blanks, shortened, trims}
-use Rattle.laws.proofs.SelectorPieces.{required, put, one-list, key-is, written-key, written-value, same-byte, at-byte, cut-back, last-back, Joined, joined, values-written}
+use Rattle.spec_api.proofs.Truths.{and_true, left_true}
+use Rattle.spec_api.specs.declared.selectors.Operator.{Operator}
+use Rattle.spec_api.specs.declared.selectors.Operator.TheVariants.{In, NotIn, Exists, DoesNotExist}
+use Rattle.spec_laws.specs.GrammarLaws.{ReadTextsAreWritten}
+use Rattle.spec_laws.specs.SelectorGrammar.{AreBlanks, IsKeyText, IsSign, IsWord, IsRequirementText, alone, negated, compared, listed, IsSelectorText}
+use Rattle.spec_api.specs.Selectors.{Requirement, label_key, label_value, each_read, only_if, requiring}
+use Rattle.spec_api.specs.SelectorTexts as texts
+use Rattle.spec_api.specs.SelectorTexts.{is_blank, is_comma, is_equals, is_opening, trimmed, still_inside, parts_from, parts, before_last, compared_requirement, without_equals, set_operator, value_in, listed_values, in_requirement, plain_requirement, unblanked_requirement, requirement, selector_of_text}
+use Rattle.spec_laws.proofs.SelectorBlanks.{only-blanks, shortened, trims}
+use Rattle.spec_laws.proofs.SelectorPieces.{required, put, one-list, key-is, written-key, written-value, same-byte, at-byte, cut-back, last-back, Joined, joined, values-written}
 
 -- a text that is written with this requirement, blanks before and after it
 abbrev Around : List ℕ → List ℕ → List ℕ → Requirement → Type 0

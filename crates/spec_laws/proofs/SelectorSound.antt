@@ -6,16 +6,16 @@ use Rattle.std.proofs.lemmas.List.Folds.{list_all-append}
 use Rattle.serde_json.specs.Data.{Data, Items, no_items, item, Members, no_members, member}
 use Rattle.serde_json.specs.Find.{get}
 use Rattle.serde_json.specs.Written.{has_float}
-use Rattle.definitions.proofs.Truths.{and_true}
-use Rattle.definitions.specs.Reading.{fits, tidied}
-use Rattle.definitions.specs.declared.selectors.Operator.{Operator}
-use Rattle.definitions.specs.declared.selectors.Operator.TheVariants.{In, NotIn, Exists, DoesNotExist}
-use Rattle.definitions.specs.Labels.{is_label_key, is_label_value}
-use Rattle.laws.specs.SelectorForms.{is_sound}
-use Rattle.definitions.specs.SelectorTexts.{is_blank, is_comma, is_equals, is_opening, trimmed, without_equals, parts, before_last, compared, comparison, compared_requirement, set_operator, value_in, listed_values, in_requirement, plain_requirement, unblanked_requirement, requirement, selector_of_text}
-use Rattle.definitions.specs.SelectorValues.{Flaw, mistyped, unfit, selector_shape, requirements_in, text_in, items_in, label_requirements, operator_named, item_values, fitting, expression_requirement, expression_requirements, both, selector_of_value}
-use Rattle.definitions.specs.Values.{inner_of}
-use Rattle.definitions.specs.Selectors.{Requirement, label_key, label_value, each_read, only_if, put_first, requiring}
+use Rattle.spec_api.proofs.Truths.{and_true}
+use Rattle.spec_api.specs.Reading.{fits, tidied}
+use Rattle.spec_api.specs.declared.selectors.Operator.{Operator}
+use Rattle.spec_api.specs.declared.selectors.Operator.TheVariants.{In, NotIn, Exists, DoesNotExist}
+use Rattle.spec_api.specs.Labels.{is_label_key, is_label_value}
+use Rattle.spec_laws.specs.SelectorForms.{is_sound}
+use Rattle.spec_api.specs.SelectorTexts.{is_blank, is_comma, is_equals, is_opening, trimmed, without_equals, parts, before_last, compared, comparison, compared_requirement, set_operator, value_in, listed_values, in_requirement, plain_requirement, unblanked_requirement, requirement, selector_of_text}
+use Rattle.spec_api.specs.SelectorValues.{Flaw, mistyped, unfit, selector_shape, requirements_in, text_in, items_in, label_requirements, operator_named, item_values, fitting, expression_requirement, expression_requirements, both, selector_of_value}
+use Rattle.spec_api.specs.Values.{inner_of}
+use Rattle.spec_api.specs.Selectors.{Requirement, label_key, label_value, each_read, only_if, put_first, requiring}
 
 abbrev IsSoundOr : Option Requirement → Type 0
 IsSoundOr None = Unit {0}

@@ -5,16 +5,16 @@ use Rattle.std.proofs.lemmas.List.{length-append, get_or_push, reverse-append}
 use Rattle.std.proofs.lemmas.List.Folds.{list_any-append}
 use Rattle.std.proofs.Math.Seq.{take-append_seam}
 use Rattle.std.specs.List.{list_all, list_any, before_first, after_first, onto_first, slice_split, join_with_byte}
-use Rattle.definitions.proofs.Truths.{and_true, left_true, not_both, right_true}
-use Rattle.definitions.specs.declared.selectors.Operator.{Operator}
-use Rattle.definitions.specs.declared.selectors.Operator.TheVariants.{In, NotIn, Exists, DoesNotExist}
-use Rattle.definitions.specs.Labels.{is_label_key, is_label_value}
-use Rattle.laws.specs.SelectorForms.{is_sound, text_with, requirement_text, selector_text}
-use Rattle.definitions.specs.SelectorTexts.{is_blank, is_comma, is_equals, is_opening, trimmed, still_inside, parts_from, parts, before_last, compared, compared_requirement, without_equals, set_operator, value_in, listed_values, in_requirement, plain_requirement, unblanked_requirement, requirement, selector_of_text}
-use Rattle.definitions.specs.SelectorValues.{fitting}
-use Rattle.definitions.specs.Selectors.{Requirement, label_key, label_value, each_read, only_if, put_first, requiring}
-use Rattle.laws.proofs.SelectorForms.{own-key, own-value}
-use Rattle.laws.proofs.SelectorPlain.{is_plain, none, plain-no-blank, plain-no-comma, plain-no-equals, plain-no-opening, plain-no-closing, plain-no-mark, cut-at, key-plain, value-plain, joined-split, begins, begins-plain, trimmed-is, trimmed-plain, ends-with, ends-in}
+use Rattle.spec_api.proofs.Truths.{and_true, left_true, not_both, right_true}
+use Rattle.spec_api.specs.declared.selectors.Operator.{Operator}
+use Rattle.spec_api.specs.declared.selectors.Operator.TheVariants.{In, NotIn, Exists, DoesNotExist}
+use Rattle.spec_api.specs.Labels.{is_label_key, is_label_value}
+use Rattle.spec_laws.specs.SelectorForms.{is_sound, text_with, requirement_text, selector_text}
+use Rattle.spec_api.specs.SelectorTexts.{is_blank, is_comma, is_equals, is_opening, trimmed, still_inside, parts_from, parts, before_last, compared, compared_requirement, without_equals, set_operator, value_in, listed_values, in_requirement, plain_requirement, unblanked_requirement, requirement, selector_of_text}
+use Rattle.spec_api.specs.SelectorValues.{fitting}
+use Rattle.spec_api.specs.Selectors.{Requirement, label_key, label_value, each_read, only_if, put_first, requiring}
+use Rattle.spec_laws.proofs.SelectorForms.{own-key, own-value}
+use Rattle.spec_laws.proofs.SelectorPlain.{is_plain, none, plain-no-blank, plain-no-comma, plain-no-equals, plain-no-opening, plain-no-closing, plain-no-mark, cut-at, key-plain, value-plain, joined-split, begins, begins-plain, trimmed-is, trimmed-plain, ends-with, ends-in}
 
 -- ---- parts
 

@@ -2,18 +2,18 @@
 use Rattle.std.proofs.Common.{◌≡◌, ℕ, ◌<◌, List, [], ◌∷◌, ◌++◌, Bool, true, false, true≢false, ◌==◌, Some, length, reverse, option_and_then, refl, sym, subst, ap, ap₂, ◌∙◌, arith, append_assoc, append-nil}
 use Rattle.std.proofs.lemmas.Bool.Decides.{nat_tests}
 use Rattle.std.specs.List.{list_all, list_any, before_first, after_first, slice_split}
-use Rattle.definitions.proofs.Truths.{left_true, right_true}
-use Rattle.definitions.specs.declared.selectors.Operator.{Operator}
-use Rattle.definitions.specs.declared.selectors.Operator.TheVariants.{In, NotIn, Exists, DoesNotExist}
-use Rattle.laws.specs.GrammarLaws.{WrittenTextsAreRead, TextsAreClear}
-use Rattle.laws.specs.SelectorGrammar.{AreBlanks, IsValueText, AreValuesText, IsWord, IsListedText, IsRequirementText, alone, negated, compared, listed, IsSelectorText}
-use Rattle.definitions.specs.Selectors.{Requirement, label_key, label_value, each_read, put_first, requiring}
-use Rattle.definitions.specs.SelectorTexts.{is_blank, is_comma, is_opening, trimmed, parts, before_last, set_operator, value_in, listed_values, plain_requirement, unblanked_requirement, requirement, selector_of_text}
-use Rattle.laws.proofs.SelectorBlanks.{is_soft, soft-no-comma, soft-no-opening, all-append, all-weaker, all-none, soft-plain, soft-blanks, trimmed-around, trimmed-plain-around, all-blank}
-use Rattle.laws.proofs.SelectorCompared.{IsRead, closes-soft, closes-only, closes-inner, is_inner, inner-soft, some-text, value-soft, value-trimmed, some-key, alone-read, negated-read, compared-read, begins-key, plain-key}
-use Rattle.laws.proofs.SelectorForms.{own-key, own-value}
-use Rattle.laws.proofs.SelectorPlain.{is_plain, none, plain-no-blank, cut-at, key-plain, begins, ends-with, split-here, split-nowhere}
-use Rattle.laws.proofs.SelectorTextsRead.{closes, one-part, more-parts, last-here, lists, said}
+use Rattle.spec_api.proofs.Truths.{left_true, right_true}
+use Rattle.spec_api.specs.declared.selectors.Operator.{Operator}
+use Rattle.spec_api.specs.declared.selectors.Operator.TheVariants.{In, NotIn, Exists, DoesNotExist}
+use Rattle.spec_laws.specs.GrammarLaws.{WrittenTextsAreRead, TextsAreClear}
+use Rattle.spec_laws.specs.SelectorGrammar.{AreBlanks, IsValueText, AreValuesText, IsWord, IsListedText, IsRequirementText, alone, negated, compared, listed, IsSelectorText}
+use Rattle.spec_api.specs.Selectors.{Requirement, label_key, label_value, each_read, put_first, requiring}
+use Rattle.spec_api.specs.SelectorTexts.{is_blank, is_comma, is_opening, trimmed, parts, before_last, set_operator, value_in, listed_values, plain_requirement, unblanked_requirement, requirement, selector_of_text}
+use Rattle.spec_laws.proofs.SelectorBlanks.{is_soft, soft-no-comma, soft-no-opening, all-append, all-weaker, all-none, soft-plain, soft-blanks, trimmed-around, trimmed-plain-around, all-blank}
+use Rattle.spec_laws.proofs.SelectorCompared.{IsRead, closes-soft, closes-only, closes-inner, is_inner, inner-soft, some-text, value-soft, value-trimmed, some-key, alone-read, negated-read, compared-read, begins-key, plain-key}
+use Rattle.spec_laws.proofs.SelectorForms.{own-key, own-value}
+use Rattle.spec_laws.proofs.SelectorPlain.{is_plain, none, plain-no-blank, cut-at, key-plain, begins, ends-with, split-here, split-nowhere}
+use Rattle.spec_laws.proofs.SelectorTextsRead.{closes, one-part, more-parts, last-here, lists, said}
 
 -- ---- `k in (v,w)` and `k notin (v,w)`
 

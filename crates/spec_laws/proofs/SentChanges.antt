@@ -6,31 +6,31 @@ use Rattle.std.specs.List.{AllByRecursion}
 use Rattle.serde_json.specs.Data.{Data, null, boolean, number, string, array, object, put, depth}
 use Rattle.serde_json.specs.Find.{as_object}
 use Rattle.serde_json.specs.Written.{compact_text, has_float}
-use Rattle.definitions.proofs.Truths.{both_true}
-use Rattle.definitions.specs.declared.kinds.Kind.{Kind}
-use Rattle.definitions.specs.declared.schemas.Shape.TheVariants.{Object}
-use Rattle.definitions.specs.declared.schemas.Schema.TheVariants.{Root}
-use Rattle.definitions.specs.Kinds.{rank}
-use Rattle.definitions.specs.Events.{Event, event_of, events_after, gone_at}
-use Rattle.definitions.specs.History.{Write, writes, present, up_to, last_of, in_view, seen}
-use Rattle.definitions.specs.Metadata.{at_revision, metadata_of, metadata_text, name, namespace, uid}
-use Rattle.definitions.specs.Keys.{Key}
-use Rattle.definitions.specs.Reading.{reading, is_body, fits, tidied, filled}
-use Rattle.controllers.specs.Reflectors.{shown, shown_read, has_identity, revision, name_in}
-use Rattle.definitions.specs.Revisions.{revision_of}
-use Rattle.laws.specs.SentLaws.{IsKept, IsTold, IsShort, ChangesAreTold, whole}
-use Rattle.definitions.specs.Values.{members_of}
-use Rattle.laws.proofs.SetMetadata.{version-at_revision}
-use Rattle.definitions.proofs.KindOrder.{rank_tells}
-use Rattle.definitions.proofs.JsonMembers.{text_in-put_other, metadata_text-with}
-use Rattle.laws.proofs.Limited.{limited}
-use Rattle.laws.proofs.AppliedEvents.{up_to-split}
-use Rattle.laws.proofs.ReadAgain.{opened}
-use Rattle.definitions.proofs.RevisionTexts.{revision_is}
-use Rattle.laws.proofs.SentObjects.{IsStored, IsHeld, filled_decimal, whole_stored}
-use Rattle.laws.proofs.Stored.{AreStored, AreStored-split, AreStored-up_to, last_held, all_stored}
-use Rattle.laws.proofs.TextLengths.{fits_at}
-use Rattle.laws.proofs.WholeObjects.{neat_metadata, reads_whole, whole_at}
+use Rattle.spec_api.proofs.Truths.{both_true}
+use Rattle.spec_api.specs.declared.kinds.Kind.{Kind}
+use Rattle.spec_api.specs.declared.schemas.Shape.TheVariants.{Object}
+use Rattle.spec_api.specs.declared.schemas.Schema.TheVariants.{Root}
+use Rattle.spec_api.specs.Kinds.{rank}
+use Rattle.spec_api.specs.Events.{Event, event_of, events_after, gone_at}
+use Rattle.spec_api.specs.History.{Write, writes, present, up_to, last_of, in_view, seen}
+use Rattle.spec_api.specs.Metadata.{at_revision, metadata_of, metadata_text, name, namespace, uid}
+use Rattle.spec_api.specs.Keys.{Key}
+use Rattle.spec_api.specs.Reading.{reading, is_body, fits, tidied, filled}
+use Rattle.spec_client_go.specs.Reflectors.{shown, shown_read, has_identity, revision, name_in}
+use Rattle.spec_api.specs.Revisions.{revision_of}
+use Rattle.spec_laws.specs.SentLaws.{IsKept, IsTold, IsShort, ChangesAreTold, whole}
+use Rattle.spec_api.specs.Values.{members_of}
+use Rattle.spec_laws.proofs.SetMetadata.{version-at_revision}
+use Rattle.spec_api.proofs.KindOrder.{rank_tells}
+use Rattle.spec_api.proofs.JsonMembers.{text_in-put_other, metadata_text-with}
+use Rattle.spec_laws.proofs.Limited.{limited}
+use Rattle.spec_laws.proofs.AppliedEvents.{up_to-split}
+use Rattle.spec_laws.proofs.ReadAgain.{opened}
+use Rattle.spec_api.proofs.RevisionTexts.{revision_is}
+use Rattle.spec_laws.proofs.SentObjects.{IsStored, IsHeld, filled_decimal, whole_stored}
+use Rattle.spec_laws.proofs.Stored.{AreStored, AreStored-split, AreStored-up_to, last_held, all_stored}
+use Rattle.spec_laws.proofs.TextLengths.{fits_at}
+use Rattle.spec_laws.proofs.WholeObjects.{neat_metadata, reads_whole, whole_at}
 
 -- ---- an object that is gone
 

@@ -10,35 +10,35 @@ use Rattle.serde_json.specs.Data.{Data, null, boolean, number, string, array, ob
 use Rattle.serde_json.specs.Find.{get_member}
 use Rattle.serde_json.specs.Read.{read}
 use Rattle.serde_json.specs.View.{items_of}
-use Rattle.definitions.specs.declared.kinds.Kind.{Kind}
-use Rattle.definitions.specs.declared.kinds.Kind.TheVariants.{ConfigMap, Pod, ReplicaSet, Deployment}
-use Rattle.definitions.specs.declared.schemas.Property.{Property}
-use Rattle.definitions.specs.declared.schemas.Shape.TheVariants.{NameOf, VersionOf, Object as ObjectOf}
-use Rattle.definitions.specs.declared.schemas.Schema.TheVariants.{Root}
-use Rattle.definitions.specs.Kinds.{api_version, kind_text}
-use Rattle.definitions.specs.History.{History, Entries, present, up_to, after_all, put_or_remove, in_view, viewed, list}
-use Rattle.definitions.specs.Keys.{Key, key_cmp, is_same_key}
-use Rattle.definitions.specs.Objects.{Object}
-use Rattle.definitions.specs.Reading.{reading, is_body, is_absent, fits, tidied, filled, empty}
-use Rattle.definitions.specs.Schemas.{with_shape, property_at}
-use Rattle.definitions.specs.Values.{members_of, without, is_null}
-use Rattle.definitions.specs.Verbs.{as_item, list_body}
-use Rattle.controllers.specs.Reflectors.{Shown, shown, shown_read, name_in, all_shown, apart, items_shown, repeats, is_list, revision, list_in, list_of, put_all}
-use Rattle.definitions.specs.Reached.{IsReached}
-use Rattle.laws.specs.SentLaws.{whole, objects_in, ListsArePut, ListsAreRead, ListsNest}
-use Rattle.definitions.proofs.JsonMembers.{get_member-without_other}
-use Rattle.laws.proofs.JsonOrder.{IsOrdered, IsOrdered-without, put_back, gone}
-use Rattle.laws.proofs.Limited.{limited}
-use Rattle.laws.proofs.NeatMembers.{Neat, Neat-get, Neat-without, Neat-depth, Neat-whole, Neat-fits, Neat-tidy, opens}
-use Rattle.definitions.proofs.PutLaws.{name_cmp_total, IsAbove, IsAscending}
-use Rattle.laws.proofs.Parsed.{inside}
-use Rattle.laws.proofs.ReadAgain.{Has, HasSpec, Filled, Filled-filled, defaulted, spec_members, filled_members, filled-object, closed, tidied_members-MembersTidy}
-use Rattle.definitions.proofs.RevisionTexts.{revision_is}
-use Rattle.laws.proofs.SentChanges.{shown_is, name_is, same_kind, nests, read_body}
-use Rattle.laws.proofs.SentObjects.{IsHeld}
-use Rattle.laws.proofs.EachWrite.{Held, held_all}
-use Rattle.laws.proofs.Stored.{AreStored-up_to, all_stored, held_puts}
-use Rattle.laws.proofs.Streamed.{put_last, list_ascending}
+use Rattle.spec_api.specs.declared.kinds.Kind.{Kind}
+use Rattle.spec_api.specs.declared.kinds.Kind.TheVariants.{ConfigMap, Pod, ReplicaSet, Deployment}
+use Rattle.spec_api.specs.declared.schemas.Property.{Property}
+use Rattle.spec_api.specs.declared.schemas.Shape.TheVariants.{NameOf, VersionOf, Object as ObjectOf}
+use Rattle.spec_api.specs.declared.schemas.Schema.TheVariants.{Root}
+use Rattle.spec_api.specs.Kinds.{api_version, kind_text}
+use Rattle.spec_api.specs.History.{History, Entries, present, up_to, after_all, put_or_remove, in_view, viewed, list}
+use Rattle.spec_api.specs.Keys.{Key, key_cmp, is_same_key}
+use Rattle.spec_api.specs.Objects.{Object}
+use Rattle.spec_api.specs.Reading.{reading, is_body, is_absent, fits, tidied, filled, empty}
+use Rattle.spec_api.specs.Schemas.{with_shape, property_at}
+use Rattle.spec_api.specs.Values.{members_of, without, is_null}
+use Rattle.spec_api.specs.Verbs.{as_item, list_body}
+use Rattle.spec_client_go.specs.Reflectors.{Shown, shown, shown_read, name_in, all_shown, apart, items_shown, repeats, is_list, revision, list_in, list_of, put_all}
+use Rattle.spec_api.specs.Reached.{IsReached}
+use Rattle.spec_laws.specs.SentLaws.{whole, objects_in, ListsArePut, ListsAreRead, ListsNest}
+use Rattle.spec_api.proofs.JsonMembers.{get_member-without_other}
+use Rattle.spec_laws.proofs.JsonOrder.{IsOrdered, IsOrdered-without, put_back, gone}
+use Rattle.spec_laws.proofs.Limited.{limited}
+use Rattle.spec_laws.proofs.NeatMembers.{Neat, Neat-get, Neat-without, Neat-depth, Neat-whole, Neat-fits, Neat-tidy, opens}
+use Rattle.spec_api.proofs.PutLaws.{name_cmp_total, IsAbove, IsAscending}
+use Rattle.spec_laws.proofs.Parsed.{inside}
+use Rattle.spec_laws.proofs.ReadAgain.{Has, HasSpec, Filled, Filled-filled, defaulted, spec_members, filled_members, filled-object, closed, tidied_members-MembersTidy}
+use Rattle.spec_api.proofs.RevisionTexts.{revision_is}
+use Rattle.spec_laws.proofs.SentChanges.{shown_is, name_is, same_kind, nests, read_body}
+use Rattle.spec_laws.proofs.SentObjects.{IsHeld}
+use Rattle.spec_laws.proofs.EachWrite.{Held, held_all}
+use Rattle.spec_laws.proofs.Stored.{AreStored-up_to, all_stored, held_puts}
+use Rattle.spec_laws.proofs.Streamed.{put_last, list_ascending}
 
 -- ---- an item says what the object says
 

@@ -5,37 +5,37 @@ use Rattle.std.proofs.lemmas.Fmt.{decimal_nonempty}
 use Rattle.std.specs.List.{list_all}
 use Rattle.serde_json.specs.Data.{Data, string, object, Members, put}
 use Rattle.serde_json.specs.Written.{compact_text}
-use Rattle.definitions.proofs.Truths.{both_true}
-use Rattle.definitions.specs.declared.kinds.Kind.{Kind}
-use Rattle.definitions.specs.declared.refusals.Field.{Field}
-use Rattle.definitions.specs.declared.refusals.Field.TheVariants as field
-use Rattle.definitions.specs.declared.refusals.Mismatch.TheVariants as mismatch
-use Rattle.definitions.specs.declared.schemas.Schema.TheVariants.{Metadata}
-use Rattle.definitions.specs.Checks.{create_fault, generate_name, generates, is_generating_byte, is_name_valid, is_generate_name_valid, passes_if_there}
-use Rattle.definitions.specs.Defaults.{unsigned_value}
-use Rattle.definitions.specs.GeneratedNames.{name_from}
-use Rattle.definitions.specs.Kinds.{has_generation}
-use Rattle.definitions.specs.Keys.{Key, is_subdomain}
-use Rattle.definitions.specs.History as history
-use Rattle.laws.specs.HistoryLaws.{OfStored}
-use Rattle.definitions.specs.Metadata.{differs, metadata_of, with_metadata, name, uid, version, at_revision}
-use Rattle.definitions.specs.NewObjects.{new_metadata, with_first_status}
-use Rattle.definitions.specs.Refusals.{Refusal, conflict, too_large, storage_full}
-use Rattle.laws.specs.SentLaws.{IsKept}
-use Rattle.definitions.specs.Uids.{uid_text, cluster_word}
-use Rattle.definitions.specs.Values.{members_of, without}
-use Rattle.definitions.specs.Verbs.{Outcome, refused, refuse_field, stored, new_name, is_free, put_in_place, if_same, is_too_large, is_past_greatest}
-use Rattle.laws.proofs.Guards.{guard, guard_field}
-use Rattle.laws.proofs.SetMetadata.{at_most, version-at_revision, text-at_revision}
-use Rattle.definitions.proofs.JsonMembers.{text_in, metadata_of-with}
-use Rattle.laws.proofs.DeletionTimestamps.{HasRoom, room_written}
-use Rattle.laws.proofs.NeatMembers.{Neat, Neat-put, Neat-without, IsFilled, One, one_text}
-use Rattle.definitions.specs.Reached.{IsParsed}
-use Rattle.laws.proofs.Parsed.{Both}
-use Rattle.laws.proofs.ParsedObjects.{at}
-use Rattle.laws.proofs.TextLengths.{put_twice}
-use Rattle.definitions.proofs.FirstStatus.{metadata_of-first}
-use Rattle.laws.proofs.WholeObjects.{AreWhole, reads_whole, whole_at, whole_read}
+use Rattle.spec_api.proofs.Truths.{both_true}
+use Rattle.spec_api.specs.declared.kinds.Kind.{Kind}
+use Rattle.spec_api.specs.declared.refusals.Field.{Field}
+use Rattle.spec_api.specs.declared.refusals.Field.TheVariants as field
+use Rattle.spec_api.specs.declared.refusals.Mismatch.TheVariants as mismatch
+use Rattle.spec_api.specs.declared.schemas.Schema.TheVariants.{Metadata}
+use Rattle.spec_api.specs.Checks.{create_fault, generate_name, generates, is_generating_byte, is_name_valid, is_generate_name_valid, passes_if_there}
+use Rattle.spec_api.specs.Defaults.{unsigned_value}
+use Rattle.spec_api.specs.GeneratedNames.{name_from}
+use Rattle.spec_api.specs.Kinds.{has_generation}
+use Rattle.spec_api.specs.Keys.{Key, is_subdomain}
+use Rattle.spec_api.specs.History as history
+use Rattle.spec_laws.specs.HistoryLaws.{OfStored}
+use Rattle.spec_api.specs.Metadata.{differs, metadata_of, with_metadata, name, uid, version, at_revision}
+use Rattle.spec_api.specs.NewObjects.{new_metadata, with_first_status}
+use Rattle.spec_api.specs.Refusals.{Refusal, conflict, too_large, storage_full}
+use Rattle.spec_laws.specs.SentLaws.{IsKept}
+use Rattle.spec_api.specs.Uids.{uid_text, cluster_word}
+use Rattle.spec_api.specs.Values.{members_of, without}
+use Rattle.spec_api.specs.Verbs.{Outcome, refused, refuse_field, stored, new_name, is_free, put_in_place, if_same, is_too_large, is_past_greatest}
+use Rattle.spec_laws.proofs.Guards.{guard, guard_field}
+use Rattle.spec_laws.proofs.SetMetadata.{at_most, version-at_revision, text-at_revision}
+use Rattle.spec_api.proofs.JsonMembers.{text_in, metadata_of-with}
+use Rattle.spec_laws.proofs.DeletionTimestamps.{HasRoom, room_written}
+use Rattle.spec_laws.proofs.NeatMembers.{Neat, Neat-put, Neat-without, IsFilled, One, one_text}
+use Rattle.spec_api.specs.Reached.{IsParsed}
+use Rattle.spec_laws.proofs.Parsed.{Both}
+use Rattle.spec_laws.proofs.ParsedObjects.{at}
+use Rattle.spec_laws.proofs.TextLengths.{put_twice}
+use Rattle.spec_api.proofs.FirstStatus.{metadata_of-first}
+use Rattle.spec_laws.proofs.WholeObjects.{AreWhole, reads_whole, whole_at, whole_read}
 
 -- an object as it is stored, and what the next write of it goes by
 pub record IsStored (k : Key) (r : ℕ) (d : Data) : Type 0 where

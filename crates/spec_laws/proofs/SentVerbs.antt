@@ -5,47 +5,47 @@ use Rattle.serde_json.specs.Data.{Data, string, array, object, Items, put}
 use Rattle.serde_json.specs.Events.{items_len}
 use Rattle.serde_json.specs.Find.{get}
 use Rattle.serde_json.proofs.Views.{get_member-put_other}
-use Rattle.definitions.proofs.Truths.{right_false}
-use Rattle.definitions.specs.declared.kinds.Kind.{Kind}
-use Rattle.definitions.specs.declared.policies.Policy.{Policy}
-use Rattle.definitions.specs.declared.refusals.Field.TheVariants as field
-use Rattle.definitions.specs.declared.refusals.Part.{Part}
-use Rattle.definitions.specs.declared.refusals.Part.TheVariants as part
-use Rattle.definitions.specs.declared.refusals.Mismatch.TheVariants as mismatch
-use Rattle.definitions.specs.declared.schemas.Schema.TheVariants.{Metadata}
-use Rattle.definitions.specs.Checks.{update_fault, is_status_valid, finalizers}
-use Rattle.definitions.specs.DeleteOptions.{Options}
-use Rattle.definitions.specs.Deletion.{Fate, remove, mark, keep, decided, fate, kept_code, leaves, left_by, being_deleted, removal_of, with_deletion}
-use Rattle.definitions.specs.Kinds.{has_generation, has_status}
-use Rattle.definitions.specs.Keys.{Key, is_namespace}
-use Rattle.definitions.specs.History as history
-use Rattle.definitions.specs.History.{History, entries_at, found, present}
-use Rattle.definitions.specs.Metadata.{is_other, differs, metadata_of, name, namespace, uid, version, at_revision, is_being_deleted}
-use Rattle.definitions.specs.NewObjects.{first_status, new_metadata, with_status}
-use Rattle.definitions.specs.Reading.{reading, is_body}
-use Rattle.definitions.specs.Refusals.{bad_request, not_found, invalid, storage_full}
-use Rattle.definitions.specs.Replacements.{generation, in_place, is_finalized, is_new_generation, next_generation, status_in, says_the_same, updated, with_next_generation, with_status_in}
-use Rattle.definitions.specs.Values.{inner_of, members_of, merged}
-use Rattle.definitions.specs.Verbs.{accept, by_decision, removed, stored, shown, object_in, new_name, replace, take_out, put_in_place, replace_status, names_path, is_past_greatest, most_objects}
-use Rattle.definitions.specs.ObjectRequests.{Request, get_object, list_objects, create_object, update_object, update_status, patch_object, delete_object}
-use Rattle.definitions.proofs.VerbSteps.{by_fate, delete, create_read, update_read, replace_with, replace_changed, status_read, restate, patch, patch_read, status_put}
-use Rattle.laws.proofs.Cases.{of_create}
-use Rattle.laws.proofs.Guards.{there, either}
-use Rattle.laws.proofs.SetMetadata.{name-new_metadata, namespace-new_metadata, uid-new_metadata, name-in_place, namespace-in_place, uid-in_place, text-with_next_generation}
-use Rattle.definitions.proofs.JsonMembers.{apart, text_in, text_in-put_other, metadata_of-with}
-use Rattle.laws.proofs.JsonOrder.{IsOrdered}
-use Rattle.laws.proofs.LeftFinalizers.{one_finalizers, texts_held, texts_left}
-use Rattle.laws.proofs.DeletionTimestamps.{marked_fits, room_marked, with_finalizers}
-use Rattle.laws.proofs.NameBytes.{namespace_text, name_text}
-use Rattle.laws.proofs.NeatMembers.{Neat, Neat-put, IsFilled, One}
-use Rattle.definitions.specs.Reached.{IsParsed, CanBeRead, IsTimestamp}
-use Rattle.laws.proofs.Parsed.{parsed_said, parsed_reading, parsed_merged}
-use Rattle.laws.proofs.ParsedObjects.{meta as meta_of, new_meta, new_members, placed, counted, restated, marked_meta}
-use Rattle.laws.proofs.TextLengths.{put_twice}
-use Rattle.laws.proofs.VerbLaws.{kept_is, text-with_deletion}
-use Rattle.definitions.proofs.FirstStatus.{get-members_of}
-use Rattle.laws.proofs.WholeObjects.{AreWhole, may_first, neat_metadata, whole_in_place, whole_read, whole_said, whole_status, whole_with_said}
-use Rattle.laws.proofs.SentObjects.{IsStored, IsHeld, Says, stored_in, stored_at, whole_stored, created_valid, filled_new, neat_generation, neat_new, filled_long, Stores, low_after, behind, behind_field, by_if_same, by_put}
+use Rattle.spec_api.proofs.Truths.{right_false}
+use Rattle.spec_api.specs.declared.kinds.Kind.{Kind}
+use Rattle.spec_api.specs.declared.policies.Policy.{Policy}
+use Rattle.spec_api.specs.declared.refusals.Field.TheVariants as field
+use Rattle.spec_api.specs.declared.refusals.Part.{Part}
+use Rattle.spec_api.specs.declared.refusals.Part.TheVariants as part
+use Rattle.spec_api.specs.declared.refusals.Mismatch.TheVariants as mismatch
+use Rattle.spec_api.specs.declared.schemas.Schema.TheVariants.{Metadata}
+use Rattle.spec_api.specs.Checks.{update_fault, is_status_valid, finalizers}
+use Rattle.spec_api.specs.DeleteOptions.{Options}
+use Rattle.spec_api.specs.Deletion.{Fate, remove, mark, keep, decided, fate, kept_code, leaves, left_by, being_deleted, removal_of, with_deletion}
+use Rattle.spec_api.specs.Kinds.{has_generation, has_status}
+use Rattle.spec_api.specs.Keys.{Key, is_namespace}
+use Rattle.spec_api.specs.History as history
+use Rattle.spec_api.specs.History.{History, entries_at, found, present}
+use Rattle.spec_api.specs.Metadata.{is_other, differs, metadata_of, name, namespace, uid, version, at_revision, is_being_deleted}
+use Rattle.spec_api.specs.NewObjects.{first_status, new_metadata, with_status}
+use Rattle.spec_api.specs.Reading.{reading, is_body}
+use Rattle.spec_api.specs.Refusals.{bad_request, not_found, invalid, storage_full}
+use Rattle.spec_api.specs.Replacements.{generation, in_place, is_finalized, is_new_generation, next_generation, status_in, says_the_same, updated, with_next_generation, with_status_in}
+use Rattle.spec_api.specs.Values.{inner_of, members_of, merged}
+use Rattle.spec_api.specs.Verbs.{accept, by_decision, removed, stored, shown, object_in, new_name, replace, take_out, put_in_place, replace_status, names_path, is_past_greatest, most_objects}
+use Rattle.spec_api.specs.ObjectRequests.{Request, get_object, list_objects, create_object, update_object, update_status, patch_object, delete_object}
+use Rattle.spec_api.proofs.VerbSteps.{by_fate, delete, create_read, update_read, replace_with, replace_changed, status_read, restate, patch, patch_read, status_put}
+use Rattle.spec_laws.proofs.Cases.{of_create}
+use Rattle.spec_laws.proofs.Guards.{there, either}
+use Rattle.spec_laws.proofs.SetMetadata.{name-new_metadata, namespace-new_metadata, uid-new_metadata, name-in_place, namespace-in_place, uid-in_place, text-with_next_generation}
+use Rattle.spec_api.proofs.JsonMembers.{apart, text_in, text_in-put_other, metadata_of-with}
+use Rattle.spec_laws.proofs.JsonOrder.{IsOrdered}
+use Rattle.spec_laws.proofs.LeftFinalizers.{one_finalizers, texts_held, texts_left}
+use Rattle.spec_laws.proofs.DeletionTimestamps.{marked_fits, room_marked, with_finalizers}
+use Rattle.spec_laws.proofs.NameBytes.{namespace_text, name_text}
+use Rattle.spec_laws.proofs.NeatMembers.{Neat, Neat-put, IsFilled, One}
+use Rattle.spec_api.specs.Reached.{IsParsed, CanBeRead, IsTimestamp}
+use Rattle.spec_laws.proofs.Parsed.{parsed_said, parsed_reading, parsed_merged}
+use Rattle.spec_laws.proofs.ParsedObjects.{meta as meta_of, new_meta, new_members, placed, counted, restated, marked_meta}
+use Rattle.spec_laws.proofs.TextLengths.{put_twice}
+use Rattle.spec_laws.proofs.VerbLaws.{kept_is, text-with_deletion}
+use Rattle.spec_api.proofs.FirstStatus.{get-members_of}
+use Rattle.spec_laws.proofs.WholeObjects.{AreWhole, may_first, neat_metadata, whole_in_place, whole_read, whole_said, whole_status, whole_with_said}
+use Rattle.spec_laws.proofs.SentObjects.{IsStored, IsHeld, Says, stored_in, stored_at, whole_stored, created_valid, filled_new, neat_generation, neat_new, filled_long, Stores, low_after, behind, behind_field, by_if_same, by_put}
 
 filled_namespace : (ns : List ℕ) → is_namespace ns ≡ true → IsFilled ns
 filled_namespace [] h = cc

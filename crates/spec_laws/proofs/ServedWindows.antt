@@ -3,13 +3,13 @@ use Rattle.std.proofs.Common.{◌≡◌, ◌≤◌, ℕ, ◌+◌, ◌-◌, [], �
 use Rattle.std.specs.Prelude.{◌↔◌, nat_lt, Ok, IsOk, None}
 use Rattle.std.proofs.lemmas.List.{take-append-drop, take_all}
 use Rattle.std.proofs.lemmas.Bool.{le-ltb, ltb-false}
-use Rattle.definitions.specs.History.{History, compaction, View, writes, present, up_to, last_of, viewed, after_all, list}
-use Rattle.definitions.specs.Events.{events, events_after}
-use Rattle.laws.specs.WindowLaws.{WatchesAreServed, ListsAreUndone, RevisionsAreServed, CompactionsChangeNothing, WideWindowsServeAll}
-use Rattle.definitions.specs.Windows.{changes_after as kept_after, changes_of, last_n, last_revision, all_but, floor, within}
-use Rattle.server_state.specs.Recorded.{above, events_recorded, undone, Window, IsWindowAfter}
-use Rattle.laws.proofs.Past.{writes-append}
-use Rattle.laws.proofs.RecordedChanges.{last_n_above, changes_of_kept, all_undone}
+use Rattle.spec_api.specs.History.{History, compaction, View, writes, present, up_to, last_of, viewed, after_all, list}
+use Rattle.spec_api.specs.Events.{events, events_after}
+use Rattle.spec_laws.specs.WindowLaws.{WatchesAreServed, ListsAreUndone, RevisionsAreServed, CompactionsChangeNothing, WideWindowsServeAll}
+use Rattle.spec_api.specs.Windows.{changes_after as kept_after, changes_of, last_n, last_revision, all_but, floor, within}
+use Rattle.spec_server.specs.Recorded.{above, events_recorded, undone, Window, IsWindowAfter}
+use Rattle.spec_laws.proofs.Past.{writes-append}
+use Rattle.spec_laws.proofs.RecordedChanges.{last_n_above, changes_of_kept, all_undone}
 
 within_at : {X : Type 0} (b c : Bool) (floor now r : ℕ) (x y : X) → nat_lt r floor ≡ b → nat_lt now r ≡ c → (floor ≤ r → r ≤ now → x ≡ y) → within floor now r x ≡ within floor now r y
 within_at true c floor now r x y l m same = rw l refl

@@ -3,21 +3,21 @@ use Rattle.std.proofs.Common.{◌≡◌, ◌≤◌, ℕ, ◌+◌, Bool, true, fa
 use Rattle.std.specs.Prelude.{nat_lt, ◌↔◌, Option, Some, None, Result, Ok, Err, IsOk}
 use Rattle.std.specs.Result.{result_map_both}
 use Rattle.std.proofs.lemmas.Bool.{le-ltb, ltb-false}
-use Rattle.definitions.specs.History.{History, View, Entries, present, viewed, list}
-use Rattle.definitions.specs.Refusals.{Refusal}
-use Rattle.server_state.specs.Recorded.{recorded_list, recorded_since}
-use Rattle.definitions.specs.Windows.{list_within, since}
-use Rattle.definitions.specs.declared.versions.At.{At}
-use Rattle.definitions.specs.declared.versions.At.TheVariants.{Present, NotOlder, Exact}
-use Rattle.definitions.specs.declared.versions.Start.{Start}
-use Rattle.definitions.specs.declared.versions.Start.TheVariants as begins
-use Rattle.definitions.specs.Versions.{listed_as, once_present, listed_at, watched, watched_from}
-use Rattle.definitions.specs.Lists.{list_answer}
-use Rattle.server_state.specs.Servers.{Server, window_of, watch_by, IsServerAfter}
-use Rattle.definitions.specs.WatchReplies.{told_lines, opening_lines, lines_by}
-use Rattle.definitions.specs.Streams.{added_lines}
-use Rattle.laws.specs.ServerLaws.{ServersList, ServersWatch, ServersAnswerLists, ServersShow, ListsAreServed}
-use Rattle.laws.proofs.ServedWindows.{watch_served, list_undone, revisions_served}
+use Rattle.spec_api.specs.History.{History, View, Entries, present, viewed, list}
+use Rattle.spec_api.specs.Refusals.{Refusal}
+use Rattle.spec_server.specs.Recorded.{recorded_list, recorded_since}
+use Rattle.spec_api.specs.Windows.{list_within, since}
+use Rattle.spec_api.specs.declared.versions.At.{At}
+use Rattle.spec_api.specs.declared.versions.At.TheVariants.{Present, NotOlder, Exact}
+use Rattle.spec_api.specs.declared.versions.Start.{Start}
+use Rattle.spec_api.specs.declared.versions.Start.TheVariants as begins
+use Rattle.spec_api.specs.Versions.{listed_as, once_present, listed_at, watched, watched_from}
+use Rattle.spec_api.specs.Lists.{list_answer}
+use Rattle.spec_server.specs.Servers.{Server, window_of, watch_by, IsServerAfter}
+use Rattle.spec_api.specs.WatchReplies.{told_lines, opening_lines, lines_by}
+use Rattle.spec_api.specs.Streams.{added_lines}
+use Rattle.spec_laws.specs.ServerLaws.{ServersList, ServersWatch, ServersAnswerLists, ServersShow, ListsAreServed}
+use Rattle.spec_laws.proofs.ServedWindows.{watch_served, list_undone, revisions_served}
 
 earlier_same : (at : At) (now : ℕ) (ms : Entries) (f g : ℕ → Result Entries Refusal) → ((r : ℕ) → f r ≡ g r) → listed_at now ms f at ≡ listed_at now ms g at
 earlier_same Present now ms f g same = refl

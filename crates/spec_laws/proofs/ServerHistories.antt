@@ -3,22 +3,22 @@ use Rattle.std.proofs.Common.{◌≡◌, ◌≤◌, ℕ, ◌+◌, ◌-◌, List,
 use Rattle.std.specs.Prelude.{nat_lt, ◌==◌, Ok, Err}
 use Rattle.std.proofs.lemmas.Bool.{ltb-false}
 use Rattle.serde_json.specs.Data.{Data}
-use Rattle.definitions.specs.declared.kinds.Kind.{Kind}
-use Rattle.definitions.specs.Kinds.{rank}
-use Rattle.definitions.specs.History.{History, Write, write, compaction, Entries, writes, present, entries_at, found, after, after_all}
-use Rattle.laws.specs.Happening.{CanHappen}
-use Rattle.definitions.specs.Refusals.{too_new}
-use Rattle.definitions.specs.Verbs.{accept_at, accept, write_of, with_write}
-use Rattle.server_state.specs.Snapshots.{Snapshot, snapshot, written}
-use Rattle.definitions.specs.Windows.{Change, is_of, change_of}
-use Rattle.server_state.specs.Recorded.{Window, recorded}
-use Rattle.server_state.specs.Servers.{Server, window_of, with_window, change_at, after_write, after_writing, after_compaction, after_entries, IsWindow, IsServerAfter}
-use Rattle.laws.specs.ServerLaws.{ServersOpen, ServersWrite, ServersFollow, HoldOrRefuse, ServersCompact, CompactionsHappen, ServersAccept}
-use Rattle.laws.proofs.Compacted.{snapshot-compaction, follows_compaction}
-use Rattle.laws.proofs.Past.{writes-append, whole}
-use Rattle.definitions.proofs.PutLaws.{found-after_all}
-use Rattle.laws.proofs.SentChanges.{same_kind}
-use Rattle.laws.proofs.FollowedWindows.{follows_new, follows_recorded, follows_still, follows_compacted}
+use Rattle.spec_api.specs.declared.kinds.Kind.{Kind}
+use Rattle.spec_api.specs.Kinds.{rank}
+use Rattle.spec_api.specs.History.{History, Write, write, compaction, Entries, writes, present, entries_at, found, after, after_all}
+use Rattle.spec_laws.specs.Happening.{CanHappen}
+use Rattle.spec_api.specs.Refusals.{too_new}
+use Rattle.spec_api.specs.Verbs.{accept_at, accept, write_of, with_write}
+use Rattle.spec_server.specs.Snapshots.{Snapshot, snapshot, written}
+use Rattle.spec_api.specs.Windows.{Change, is_of, change_of}
+use Rattle.spec_server.specs.Recorded.{Window, recorded}
+use Rattle.spec_server.specs.Servers.{Server, window_of, with_window, change_at, after_write, after_writing, after_compaction, after_entries, IsWindow, IsServerAfter}
+use Rattle.spec_laws.specs.ServerLaws.{ServersOpen, ServersWrite, ServersFollow, HoldOrRefuse, ServersCompact, CompactionsHappen, ServersAccept}
+use Rattle.spec_laws.proofs.Compacted.{snapshot-compaction, follows_compaction}
+use Rattle.spec_laws.proofs.Past.{writes-append, whole}
+use Rattle.spec_api.proofs.PutLaws.{found-after_all}
+use Rattle.spec_laws.proofs.SentChanges.{same_kind}
+use Rattle.spec_laws.proofs.FollowedWindows.{follows_new, follows_recorded, follows_still, follows_compacted}
 
 -- ---- what is there now
 

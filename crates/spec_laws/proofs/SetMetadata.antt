@@ -2,15 +2,15 @@
 use Rattle.std.proofs.Common.{◌≡◌, ◌≤◌, ℕ, List, Bool, true, false, nat_lt, codes, bytes_eq, decimal, is_some, IfSome, Option, Some, None, option_and_then, refl, ap, ◌∙◌, arith}
 use Rattle.serde_json.specs.Data.{Data, null, boolean, number, string, array, object, Members, put}
 use Rattle.serde_json.specs.Find.{get_member, as_str}
-use Rattle.definitions.specs.declared.kinds.Kind.{Kind}
-use Rattle.definitions.specs.Defaults.{unsigned_value}
-use Rattle.definitions.specs.Metadata.{metadata, metadata_of, metadata_text, name, namespace, uid, version, at_revision}
-use Rattle.definitions.specs.NewObjects.{created, first_status, new_metadata, with_generation, with_status}
-use Rattle.definitions.specs.Replacements.{as_stored, generation, in_place, is_new_generation, keeping, unchanged_metadata, unchanged_members, next_generation, updated, with_next_generation}
-use Rattle.definitions.specs.Uids.{uid_text, cluster_word}
-use Rattle.definitions.specs.Values.{members_of, without}
+use Rattle.spec_api.specs.declared.kinds.Kind.{Kind}
+use Rattle.spec_api.specs.Defaults.{unsigned_value}
+use Rattle.spec_api.specs.Metadata.{metadata, metadata_of, metadata_text, name, namespace, uid, version, at_revision}
+use Rattle.spec_api.specs.NewObjects.{created, first_status, new_metadata, with_generation, with_status}
+use Rattle.spec_api.specs.Replacements.{as_stored, generation, in_place, is_new_generation, keeping, unchanged_metadata, unchanged_members, next_generation, updated, with_next_generation}
+use Rattle.spec_api.specs.Uids.{uid_text, cluster_word}
+use Rattle.spec_api.specs.Values.{members_of, without}
 use Rattle.serde_json.proofs.Views.{get_member-put, get_member-put_other}
-use Rattle.definitions.proofs.JsonMembers.{apart, get_member-without_other, metadata_of-with, text_in, text_in-put, text_in-put_other, text_in-without_other, metadata_text-with}
+use Rattle.spec_api.proofs.JsonMembers.{apart, get_member-without_other, metadata_of-with, text_in, text_in-put, text_in-put_other, text_in-without_other, metadata_text-with}
 
 pub at_most : (limit n : ℕ) → nat_lt limit n ≡ false → n ≤ limit
 at_most limit n h = grind arith

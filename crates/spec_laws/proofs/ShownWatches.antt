@@ -3,16 +3,16 @@ use Rattle.std.proofs.Common.{◌≡◌, ◌≤◌, ℕ, ◌+◌, List, [], ◌�
 use Rattle.std.specs.Prelude.{Result, Ok, Err}
 use Rattle.std.specs.Result.{result_map_both}
 use Rattle.std.proofs.lemmas.Bool.{le-leb}
-use Rattle.definitions.specs.Events.{Event, events}
-use Rattle.definitions.specs.History.{History, View, present}
-use Rattle.definitions.specs.Refusals.{Refusal}
-use Rattle.laws.specs.SentLaws.{WatchesAreStreams}
-use Rattle.definitions.specs.Streams.{Line, event, AreEventsWithBookmarks, IsStream}
-use Rattle.definitions.specs.Versions.{Watched, watched, watched_from}
-use Rattle.definitions.specs.WatchReplies.{lines_from, told_lines}
-use Rattle.laws.specs.WatchLaws.{AreBetween}
-use Rattle.laws.proofs.AppliedEvents.{lie_between}
-use Rattle.laws.proofs.StandingWatches.{given_stands, lines_stream}
+use Rattle.spec_api.specs.Events.{Event, events}
+use Rattle.spec_api.specs.History.{History, View, present}
+use Rattle.spec_api.specs.Refusals.{Refusal}
+use Rattle.spec_laws.specs.SentLaws.{WatchesAreStreams}
+use Rattle.spec_api.specs.Streams.{Line, event, AreEventsWithBookmarks, IsStream}
+use Rattle.spec_api.specs.Versions.{Watched, watched, watched_from}
+use Rattle.spec_api.specs.WatchReplies.{lines_from, told_lines}
+use Rattle.spec_laws.specs.WatchLaws.{AreBetween}
+use Rattle.spec_laws.proofs.AppliedEvents.{lie_between}
+use Rattle.spec_laws.proofs.StandingWatches.{given_stands, lines_stream}
 
 few_between : (cs : List Event) (a b : ℕ) → a ≤ b → AreBetween a b cs → length cs + a ≤ b
 few_between [] a b le h = omega (arith, le)

@@ -1,11 +1,11 @@
 -- What one more entry does to the snapshot of what has happened.
 use Rattle.std.proofs.Common.{◌≡◌, ℕ, ◌+◌, ◌-◌, [], ◌∷◌, ◌++◌, length, take, refl, ◌∙◌, append-nil}
-use Rattle.definitions.specs.History.{History, Write, write, compaction, writes, after_all}
-use Rattle.laws.specs.SnapshotLaws.{SnapshotsFollow}
-use Rattle.server_state.specs.Snapshots.{snapshot, written}
-use Rattle.laws.proofs.Limits.{members-write}
-use Rattle.laws.proofs.Past.{writes-append}
-use Rattle.laws.proofs.VerbLaws.{present-write}
+use Rattle.spec_api.specs.History.{History, Write, write, compaction, writes, after_all}
+use Rattle.spec_laws.specs.SnapshotLaws.{SnapshotsFollow}
+use Rattle.spec_server.specs.Snapshots.{snapshot, written}
+use Rattle.spec_laws.proofs.Limits.{members-write}
+use Rattle.spec_laws.proofs.Past.{writes-append}
+use Rattle.spec_laws.proofs.VerbLaws.{present-write}
 
 pub snapshot-write : (h : History) (w : Write) → snapshot (h ++ write w ∷ []) ≡ written (snapshot h) w
 snapshot-write h w = λ i. record { members = members-write h w i; revision = present-write h w i }

@@ -5,17 +5,17 @@ use Rattle.std.specs.Result.{result_map_both}
 use Rattle.std.proofs.lemmas.Bool.{ltb-false, ltb-true, le-ltb, leb-true, leb-false, le-leb, lt-leb}
 use Rattle.std.proofs.lemmas.List.{take-append-drop, take-append-le, take-take, take_all, length-take}
 use Rattle.std.proofs.lemmas.List.Elements.{filter-append}
-use Rattle.definitions.specs.History.{History, View, writes, present, up_to, list}
-use Rattle.definitions.specs.Events.{Event, events, events_after, applied}
-use Rattle.definitions.specs.Streams.{Line, event, bookmark, AreEventsWithBookmarks, IsStream}
-use Rattle.laws.specs.WatchLaws.{AreBetween}
-use Rattle.definitions.specs.Windows.{floor, within}
-use Rattle.definitions.specs.Versions.{Watched, last_change, watched, watched_from}
-use Rattle.definitions.specs.WatchReplies.{lines_from}
-use Rattle.laws.specs.ServerLaws.{WatchesStand, WatchesGoOn}
-use Rattle.laws.proofs.Past.{writes-append}
-use Rattle.laws.proofs.AppliedEvents.{list_applied, goes_on, lie_between}
-use Rattle.laws.proofs.Streamed.{stream_applied}
+use Rattle.spec_api.specs.History.{History, View, writes, present, up_to, list}
+use Rattle.spec_api.specs.Events.{Event, events, events_after, applied}
+use Rattle.spec_api.specs.Streams.{Line, event, bookmark, AreEventsWithBookmarks, IsStream}
+use Rattle.spec_laws.specs.WatchLaws.{AreBetween}
+use Rattle.spec_api.specs.Windows.{floor, within}
+use Rattle.spec_api.specs.Versions.{Watched, last_change, watched, watched_from}
+use Rattle.spec_api.specs.WatchReplies.{lines_from}
+use Rattle.spec_laws.specs.ServerLaws.{WatchesStand, WatchesGoOn}
+use Rattle.spec_laws.proofs.Past.{writes-append}
+use Rattle.spec_laws.proofs.AppliedEvents.{list_applied, goes_on, lie_between}
+use Rattle.spec_laws.proofs.Streamed.{stream_applied}
 
 -- ---- changes up to a revision
 

@@ -2,21 +2,21 @@
 use Rattle.std.proofs.Common.{◌≡◌, ◌+◌, ◌-◌, ℕ, List, [], ◌∷◌, ◌++◌, length, drop, IfSome, Option, Some, None, decimal, sym, subst, arith}
 use Rattle.std.proofs.lemmas.List.{take-append-drop}
 use Rattle.serde_json.specs.Data.{Data}
-use Rattle.definitions.specs.History.{History, Write, write, writes, last_of, entries_at, found, present, up_to}
-use Rattle.definitions.specs.Metadata.{version}
-use Rattle.definitions.specs.Keys.{Key}
-use Rattle.definitions.specs.Reached.{IsReached}
-use Rattle.definitions.specs.Verbs.{accept, with_write, write_of}
-use Rattle.laws.specs.HistoryLaws.{Carry}
-use Rattle.laws.specs.ReachedLaws.{ReachedCarryRevisions}
-use Rattle.laws.specs.SentLaws.{IsKept, AreKept, ObjectsAreKept}
-use Rattle.definitions.proofs.PutLaws.{found-after_all}
-use Rattle.laws.proofs.Compacted.{same_writes}
-use Rattle.laws.proofs.EachWrite.{AllPut, last_put}
-use Rattle.laws.proofs.Past.{writes-append}
-use Rattle.laws.proofs.Reaching.{by_reached}
-use Rattle.laws.proofs.SentObjects.{IsStored, IsHeld}
-use Rattle.laws.proofs.SentVerbs.{stores}
+use Rattle.spec_api.specs.History.{History, Write, write, writes, last_of, entries_at, found, present, up_to}
+use Rattle.spec_api.specs.Metadata.{version}
+use Rattle.spec_api.specs.Keys.{Key}
+use Rattle.spec_api.specs.Reached.{IsReached}
+use Rattle.spec_api.specs.Verbs.{accept, with_write, write_of}
+use Rattle.spec_laws.specs.HistoryLaws.{Carry}
+use Rattle.spec_laws.specs.ReachedLaws.{ReachedCarryRevisions}
+use Rattle.spec_laws.specs.SentLaws.{IsKept, AreKept, ObjectsAreKept}
+use Rattle.spec_api.proofs.PutLaws.{found-after_all}
+use Rattle.spec_laws.proofs.Compacted.{same_writes}
+use Rattle.spec_laws.proofs.EachWrite.{AllPut, last_put}
+use Rattle.spec_laws.proofs.Past.{writes-append}
+use Rattle.spec_laws.proofs.Reaching.{by_reached}
+use Rattle.spec_laws.proofs.SentObjects.{IsStored, IsHeld}
+use Rattle.spec_laws.proofs.SentVerbs.{stores}
 
 -- these writes in order, the first at revision r
 abbrev pub AreStored : ℕ → List Write → Type 0

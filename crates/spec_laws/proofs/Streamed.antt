@@ -3,12 +3,12 @@ use Rattle.std.proofs.Common.{◌≡◌, ◌≤◌, ℕ, List, [], ◌∷◌, �
 use Rattle.std.specs.Ordering.{ordering_reverse}
 use Rattle.std.specs.BTreeMap.{insert_entry}
 use Rattle.serde_json.specs.Data.{Data}
-use Rattle.definitions.specs.Keys.{Key, key_cmp}
-use Rattle.definitions.specs.History.{History, View, Entries, up_to, in_view, after_all, list}
-use Rattle.definitions.proofs.PutLaws.{name_cmp_total, IsAbove, IsAscending, IsAscending-after_all, IsAscending-filter}
-use Rattle.definitions.specs.Events.{Event, events, applied}
-use Rattle.definitions.specs.Streams.{Line, event, bookmark, initial, initial_end, AreEventsWithBookmarks, IsStream, IsInitialStream, apply_line, applied_lines}
-use Rattle.laws.proofs.AppliedEvents.{list_applied}
+use Rattle.spec_api.specs.Keys.{Key, key_cmp}
+use Rattle.spec_api.specs.History.{History, View, Entries, up_to, in_view, after_all, list}
+use Rattle.spec_api.proofs.PutLaws.{name_cmp_total, IsAbove, IsAscending, IsAscending-after_all, IsAscending-filter}
+use Rattle.spec_api.specs.Events.{Event, events, applied}
+use Rattle.spec_api.specs.Streams.{Line, event, bookmark, initial, initial_end, AreEventsWithBookmarks, IsStream, IsInitialStream, apply_line, applied_lines}
+use Rattle.spec_laws.proofs.AppliedEvents.{list_applied}
 
 -- the changes among the lines are the changes
 goes_applied : (ls : List Line) (at b : ℕ) (cs : List Event) (ms : Entries) → AreEventsWithBookmarks at b cs ls → applied_lines ms ls ≡ applied ms cs

@@ -8,11 +8,11 @@ use Rattle.json.specs.Print.{quoted}
 use Rattle.serde_json.specs.Data.{Data, string, object, Members, no_members, member, put}
 use Rattle.serde_json.specs.Find.{get_member}
 use Rattle.serde_json.specs.Written.{comma_if, compact_text, members_text}
-use Rattle.definitions.specs.Metadata.{at_revision}
-use Rattle.definitions.specs.Values.{members_of, without}
-use Rattle.definitions.proofs.EscapedTexts.{length-quoted}
-use Rattle.laws.proofs.JsonOrder.{IsOrdered, put_back}
-use Rattle.laws.proofs.ReadAgain.{same_name}
+use Rattle.spec_api.specs.Metadata.{at_revision}
+use Rattle.spec_api.specs.Values.{members_of, without}
+use Rattle.spec_api.proofs.EscapedTexts.{length-quoted}
+use Rattle.spec_laws.proofs.JsonOrder.{IsOrdered, put_back}
+use Rattle.spec_laws.proofs.ReadAgain.{same_name}
 
 length-member : (later : Bool) (k : List ℕ) (d : Data) (ms : Members)
     → length (members_text later (member k d ms)) ≡ length (comma_if later) + (length (quoted k) + (length (compact_text d) + length (members_text true ms)) + 1)

@@ -8,7 +8,7 @@ use Rattle.std.specs.Char.{is_digit, digit_value}
 use Rattle.std.specs.Str.{IsUtf8}
 use lib.Utf8.{scalar, encode, low_scalar}
 use Rattle.json.specs.Text.{code_unit, short_escape, is_high_surrogate, is_low_surrogate, surrogate_pair, plain, after_backslash, after_u, after_high, prepend, content}
-use Rattle.definitions.proofs.Truths.{both_true}
+use Rattle.spec_api.proofs.Truths.{both_true}
 
 -- what stands before and after an ASCII byte
 pub after_byte : (done xs : List ℕ) (x : ℕ) → x < 128 → IsUtf8 (done ++ x ∷ xs) → IsUtf8 done × IsUtf8 xs

@@ -3,27 +3,27 @@ use Rattle.std.proofs.Common.{◌≡◌, ◌≤◌, ◌<◌, ◌+◌, ◌-◌, �
 use Rattle.std.proofs.lemmas.Bool.{leb-true, leb-false}
 use Rattle.std.proofs.lemmas.List.{take-append-le}
 use Rattle.serde_json.specs.Data.{Data}
-use Rattle.definitions.specs.History.{History, Write, write, writes, present, last_of, state, entries_at}
-use Rattle.laws.specs.HistoryLaws.{OfStored, KeepsText}
-use Rattle.definitions.specs.Metadata.{metadata_text, uid}
-use Rattle.definitions.specs.Keys.{Key, is_same_key}
-use Rattle.definitions.specs.Uids.{uid_text, uid_revision, cluster_word}
-use Rattle.definitions.specs.Verbs.{accept, new_name, with_write, write_of}
-use Rattle.definitions.specs.ObjectRequests.{Request}
-use Rattle.laws.proofs.Cases.{of_accept}
-use Rattle.laws.proofs.Compacted.{same_writes}
-use Rattle.laws.proofs.SetMetadata.{uid-created}
-use Rattle.laws.proofs.Past.{last_of-append, whole, writes-append}
-use Rattle.definitions.proofs.PutLaws.{same_name}
-use Rattle.laws.proofs.Removals.{stand as stands_on}
-use Rattle.definitions.proofs.Uids.{existing}
-use Rattle.laws.proofs.UidsOnce.{one_text}
-use Rattle.laws.proofs.VerbLaws.{kept_is, found-state, none_from, identity}
-use Rattle.definitions.specs.Reached.{IsReached}
-use Rattle.laws.specs.IdentityLaws.{UidsTellCreates, UidsAreGivenOnce, DeletionsStand}
-use Rattle.laws.proofs.Limited.{limited}
-use Rattle.laws.proofs.Reaching.{by_reached}
-use Rattle.laws.proofs.Versions.{Among, put_by, write_at, one_write}
+use Rattle.spec_api.specs.History.{History, Write, write, writes, present, last_of, state, entries_at}
+use Rattle.spec_laws.specs.HistoryLaws.{OfStored, KeepsText}
+use Rattle.spec_api.specs.Metadata.{metadata_text, uid}
+use Rattle.spec_api.specs.Keys.{Key, is_same_key}
+use Rattle.spec_api.specs.Uids.{uid_text, uid_revision, cluster_word}
+use Rattle.spec_api.specs.Verbs.{accept, new_name, with_write, write_of}
+use Rattle.spec_api.specs.ObjectRequests.{Request}
+use Rattle.spec_laws.proofs.Cases.{of_accept}
+use Rattle.spec_laws.proofs.Compacted.{same_writes}
+use Rattle.spec_laws.proofs.SetMetadata.{uid-created}
+use Rattle.spec_laws.proofs.Past.{last_of-append, whole, writes-append}
+use Rattle.spec_api.proofs.PutLaws.{same_name}
+use Rattle.spec_laws.proofs.Removals.{stand as stands_on}
+use Rattle.spec_api.proofs.Uids.{existing}
+use Rattle.spec_laws.proofs.UidsOnce.{one_text}
+use Rattle.spec_laws.proofs.VerbLaws.{kept_is, found-state, none_from, identity}
+use Rattle.spec_api.specs.Reached.{IsReached}
+use Rattle.spec_laws.specs.IdentityLaws.{UidsTellCreates, UidsAreGivenOnce, DeletionsStand}
+use Rattle.spec_laws.proofs.Limited.{limited}
+use Rattle.spec_laws.proofs.Reaching.{by_reached}
+use Rattle.spec_laws.proofs.Versions.{Among, put_by, write_at, one_write}
 
 -- ---- what is there, by the writes
 

@@ -1,26 +1,26 @@
 -- The uid of a new object is that of no object that was ever there.
 use Rattle.std.proofs.Common.{◌≡◌, ◌≤◌, ◌+◌, ℕ, List, [], ◌∷◌, length, codes, IfSome, Option, Some, None, arith, refl, sym, subst, ap, ◌∙◌}
 use Rattle.serde_json.specs.Data.{Data}
-use Rattle.definitions.specs.Checks.{finalizers}
-use Rattle.definitions.specs.Deletion.{left_by, being_deleted}
-use Rattle.definitions.specs.History.{History, Write, writes, found, entries_at, present}
-use Rattle.laws.specs.HistoryLaws.{OfStored, KeepsText}
-use Rattle.laws.specs.LifecycleLaws.{NoneHas, NewUidsAreUnused}
-use Rattle.definitions.specs.Reached.{IsReached}
-use Rattle.definitions.specs.Metadata.{metadata_of, uid, at_revision}
-use Rattle.definitions.specs.Keys.{Key}
-use Rattle.definitions.specs.Replacements.{in_place, updated, with_status_in}
-use Rattle.definitions.specs.Uids.{uid_text, uid_revision, cluster_word}
-use Rattle.definitions.specs.Verbs.{accept, new_name, object_in, with_write, write_of}
-use Rattle.definitions.specs.ObjectRequests.{Request}
-use Rattle.laws.proofs.Cases.{of_accept, of_create}
-use Rattle.laws.proofs.EachWrite.{AllPut, put_write, there_put}
-use Rattle.laws.proofs.SetMetadata.{uid-created}
-use Rattle.laws.proofs.Limited.{limited}
-use Rattle.laws.proofs.Compacted.{same_writes}
-use Rattle.laws.proofs.Reaching.{by_reached}
-use Rattle.definitions.proofs.Uids.{existing}
-use Rattle.laws.proofs.VerbLaws.{kept_is, found-state, kept_in_place, present-write, text-marked, text-restated}
+use Rattle.spec_api.specs.Checks.{finalizers}
+use Rattle.spec_api.specs.Deletion.{left_by, being_deleted}
+use Rattle.spec_api.specs.History.{History, Write, writes, found, entries_at, present}
+use Rattle.spec_laws.specs.HistoryLaws.{OfStored, KeepsText}
+use Rattle.spec_laws.specs.LifecycleLaws.{NoneHas, NewUidsAreUnused}
+use Rattle.spec_api.specs.Reached.{IsReached}
+use Rattle.spec_api.specs.Metadata.{metadata_of, uid, at_revision}
+use Rattle.spec_api.specs.Keys.{Key}
+use Rattle.spec_api.specs.Replacements.{in_place, updated, with_status_in}
+use Rattle.spec_api.specs.Uids.{uid_text, uid_revision, cluster_word}
+use Rattle.spec_api.specs.Verbs.{accept, new_name, object_in, with_write, write_of}
+use Rattle.spec_api.specs.ObjectRequests.{Request}
+use Rattle.spec_laws.proofs.Cases.{of_accept, of_create}
+use Rattle.spec_laws.proofs.EachWrite.{AllPut, put_write, there_put}
+use Rattle.spec_laws.proofs.SetMetadata.{uid-created}
+use Rattle.spec_laws.proofs.Limited.{limited}
+use Rattle.spec_laws.proofs.Compacted.{same_writes}
+use Rattle.spec_laws.proofs.Reaching.{by_reached}
+use Rattle.spec_api.proofs.Uids.{existing}
+use Rattle.spec_laws.proofs.VerbLaws.{kept_is, found-state, kept_in_place, present-write, text-marked, text-restated}
 
 -- an object whose uid is that of a create up to a revision
 abbrev IsBorn : ℕ → Data → Type 0

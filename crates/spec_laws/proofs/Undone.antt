@@ -4,10 +4,10 @@ use Rattle.std.specs.Ordering.{ordering_reverse}
 use Rattle.std.specs.Map.{remove_entry}
 use Rattle.std.specs.BTreeMap.{insert_entry, is_at}
 use Rattle.serde_json.specs.Data.{Data}
-use Rattle.definitions.specs.Keys.{Key, key_cmp}
-use Rattle.definitions.specs.History.{Write, View, Entries, found, in_view, viewed, seen, last_of, after_all, put_or_remove}
-use Rattle.definitions.proofs.PutLaws.{name_cmp_total, IsAbove, IsAbove-below, IsAscending, IsAscending-after_all, none_above, found-after_all}
-use Rattle.laws.proofs.AppliedEvents.{one_name, insert_above, remove_above, put_in, put_out, removed, after_all-push}
+use Rattle.spec_api.specs.Keys.{Key, key_cmp}
+use Rattle.spec_api.specs.History.{Write, View, Entries, found, in_view, viewed, seen, last_of, after_all, put_or_remove}
+use Rattle.spec_api.proofs.PutLaws.{name_cmp_total, IsAbove, IsAbove-below, IsAscending, IsAscending-after_all, none_above, found-after_all}
+use Rattle.spec_laws.proofs.AppliedEvents.{one_name, insert_above, remove_above, put_in, put_out, removed, after_all-push}
 
 reversed : (r : Ordering) → r ≡ ordering_reverse r → r ≡ Equal
 reversed Less h = cc

@@ -1,21 +1,21 @@
 -- What is stored has a name and a namespace as they have to be.
 use Rattle.std.proofs.Common.{◌≡◌, ℕ, List, true, Some, sym, ◌∙◌}
 use Rattle.serde_json.specs.Data.{Data}
-use Rattle.definitions.specs.History.{History, writes, found, entries_at, present, state}
-use Rattle.laws.specs.HistoryLaws.{OfStored}
-use Rattle.definitions.specs.Keys.{Key, is_namespace, is_subdomain}
-use Rattle.definitions.specs.Reading.{reading}
-use Rattle.definitions.specs.Verbs.{Outcome, accept, shown, object_in, write_of}
-use Rattle.definitions.specs.ObjectRequests.{Request, get_object, list_objects, create_object, update_object, update_status, patch_object, delete_object}
-use Rattle.laws.proofs.Cases.{of_create, of_delete, of_patch, of_status, of_update}
-use Rattle.laws.proofs.Compacted.{same_writes}
-use Rattle.laws.proofs.Guards.{there}
-use Rattle.laws.proofs.EachWrite.{AllPut, put_write, there_put}
-use Rattle.laws.proofs.VerbLaws.{found-state}
-use Rattle.definitions.specs.Reached.{CanBeRead, IsReached}
-use Rattle.laws.specs.ParsedLaws.{NamesAreValid}
-use Rattle.laws.proofs.Reaching.{by_reached}
-use Rattle.laws.proofs.SentObjects.{created_valid}
+use Rattle.spec_api.specs.History.{History, writes, found, entries_at, present, state}
+use Rattle.spec_laws.specs.HistoryLaws.{OfStored}
+use Rattle.spec_api.specs.Keys.{Key, is_namespace, is_subdomain}
+use Rattle.spec_api.specs.Reading.{reading}
+use Rattle.spec_api.specs.Verbs.{Outcome, accept, shown, object_in, write_of}
+use Rattle.spec_api.specs.ObjectRequests.{Request, get_object, list_objects, create_object, update_object, update_status, patch_object, delete_object}
+use Rattle.spec_laws.proofs.Cases.{of_create, of_delete, of_patch, of_status, of_update}
+use Rattle.spec_laws.proofs.Compacted.{same_writes}
+use Rattle.spec_laws.proofs.Guards.{there}
+use Rattle.spec_laws.proofs.EachWrite.{AllPut, put_write, there_put}
+use Rattle.spec_laws.proofs.VerbLaws.{found-state}
+use Rattle.spec_api.specs.Reached.{CanBeRead, IsReached}
+use Rattle.spec_laws.specs.ParsedLaws.{NamesAreValid}
+use Rattle.spec_laws.proofs.Reaching.{by_reached}
+use Rattle.spec_laws.proofs.SentObjects.{created_valid}
 
 abbrev pub IsValid : Key → Type 0
 IsValid k = (is_namespace k.namespace ≡ true) × (is_subdomain k.name ≡ true)

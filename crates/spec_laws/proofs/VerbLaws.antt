@@ -6,34 +6,34 @@ use Rattle.std.proofs.lemmas.List.{length-append}
 use Rattle.serde_json.specs.Find.{get}
 use Rattle.serde_json.specs.Data.{Data, null, boolean, number, string, array, object, Items, put}
 use Rattle.serde_json.proofs.Views.{get_member-put_other}
-use Rattle.definitions.specs.declared.kinds.Kind.{Kind}
-use Rattle.definitions.specs.declared.kinds.Kind.TheVariants.{ConfigMap, Pod, ReplicaSet, Deployment}
-use Rattle.definitions.specs.declared.refusals.Part.{Part}
+use Rattle.spec_api.specs.declared.kinds.Kind.{Kind}
+use Rattle.spec_api.specs.declared.kinds.Kind.TheVariants.{ConfigMap, Pod, ReplicaSet, Deployment}
+use Rattle.spec_api.specs.declared.refusals.Part.{Part}
 use Rattle.serde_json.specs.Written.{compact_text}
-use Rattle.definitions.specs.Defaults.{defaulted, replica_set_defaults, deployment_defaults}
-use Rattle.definitions.proofs.FoundMembers.{with_found}
-use Rattle.definitions.specs.Checks.{finalizers}
-use Rattle.definitions.specs.Deletion.{left_by, being_deleted, with_deletion}
-use Rattle.definitions.specs.Kinds.{has_generation}
-use Rattle.definitions.specs.Keys.{Key}
-use Rattle.definitions.specs.History.{History, Write, write, writes, up_to, entries_at, found, present, state}
-use Rattle.laws.specs.HistoryLaws.{OfStored, KeepsText, WritesCarryTheirRevision, CreatesAreNew, NamedVersionsAreReplaced, RefusalsWriteNothing, AnswersAreRead, WritesFit, WritesKeepIdentity}
-use Rattle.definitions.specs.Metadata.{metadata_of, metadata_text, uid, version, at_revision, is_being_deleted, differs}
-use Rattle.definitions.specs.NewObjects.{new_metadata, created, first_status, with_status}
-use Rattle.definitions.specs.Reading.{reading}
-use Rattle.definitions.specs.Replacements.{updated, in_place, status_in, with_status_in, with_next_generation, is_new_generation}
-use Rattle.definitions.specs.Uids.{uid_text, cluster_word}
-use Rattle.definitions.specs.Verbs.{shown, Outcome, outcome_body, history_after, new_name, object_in}
-use Rattle.definitions.specs.ObjectRequests.{get_object, list_objects, create_object, update_object, update_status, patch_object, delete_object}
-use Rattle.definitions.proofs.VerbSteps.{with_defaults}
-use Rattle.definitions.specs.Values.{members_of, inner_of, with_member}
-use Rattle.laws.proofs.Cases.{of_accept, of_create, of_update, of_patch, of_status}
-use Rattle.laws.proofs.Guards.{there}
-use Rattle.definitions.proofs.JsonMembers.{apart, text_in, text_in-put_other, metadata_of-with}
-use Rattle.laws.proofs.SetMetadata.{at_most, version-at_revision, text-at_revision, uid-created, moved, uid-in_place, creation-in_place, text-updated, text-with_next_generation}
-use Rattle.laws.proofs.Past.{set, writes-append}
-use Rattle.definitions.proofs.FirstStatus.{get-members_of}
-use Rattle.definitions.proofs.PutLaws.{found-after_all, name_cmp_total}
+use Rattle.spec_api.specs.Defaults.{defaulted, replica_set_defaults, deployment_defaults}
+use Rattle.spec_api.proofs.FoundMembers.{with_found}
+use Rattle.spec_api.specs.Checks.{finalizers}
+use Rattle.spec_api.specs.Deletion.{left_by, being_deleted, with_deletion}
+use Rattle.spec_api.specs.Kinds.{has_generation}
+use Rattle.spec_api.specs.Keys.{Key}
+use Rattle.spec_api.specs.History.{History, Write, write, writes, up_to, entries_at, found, present, state}
+use Rattle.spec_laws.specs.HistoryLaws.{OfStored, KeepsText, WritesCarryTheirRevision, CreatesAreNew, NamedVersionsAreReplaced, RefusalsWriteNothing, AnswersAreRead, WritesFit, WritesKeepIdentity}
+use Rattle.spec_api.specs.Metadata.{metadata_of, metadata_text, uid, version, at_revision, is_being_deleted, differs}
+use Rattle.spec_api.specs.NewObjects.{new_metadata, created, first_status, with_status}
+use Rattle.spec_api.specs.Reading.{reading}
+use Rattle.spec_api.specs.Replacements.{updated, in_place, status_in, with_status_in, with_next_generation, is_new_generation}
+use Rattle.spec_api.specs.Uids.{uid_text, cluster_word}
+use Rattle.spec_api.specs.Verbs.{shown, Outcome, outcome_body, history_after, new_name, object_in}
+use Rattle.spec_api.specs.ObjectRequests.{get_object, list_objects, create_object, update_object, update_status, patch_object, delete_object}
+use Rattle.spec_api.proofs.VerbSteps.{with_defaults}
+use Rattle.spec_api.specs.Values.{members_of, inner_of, with_member}
+use Rattle.spec_laws.proofs.Cases.{of_accept, of_create, of_update, of_patch, of_status}
+use Rattle.spec_laws.proofs.Guards.{there}
+use Rattle.spec_api.proofs.JsonMembers.{apart, text_in, text_in-put_other, metadata_of-with}
+use Rattle.spec_laws.proofs.SetMetadata.{at_most, version-at_revision, text-at_revision, uid-created, moved, uid-in_place, creation-in_place, text-updated, text-with_next_generation}
+use Rattle.spec_laws.proofs.Past.{set, writes-append}
+use Rattle.spec_api.proofs.FirstStatus.{get-members_of}
+use Rattle.spec_api.proofs.PutLaws.{found-after_all, name_cmp_total}
 
 pub versions : WritesCarryTheirRevision
 versions q h moment =

@@ -1,16 +1,16 @@
 -- What is there is what the write of its version put.
 use Rattle.std.proofs.Common.{◌≡◌, ◌≤◌, ◌<◌, ◌+◌, ◌-◌, ◌⊎◌, inl, inr, ℕ, zero, suc, List, [], ◌∷◌, length, take, Bool, true, false, cond, IfSome, Option, Some, None, decimal, slice_get, refl, sym, ap, ◌∙◌, arith}
 use Rattle.serde_json.specs.Data.{Data}
-use Rattle.definitions.specs.History.{Write, writes, present, last_of}
-use Rattle.definitions.specs.Metadata.{version}
-use Rattle.definitions.specs.Keys.{Key, is_same_key}
-use Rattle.definitions.specs.Revisions.{revision_of}
-use Rattle.laws.specs.SentLaws.{IsKept, AreKept}
-use Rattle.definitions.proofs.PutLaws.{same_name}
-use Rattle.definitions.proofs.RevisionTexts.{revision_is}
-use Rattle.laws.specs.IdentityLaws.{VersionsTellWrites, VersionsNameOneWrite}
-use Rattle.laws.proofs.Limited.{limited}
-use Rattle.laws.proofs.Stored.{all_are_kept}
+use Rattle.spec_api.specs.History.{Write, writes, present, last_of}
+use Rattle.spec_api.specs.Metadata.{version}
+use Rattle.spec_api.specs.Keys.{Key, is_same_key}
+use Rattle.spec_api.specs.Revisions.{revision_of}
+use Rattle.spec_laws.specs.SentLaws.{IsKept, AreKept}
+use Rattle.spec_api.proofs.PutLaws.{same_name}
+use Rattle.spec_api.proofs.RevisionTexts.{revision_is}
+use Rattle.spec_laws.specs.IdentityLaws.{VersionsTellWrites, VersionsNameOneWrite}
+use Rattle.spec_laws.proofs.Limited.{limited}
+use Rattle.spec_laws.proofs.Stored.{all_are_kept}
 
 abbrev pub write_at : Key → Data → Write
 write_at k d = record { key = k; put = Some d }

@@ -4,15 +4,15 @@ use Rattle.std.specs.Result.{result_map_both}
 use Rattle.std.proofs.lemmas.Bool.{le-ltb, le-leb}
 use Rattle.std.proofs.lemmas.List.{take_all}
 use Rattle.std.specs.Prelude.{nat_le}
-use Rattle.definitions.specs.Events.{Event}
-use Rattle.definitions.specs.History.{present, list}
-use Rattle.definitions.specs.Streams.{added_lines}
-use Rattle.definitions.specs.Versions.{watched}
-use Rattle.definitions.specs.WatchReplies.{told_lines}
-use Rattle.definitions.specs.Windows.{floor, within}
-use Rattle.laws.proofs.Looks.{none_at}
-use Rattle.laws.proofs.ServedWindows.{within_is}
-use Rattle.laws.specs.StreamLaws.{PresentStartsAreEmpty, UnclosedStreamsAreLists}
+use Rattle.spec_api.specs.Events.{Event}
+use Rattle.spec_api.specs.History.{present, list}
+use Rattle.spec_api.specs.Streams.{added_lines}
+use Rattle.spec_api.specs.Versions.{watched}
+use Rattle.spec_api.specs.WatchReplies.{told_lines}
+use Rattle.spec_api.specs.Windows.{floor, within}
+use Rattle.spec_laws.proofs.Looks.{none_at}
+use Rattle.spec_laws.proofs.ServedWindows.{within_is}
+use Rattle.spec_laws.specs.StreamLaws.{PresentStartsAreEmpty, UnclosedStreamsAreLists}
 
 abbrev the_none : List Event
 the_none = []

@@ -2,23 +2,23 @@
 use Rattle.std.proofs.Common.{◌≡◌, ℕ, List, false, codes, bytes_eq, is_some, decimal, IfSome, Option, Some, None, Result, Ok, Err, refl, sym, ap, ◌∙◌, subst, arith}
 use Rattle.serde_json.specs.Data.{Data, null, boolean, number, string, array, object, Members, put}
 use Rattle.serde_json.specs.Find.{get, get_member}
-use Rattle.definitions.specs.declared.kinds.Kind.{Kind}
-use Rattle.definitions.specs.declared.kinds.Kind.TheVariants.{ConfigMap, Pod, ReplicaSet, Deployment}
-use Rattle.definitions.specs.declared.refusals.Part.{Part}
-use Rattle.definitions.specs.declared.schemas.Schema.TheVariants.{Root, Metadata}
-use Rattle.definitions.specs.Defaults.{defaulted}
-use Rattle.definitions.specs.Metadata.{metadata_of, at_revision}
-use Rattle.definitions.specs.NewObjects.{first_status, with_status}
-use Rattle.definitions.specs.Reading.{reading}
-use Rattle.definitions.specs.Replacements.{as_stored, in_place, keeping, unchanged_metadata, unchanged_members, status_in, with_status_in}
-use Rattle.definitions.specs.Values.{members_of, without}
-use Rattle.definitions.specs.Verbs.{object_in}
-use Rattle.definitions.proofs.VerbSteps.{with_defaults}
-use Rattle.laws.proofs.DefaultsRead.{defaults_read}
-use Rattle.definitions.proofs.FirstStatus.{get-members_of}
-use Rattle.definitions.proofs.JsonMembers.{get_member-without_other}
-use Rattle.laws.proofs.NeatMembers.{One, Neat, Neat-good, Neat-get, Neat-keeping, Neat-metadata, Neat-put, Neat-without, Neat-whole, Filled-put, IsFilled, one_metadata, one_text, opens}
-use Rattle.laws.proofs.ReadAgain.{Filled, Filled-filled, Has, HasSpec, filled_members, reads_again, settled}
+use Rattle.spec_api.specs.declared.kinds.Kind.{Kind}
+use Rattle.spec_api.specs.declared.kinds.Kind.TheVariants.{ConfigMap, Pod, ReplicaSet, Deployment}
+use Rattle.spec_api.specs.declared.refusals.Part.{Part}
+use Rattle.spec_api.specs.declared.schemas.Schema.TheVariants.{Root, Metadata}
+use Rattle.spec_api.specs.Defaults.{defaulted}
+use Rattle.spec_api.specs.Metadata.{metadata_of, at_revision}
+use Rattle.spec_api.specs.NewObjects.{first_status, with_status}
+use Rattle.spec_api.specs.Reading.{reading}
+use Rattle.spec_api.specs.Replacements.{as_stored, in_place, keeping, unchanged_metadata, unchanged_members, status_in, with_status_in}
+use Rattle.spec_api.specs.Values.{members_of, without}
+use Rattle.spec_api.specs.Verbs.{object_in}
+use Rattle.spec_api.proofs.VerbSteps.{with_defaults}
+use Rattle.spec_laws.proofs.DefaultsRead.{defaults_read}
+use Rattle.spec_api.proofs.FirstStatus.{get-members_of}
+use Rattle.spec_api.proofs.JsonMembers.{get_member-without_other}
+use Rattle.spec_laws.proofs.NeatMembers.{One, Neat, Neat-good, Neat-get, Neat-keeping, Neat-metadata, Neat-put, Neat-without, Neat-whole, Filled-put, IsFilled, one_metadata, one_text, opens}
+use Rattle.spec_laws.proofs.ReadAgain.{Filled, Filled-filled, Has, HasSpec, filled_members, reads_again, settled}
 
 -- members that fit their kind, with nothing to be left out or filled in
 pub record AreWhole (k : Kind) (ms : Members) : Type 0 where

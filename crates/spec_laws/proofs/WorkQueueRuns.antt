@@ -7,9 +7,9 @@ use Rattle.std.specs.Ordering.{eq_by_cmp}
 use Rattle.std.specs.FinSet as set
 use Rattle.std.specs.FinSet.{contains_tied, contains-insert, contains-remove, contains-empty}
 use Rattle.std.proofs.lemmas.Map.Keys.{IsDistinct-push, IsDistinct-head, IsDistinct-tail}
-use Rattle.controllers.specs.WorkQueues.{WorkKey, work_key_cmp, WorkKeys, WorkQueue, idle, added, got_from, done, Call, add, get, finish, shut_down, after, after_all, front}
-use Rattle.laws.specs.WorkQueueLaws.{is_key, hands_out, was_handed}
-use Rattle.controllers.proofs.WorkKeyOrder.{work_key_total}
+use Rattle.spec_client_go.specs.WorkQueues.{WorkKey, work_key_cmp, WorkKeys, WorkQueue, idle, added, got_from, done, Call, add, get, finish, shut_down, after, after_all, front}
+use Rattle.spec_laws.specs.WorkQueueLaws.{is_key, hands_out, was_handed}
+use Rattle.spec_client_go.proofs.WorkKeyOrder.{work_key_total}
 
 abbrev pub same : WorkKey → WorkKey → Bool
 same = eq_by_cmp work_key_cmp

@@ -7,7 +7,7 @@ use Rattle.json.specs.Print.{quoted}
 use Rattle.json.proofs.Printed.Utf8.{are_ascii, IsUtf8-are_ascii, IsUtf8-quoted, IsUtf8-boolean}
 use Rattle.serde_json.specs.Data.{Num, unsigned, negative, float, Data, null, boolean, number, string, array, object, Items, no_items, item, Members, no_members, member}
 use Rattle.serde_json.specs.Written.{number_text, comma_if, compact_text, items_text, members_text}
-use Rattle.definitions.specs.Reached.{IsInRange, IsParsed, AreParsed, AreInOrder}
+use Rattle.spec_api.specs.Reached.{IsInRange, IsParsed, AreParsed, AreInOrder}
 
 ascii_before : (b : ℕ) (t : List ℕ) → are_ascii (b ∷ []) ≡ true → IsUtf8 t → IsUtf8 (b ∷ t)
 ascii_before b t e u = IsUtf8-append (b ∷ []) t (IsUtf8-are_ascii (b ∷ []) e) u

@@ -4,8 +4,8 @@ use Rattle.std.specs.List.{list_any, list_all}
 use Rattle.std.specs.Str.{bytes_eq}
 use Rattle.std.specs.FinMap as map
 use Rattle.std.specs.FinSet as set
-use Rattle.controllers.specs.Expectations.{Owner, Expectation, Table, Uids, deletions_expected, deleted, satisfied}
-use Rattle.laws.specs.ExpectationLaws.{Change, after_all, sets_none}
+use Rattle.spec_client_go.specs.Expectations.{Owner, Expectation, Table, Uids, deletions_expected, deleted, satisfied}
+use Rattle.spec_laws.specs.ExpectationLaws.{Change, after_all, sets_none}
 
 abbrev pub deletions_of : Option Expectation → Uids
 deletions_of None = set.empty

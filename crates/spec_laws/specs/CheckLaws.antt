@@ -1,15 +1,15 @@
 -- Laws of defaults and checks.
 use Rattle.std.specs.Prelude.{◌≡◌, ◌⊎◌, ◌≤◌, ℕ, List, true, None, Some, Ok, IfSome, codes}
 use Rattle.serde_json.specs.Data.{Data}
-use Rattle.definitions.specs.declared.kinds.Kind.{Kind}
-use Rattle.definitions.specs.declared.kinds.Kind.TheVariants.{ReplicaSet, Deployment}
-use Rattle.definitions.specs.Checks.{create_fault, in_spec, update_fault}
-use Rattle.definitions.specs.Defaults.{defaulted}
-use Rattle.definitions.specs.Metadata.{labels_of, name}
-use Rattle.definitions.specs.Reading.{reading}
-use Rattle.definitions.specs.Selectors.{Requirement, meets_all}
-use Rattle.definitions.specs.SelectorValues.{selector_of_value}
-use Rattle.definitions.specs.NewObjects.{created, with_first_status}
+use Rattle.spec_api.specs.declared.kinds.Kind.{Kind}
+use Rattle.spec_api.specs.declared.kinds.Kind.TheVariants.{ReplicaSet, Deployment}
+use Rattle.spec_api.specs.Checks.{create_fault, in_spec, update_fault}
+use Rattle.spec_api.specs.Defaults.{defaulted}
+use Rattle.spec_api.specs.Metadata.{labels_of, name}
+use Rattle.spec_api.specs.Reading.{reading}
+use Rattle.spec_api.specs.Selectors.{Requirement, meets_all}
+use Rattle.spec_api.specs.SelectorValues.{selector_of_value}
+use Rattle.spec_api.specs.NewObjects.{created, with_first_status}
 
 abbrev pub HasTemplate : Kind → Type 0
 HasTemplate k = (k ≡ ReplicaSet) ⊎ (k ≡ Deployment)

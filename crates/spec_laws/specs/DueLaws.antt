@@ -3,8 +3,8 @@ use Rattle.std.specs.Prelude.{◌≡◌, ◌↔◌, ◌<◌, ◌≤◌, ℕ, Lis
 use Rattle.std.specs.FinMap as map
 use Rattle.std.specs.List.{Contains}
 use Rattle.std.specs.List.Sorted.{IsStrictlySortedBy}
-use Rattle.controllers.specs.WorkQueues.{WorkKey}
-use Rattle.controllers.specs.Delays.{Delays, Alarm, alarm_cmp, due, still_delayed}
+use Rattle.spec_client_go.specs.WorkQueues.{WorkKey}
+use Rattle.spec_client_go.specs.Delays.{Delays, Alarm, alarm_cmp, due, still_delayed}
 
 -- a key that is delayed to a moment that has come
 abbrev pub IsDue : ℕ → Delays → WorkKey → Type 0

@@ -2,8 +2,8 @@
 use Rattle.std.specs.Prelude.{◌≡◌, ◌≤◌, ◌&&◌, ℕ, Bool, true, false, not, List, [], ◌∷◌, Option, Some, None}
 use Rattle.std.specs.Ordering.{is_eq}
 use Rattle.std.specs.FinMap as map
-use Rattle.definitions.specs.Keys.{Key}
-use Rattle.controllers.specs.Expectations.{Owner, owner_cmp, Expectation, Table, creations_expected, deletions_expected, created, deleted, satisfied, forgotten}
+use Rattle.spec_api.specs.Keys.{Key}
+use Rattle.spec_client_go.specs.Expectations.{Owner, owner_cmp, Expectation, Table, creations_expected, deletions_expected, created, deleted, satisfied, forgotten}
 
 -- the calls that change a table of expectations
 pub data Change : Type 0 where

@@ -2,10 +2,10 @@
 use Rattle.std.specs.Prelude.{◌≡◌, Bool, true, ◌&&◌, None, Some, is_some, if◌then◌else◌}
 use Rattle.serde_json.specs.Data.{Data, Items, no_items, item}
 use Rattle.serde_json.specs.Find.{as_str}
-use Rattle.definitions.specs.declared.policies.Policy.{Policy}
-use Rattle.definitions.specs.Checks.{has_text, text_is}
-use Rattle.definitions.specs.Deletion.{is_of_policy, of_policy, left_by}
-use Rattle.definitions.specs.SelectorValues.{all_items}
+use Rattle.spec_api.specs.declared.policies.Policy.{Policy}
+use Rattle.spec_api.specs.Checks.{has_text, text_is}
+use Rattle.spec_api.specs.Deletion.{is_of_policy, of_policy, left_by}
+use Rattle.spec_api.specs.SelectorValues.{all_items}
 
 -- whether it is a text, as each finalizer of a stored object is
 abbrev pub is_text : Data → Bool

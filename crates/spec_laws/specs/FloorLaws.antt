@@ -1,8 +1,8 @@
 -- The floor of a window in a user's words.
 use Rattle.std.specs.Prelude.{◌≤◌, ◌↔◌, ℕ, [], ◌∷◌, length, IsOk}
-use Rattle.definitions.specs.History.{History, write, compaction, View, present}
-use Rattle.definitions.specs.Windows.{since, list_within, changes_of}
-use Rattle.server_state.specs.Recorded.{above}
+use Rattle.spec_api.specs.History.{History, write, compaction, View, present}
+use Rattle.spec_api.specs.Windows.{since, list_within, changes_of}
+use Rattle.spec_server.specs.Recorded.{above}
 
 -- no compaction among these passed r: each is at most r
 abbrev pub NonePassed : ℕ → History → Type 0

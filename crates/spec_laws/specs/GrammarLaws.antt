@@ -1,8 +1,8 @@
 -- What the text of a selector says, by how it is written.
 use Rattle.std.specs.Prelude.{◌≡◌, ℕ, List, Some}
-use Rattle.laws.specs.SelectorGrammar.{IsSelectorText}
-use Rattle.definitions.specs.SelectorTexts.{selector_of_text}
-use Rattle.definitions.specs.Selectors.{Requirement}
+use Rattle.spec_laws.specs.SelectorGrammar.{IsSelectorText}
+use Rattle.spec_api.specs.SelectorTexts.{selector_of_text}
+use Rattle.spec_api.specs.Selectors.{Requirement}
 
 -- a text that is written so says these requirements
 abbrev pub WrittenTextsAreRead : Type 0

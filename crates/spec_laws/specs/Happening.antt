@@ -1,6 +1,6 @@
 -- What can happen, one entry after another.
 use Rattle.std.specs.Prelude.{ℕ, ◌≤◌, ◌+◌, [], ◌∷◌}
-use Rattle.definitions.specs.History.{History, write, compaction}
+use Rattle.spec_api.specs.History.{History, write, compaction}
 
 -- these entries can follow when revision r is present: a compaction reaches no further than what has happened before it (etcd API, Compact)
 abbrev pub Follows : ℕ → History → Type 0

@@ -4,19 +4,19 @@ use Rattle.std.specs.Map.{keys_of}
 use Rattle.std.specs.List.Sorted.{IsStrictlySortedBy}
 use Rattle.serde_json.specs.Data.{Data}
 use Rattle.serde_json.specs.Written.{compact_text}
-use Rattle.definitions.specs.declared.kinds.Kind.{Kind}
-use Rattle.definitions.specs.declared.methods.Method.{Method}
-use Rattle.definitions.specs.Replies.{Session, start}
-use Rattle.line_protocol.specs.Lines.{after_lines}
-use Rattle.definitions.specs.Keys.{Key, key_cmp, is_same_key}
-use Rattle.definitions.specs.History.{History, Entries, Write, write, present, found, entries_at, state, View, list, seen}
-use Rattle.definitions.specs.Refusals.{Refusal}
-use Rattle.definitions.specs.Metadata.{metadata_text, uid, version}
-use Rattle.definitions.specs.Reading.{reading}
-use Rattle.definitions.specs.Targets.{Asked, Route, route, path_text, read_request}
-use Rattle.definitions.specs.Uids.{uid_text, uid_revision, cluster_word}
-use Rattle.definitions.specs.Verbs.{Outcome, refused, accept_at, accept, write_of, outcome_body, history_after, overflows}
-use Rattle.definitions.specs.ObjectRequests.{Request, get_object, list_objects, create_object, update_object, update_status, patch_object, delete_object}
+use Rattle.spec_api.specs.declared.kinds.Kind.{Kind}
+use Rattle.spec_api.specs.declared.methods.Method.{Method}
+use Rattle.spec_api.specs.Replies.{Session, start}
+use Rattle.spec_line_protocol.specs.Lines.{after_lines}
+use Rattle.spec_api.specs.Keys.{Key, key_cmp, is_same_key}
+use Rattle.spec_api.specs.History.{History, Entries, Write, write, present, found, entries_at, state, View, list, seen}
+use Rattle.spec_api.specs.Refusals.{Refusal}
+use Rattle.spec_api.specs.Metadata.{metadata_text, uid, version}
+use Rattle.spec_api.specs.Reading.{reading}
+use Rattle.spec_api.specs.Targets.{Asked, Route, route, path_text, read_request}
+use Rattle.spec_api.specs.Uids.{uid_text, uid_revision, cluster_word}
+use Rattle.spec_api.specs.Verbs.{Outcome, refused, accept_at, accept, write_of, outcome_body, history_after, overflows}
+use Rattle.spec_api.specs.ObjectRequests.{Request, get_object, list_objects, create_object, update_object, update_status, patch_object, delete_object}
 
 -- ---- history
 

@@ -1,13 +1,13 @@
 -- What versions, uids and owner references tell of objects, whenever they were there and whoever asked.
 use Rattle.std.specs.Prelude.{◌≡◌, ◌≤◌, ◌-◌, ℕ, List, [], ◌∷◌, false, Some, None, IfSome, codes, decimal, slice_get}
 use Rattle.serde_json.specs.Data.{Data}
-use Rattle.definitions.specs.Checks.{is_of_the_future}
-use Rattle.definitions.specs.History.{History, writes, present, state}
-use Rattle.definitions.specs.Metadata.{Owner, owners, uid, version}
-use Rattle.definitions.specs.Keys.{Key}
-use Rattle.definitions.specs.Reached.{IsReached}
-use Rattle.definitions.specs.Uids.{uid_text, cluster_word}
-use Rattle.laws.specs.HistoryLaws.{KeepsText}
+use Rattle.spec_api.specs.Checks.{is_of_the_future}
+use Rattle.spec_api.specs.History.{History, writes, present, state}
+use Rattle.spec_api.specs.Metadata.{Owner, owners, uid, version}
+use Rattle.spec_api.specs.Keys.{Key}
+use Rattle.spec_api.specs.Reached.{IsReached}
+use Rattle.spec_api.specs.Uids.{uid_text, cluster_word}
+use Rattle.spec_laws.specs.HistoryLaws.{KeepsText}
 
 -- ---- versions
 

@@ -3,22 +3,22 @@ use Rattle.std.specs.Prelude.{◌≡◌, ◌⊎◌, ℕ, List, [], ◌∷◌, Bo
 use Rattle.std.specs.Str.{bytes_eq}
 use Rattle.serde_json.specs.Data.{Data, Items, no_items, item}
 use Rattle.serde_json.specs.Find.{get}
-use Rattle.definitions.specs.declared.kinds.Kind.{Kind}
-use Rattle.definitions.specs.declared.policies.Policy.{Policy}
-use Rattle.definitions.specs.Checks.{finalizers, has_text}
-use Rattle.definitions.specs.DeleteOptions.{Options}
-use Rattle.definitions.specs.Deletion.{is_of_policy, of_policy}
-use Rattle.definitions.specs.History.{History, Write, writes, present, state}
-use Rattle.definitions.specs.Kinds.{has_generation}
-use Rattle.laws.specs.HistoryLaws.{OfStored, KeepsText, is_delete}
-use Rattle.definitions.specs.Reached.{IsReached}
-use Rattle.definitions.specs.Metadata.{metadata, uid, version, is_being_deleted}
-use Rattle.definitions.specs.Keys.{Key}
-use Rattle.definitions.specs.Reading.{reading}
-use Rattle.definitions.specs.Replacements.{generation, next_generation, is_new_generation}
-use Rattle.definitions.specs.Values.{merged}
-use Rattle.definitions.specs.Verbs.{Outcome, accept, write_of, outcome_body, history_after, object_in}
-use Rattle.definitions.specs.ObjectRequests.{Request, create_object, update_object, update_status, patch_object, delete_object}
+use Rattle.spec_api.specs.declared.kinds.Kind.{Kind}
+use Rattle.spec_api.specs.declared.policies.Policy.{Policy}
+use Rattle.spec_api.specs.Checks.{finalizers, has_text}
+use Rattle.spec_api.specs.DeleteOptions.{Options}
+use Rattle.spec_api.specs.Deletion.{is_of_policy, of_policy}
+use Rattle.spec_api.specs.History.{History, Write, writes, present, state}
+use Rattle.spec_api.specs.Kinds.{has_generation}
+use Rattle.spec_laws.specs.HistoryLaws.{OfStored, KeepsText, is_delete}
+use Rattle.spec_api.specs.Reached.{IsReached}
+use Rattle.spec_api.specs.Metadata.{metadata, uid, version, is_being_deleted}
+use Rattle.spec_api.specs.Keys.{Key}
+use Rattle.spec_api.specs.Reading.{reading}
+use Rattle.spec_api.specs.Replacements.{generation, next_generation, is_new_generation}
+use Rattle.spec_api.specs.Values.{merged}
+use Rattle.spec_api.specs.Verbs.{Outcome, accept, write_of, outcome_body, history_after, object_in}
+use Rattle.spec_api.specs.ObjectRequests.{Request, create_object, update_object, update_status, patch_object, delete_object}
 
 -- what is true of the object that is there before a request, and of the one that it writes in its place
 abbrev pub OfReplaced : History → Outcome → (Key → Data → Data → Type 0) → Type 0

@@ -1,12 +1,12 @@
 -- What follows for a watch that looks again and again, and for one that begins with what is there.
 use Rattle.std.specs.Prelude.{◌≡◌, ◌≤◌, ◌<◌, ◌↔◌, ℕ, Bool, List, [], ◌∷◌, ◌++◌, length, map, Option, unwrap_or, Ok, IsOk}
-use Rattle.definitions.specs.declared.frames.FrameKind.TheVariants.{Added}
-use Rattle.definitions.specs.History.{History, View, present, list}
-use Rattle.definitions.specs.ListQueries.{plain_start}
-use Rattle.definitions.specs.Streams.{Line, frame_of, IsStream, applied_lines}
-use Rattle.definitions.specs.Versions.{Watched, watched_from}
-use Rattle.definitions.specs.WatchReplies.{lines_from, watch_lines}
-use Rattle.definitions.specs.Windows.{floor}
+use Rattle.spec_api.specs.declared.frames.FrameKind.TheVariants.{Added}
+use Rattle.spec_api.specs.History.{History, View, present, list}
+use Rattle.spec_api.specs.ListQueries.{plain_start}
+use Rattle.spec_api.specs.Streams.{Line, frame_of, IsStream, applied_lines}
+use Rattle.spec_api.specs.Versions.{Watched, watched_from}
+use Rattle.spec_api.specs.WatchReplies.{lines_from, watch_lines}
+use Rattle.spec_api.specs.Windows.{floor}
 
 -- a look of a watch: all that has happened by then, how many events it asks for, and what it is given
 pub record Look : Type 0 where

@@ -1,8 +1,8 @@
 -- What follows from the definitions of pages and of their tokens.
 use Rattle.std.specs.Prelude.{◌≡◌, ◌≤◌, ◌<◌, ◌+◌, ◌==◌, ◌↔◌, ℕ, List, [], ◌∷◌, length, flat_map, Option, Some, None, if◌then◌else◌}
-use Rattle.definitions.specs.History.{History, View, Entries, list}
-use Rattle.definitions.specs.Pages.{Place, after_place, last_place, Page, page_of, remaining, AreInPlace}
-use Rattle.definitions.specs.PageTokens.{Token, IsToken, token_of}
+use Rattle.spec_api.specs.History.{History, View, Entries, list}
+use Rattle.spec_api.specs.Pages.{Place, after_place, last_place, Page, page_of, remaining, AreInPlace}
+use Rattle.spec_api.specs.PageTokens.{Token, IsToken, token_of}
 
 -- the list of a view does
 abbrev pub ListsAreInPlace : Type 0

@@ -4,15 +4,15 @@ use Rattle.std.specs.List.{AllByRecursion}
 use Rattle.std.specs.Str.{IsUtf8}
 use Rattle.serde_json.specs.Data.{Data, boolean, string, array, object, Items, no_items, item, no_members, member, put}
 use Rattle.serde_json.specs.Find.{get}
-use Rattle.definitions.specs.declared.kinds.Kind.{Kind}
-use Rattle.definitions.specs.Checks.{in_spec}
-use Rattle.definitions.specs.History.{History, View, state, list}
-use Rattle.definitions.specs.Metadata.{metadata, metadata_of, with_metadata}
-use Rattle.definitions.specs.Keys.{Key, is_namespace, is_subdomain}
-use Rattle.definitions.specs.Reached.{IsParsed, AreParsed, IsReached}
-use Rattle.definitions.specs.Reading.{empty, reading}
-use Rattle.definitions.specs.Replacements.{as_stored, keeping}
-use Rattle.definitions.specs.Values.{members_of, inner_of, without}
+use Rattle.spec_api.specs.declared.kinds.Kind.{Kind}
+use Rattle.spec_api.specs.Checks.{in_spec}
+use Rattle.spec_api.specs.History.{History, View, state, list}
+use Rattle.spec_api.specs.Metadata.{metadata, metadata_of, with_metadata}
+use Rattle.spec_api.specs.Keys.{Key, is_namespace, is_subdomain}
+use Rattle.spec_api.specs.Reached.{IsParsed, AreParsed, IsReached}
+use Rattle.spec_api.specs.Reading.{empty, reading}
+use Rattle.spec_api.specs.Replacements.{as_stored, keeping}
+use Rattle.spec_api.specs.Values.{members_of, inner_of, without}
 
 -- ---- what is there
 

@@ -1,14 +1,14 @@
 -- What has happened at a server, whoever asked: what counts as that, and how far it goes.
 use Rattle.std.specs.Prelude.{◌≡◌, ◌≤◌, ◌++◌, ℕ, List, length, true, Ok}
-use Rattle.definitions.specs.declared.methods.Method.{Method}
-use Rattle.definitions.specs.History.{History, writes, present, entries_at}
-use Rattle.laws.specs.Happening.{CanHappen}
-use Rattle.line_protocol.specs.Lines.{history_of}
-use Rattle.definitions.specs.Moments.{is_moment}
-use Rattle.definitions.specs.Reached.{CanBeRead, IsTimestamp, IsReached}
-use Rattle.definitions.specs.Targets.{request, read_request}
-use Rattle.definitions.specs.ObjectRequests.{Request}
-use Rattle.laws.specs.HistoryLaws.{Carry}
+use Rattle.spec_api.specs.declared.methods.Method.{Method}
+use Rattle.spec_api.specs.History.{History, writes, present, entries_at}
+use Rattle.spec_laws.specs.Happening.{CanHappen}
+use Rattle.spec_line_protocol.specs.Lines.{history_of}
+use Rattle.spec_api.specs.Moments.{is_moment}
+use Rattle.spec_api.specs.Reached.{CanBeRead, IsTimestamp, IsReached}
+use Rattle.spec_api.specs.Targets.{request, read_request}
+use Rattle.spec_api.specs.ObjectRequests.{Request}
+use Rattle.spec_laws.specs.HistoryLaws.{Carry}
 
 -- ---- what is reached
 

@@ -3,10 +3,10 @@ use Rattle.std.specs.Prelude.{◌≡◌, ◌↔◌, true, Some, codes}
 use Rattle.serde_json.specs.Data.{Data, object, Members}
 use Rattle.serde_json.specs.Find.{get}
 use Rattle.serde_json.specs.Written.{compact_text}
-use Rattle.definitions.specs.declared.kinds.Kind.{Kind}
-use Rattle.definitions.specs.Metadata.{metadata, metadata_of, with_metadata}
-use Rattle.definitions.specs.Replacements.{in_place, says_the_same, with_status_in}
-use Rattle.definitions.specs.Values.{data_of, without}
+use Rattle.spec_api.specs.declared.kinds.Kind.{Kind}
+use Rattle.spec_api.specs.Metadata.{metadata, metadata_of, with_metadata}
+use Rattle.spec_api.specs.Replacements.{in_place, says_the_same, with_status_in}
+use Rattle.spec_api.specs.Values.{data_of, without}
 
 -- an object without its version
 abbrev pub without_version : Data → Data

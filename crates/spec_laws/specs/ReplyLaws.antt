@@ -6,19 +6,19 @@ use Rattle.serde_json.specs.Find.{get, as_array}
 use Rattle.serde_json.specs.Read.{read}
 use Rattle.serde_json.specs.View.{items_of}
 use Rattle.serde_json.specs.Written.{compact_text}
-use Rattle.definitions.specs.declared.kinds.Kind.{Kind}
-use Rattle.definitions.specs.declared.versions.At.{At}
-use Rattle.definitions.specs.declared.versions.At.TheVariants.{Present, NotOlder, Exact}
-use Rattle.definitions.specs.ListQueries.{ListOptions, going_on}
-use Rattle.definitions.specs.History.{History, View, Entries, writes, present, list}
-use Rattle.definitions.specs.Lists.{list_outcome, page_body}
-use Rattle.definitions.specs.Metadata.{metadata_text}
-use Rattle.definitions.specs.Reached.{IsReached}
-use Rattle.definitions.specs.PageTokens.{token_of}
-use Rattle.controllers.specs.Reflectors.{list_of}
-use Rattle.definitions.specs.Verbs.{as_item, list_body, accept, outcome_code, outcome_body}
-use Rattle.definitions.specs.ObjectRequests.{list_objects}
-use Rattle.laws.specs.SentLaws.{whole, listed_at}
+use Rattle.spec_api.specs.declared.kinds.Kind.{Kind}
+use Rattle.spec_api.specs.declared.versions.At.{At}
+use Rattle.spec_api.specs.declared.versions.At.TheVariants.{Present, NotOlder, Exact}
+use Rattle.spec_api.specs.ListQueries.{ListOptions, going_on}
+use Rattle.spec_api.specs.History.{History, View, Entries, writes, present, list}
+use Rattle.spec_api.specs.Lists.{list_outcome, page_body}
+use Rattle.spec_api.specs.Metadata.{metadata_text}
+use Rattle.spec_api.specs.Reached.{IsReached}
+use Rattle.spec_api.specs.PageTokens.{token_of}
+use Rattle.spec_client_go.specs.Reflectors.{list_of}
+use Rattle.spec_api.specs.Verbs.{as_item, list_body, accept, outcome_code, outcome_body}
+use Rattle.spec_api.specs.ObjectRequests.{list_objects}
+use Rattle.spec_laws.specs.SentLaws.{whole, listed_at}
 
 -- ---- one list
 

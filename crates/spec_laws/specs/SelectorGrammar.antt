@@ -1,11 +1,11 @@
 -- How the text of a selector is written (Kubernetes, Labels and Selectors, API).
 use Rattle.std.specs.Prelude.{◌≡◌, ◌⊎◌, ◌<◌, ℕ, List, [], ◌∷◌, ◌++◌, true, false, codes, length}
 use Rattle.std.specs.List.{list_all}
-use Rattle.definitions.specs.declared.selectors.Operator.{Operator}
-use Rattle.definitions.specs.declared.selectors.Operator.TheVariants.{In, NotIn, Exists, DoesNotExist}
-use Rattle.definitions.specs.Labels.{is_label_key, is_label_value}
-use Rattle.definitions.specs.SelectorTexts.{is_blank}
-use Rattle.definitions.specs.Selectors.{Requirement}
+use Rattle.spec_api.specs.declared.selectors.Operator.{Operator}
+use Rattle.spec_api.specs.declared.selectors.Operator.TheVariants.{In, NotIn, Exists, DoesNotExist}
+use Rattle.spec_api.specs.Labels.{is_label_key, is_label_value}
+use Rattle.spec_api.specs.SelectorTexts.{is_blank}
+use Rattle.spec_api.specs.Selectors.{Requirement}
 
 -- spaces and tabs, or nothing
 abbrev pub AreBlanks : List ℕ → Type 0

@@ -2,12 +2,12 @@
 use Rattle.std.specs.Prelude.{◌≡◌, ◌⊎◌, ◌↔◌, ◌&&◌, ◌++◌, ℕ, List, [], ◌∷◌, true, false, None, Some, Ok, codes, option_map}
 use Rattle.std.specs.List.{list_all}
 use Rattle.serde_json.specs.Data.{Data, Members}
-use Rattle.definitions.specs.declared.selectors.Operator.TheVariants.{In, NotIn}
-use Rattle.definitions.specs.Labels.{label_at, is_label_key, is_label_value}
-use Rattle.laws.specs.SelectorForms.{is_sound, pair_value, selector_text, selector_value}
-use Rattle.definitions.specs.SelectorTexts.{selector_of_text}
-use Rattle.definitions.specs.SelectorValues.{selector_of_value}
-use Rattle.definitions.specs.Selectors.{Requirement, meets, meets_all}
+use Rattle.spec_api.specs.declared.selectors.Operator.TheVariants.{In, NotIn}
+use Rattle.spec_api.specs.Labels.{label_at, is_label_key, is_label_value}
+use Rattle.spec_laws.specs.SelectorForms.{is_sound, pair_value, selector_text, selector_value}
+use Rattle.spec_api.specs.SelectorTexts.{selector_of_text}
+use Rattle.spec_api.specs.SelectorValues.{selector_of_value}
+use Rattle.spec_api.specs.Selectors.{Requirement, meets, meets_all}
 
 -- an object without the key meets each `notin` and `!=` of it, whatever the values
 abbrev pub ExclusionsNeedNoKey : Type 0

@@ -6,20 +6,20 @@ use Rattle.serde_json.specs.Data.{Data, depth}
 use Rattle.serde_json.specs.Find.{as_object}
 use Rattle.serde_json.specs.Read.{read, max_depth}
 use Rattle.serde_json.specs.Written.{compact_text}
-use Rattle.definitions.specs.declared.kinds.Kind.{Kind}
-use Rattle.definitions.specs.declared.versions.Start.TheVariants.{After}
-use Rattle.definitions.specs.Keys.{Key}
-use Rattle.definitions.specs.History as history
-use Rattle.definitions.specs.History.{History, Write, View, Entries, writes, present, list}
-use Rattle.definitions.specs.Objects.{Object}
-use Rattle.definitions.specs.Metadata.{name, namespace, uid, version}
-use Rattle.definitions.specs.Reading.{reading}
-use Rattle.definitions.specs.Events.{Event, events}
-use Rattle.definitions.specs.Reached.{IsReached}
-use Rattle.definitions.specs.Streams.{Line, IsStream}
-use Rattle.definitions.specs.WatchReplies.{watch_lines}
-use Rattle.definitions.specs.Verbs.{list_body}
-use Rattle.controllers.specs.Reflectors.{Listed, shown, name_in, list_of, put_all}
+use Rattle.spec_api.specs.declared.kinds.Kind.{Kind}
+use Rattle.spec_api.specs.declared.versions.Start.TheVariants.{After}
+use Rattle.spec_api.specs.Keys.{Key}
+use Rattle.spec_api.specs.History as history
+use Rattle.spec_api.specs.History.{History, Write, View, Entries, writes, present, list}
+use Rattle.spec_api.specs.Objects.{Object}
+use Rattle.spec_api.specs.Metadata.{name, namespace, uid, version}
+use Rattle.spec_api.specs.Reading.{reading}
+use Rattle.spec_api.specs.Events.{Event, events}
+use Rattle.spec_api.specs.Reached.{IsReached}
+use Rattle.spec_api.specs.Streams.{Line, IsStream}
+use Rattle.spec_api.specs.WatchReplies.{watch_lines}
+use Rattle.spec_api.specs.Verbs.{list_body}
+use Rattle.spec_client_go.specs.Reflectors.{Listed, shown, name_in, list_of, put_all}
 
 -- ---- what is stored
 

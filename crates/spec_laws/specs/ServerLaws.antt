@@ -1,20 +1,20 @@
 -- What follows from the definitions of servers: one that follows a history answers as the history does.
 use Rattle.std.specs.Prelude.{◌≡◌, ◌≤◌, ◌↔◌, ℕ, [], ◌∷◌, ◌++◌, List, Result, Ok, Err, IsOk}
-use Rattle.definitions.specs.History.{History, Write, write, View, present, list}
-use Rattle.laws.specs.Happening.{CanHappen}
-use Rattle.definitions.specs.Refusals.{Refusal}
-use Rattle.definitions.specs.Verbs.{accept_at, accept, write_of, history_after}
-use Rattle.definitions.specs.ObjectRequests.{Request}
-use Rattle.definitions.specs.Events.{events, applied}
-use Rattle.definitions.specs.Streams.{IsStream, applied_lines}
-use Rattle.definitions.specs.Windows.{floor, since}
-use Rattle.definitions.specs.declared.versions.At.{At}
-use Rattle.definitions.specs.declared.versions.At.TheVariants.{Present, NotOlder, Exact}
-use Rattle.definitions.specs.Versions.{Watched, list_for, watched_from, compacts}
-use Rattle.definitions.specs.WatchReplies.{lines_from, watch_lines}
-use Rattle.definitions.specs.ListQueries.{ListOptions, WatchOptions}
-use Rattle.definitions.specs.Lists.{list_outcome}
-use Rattle.server_state.specs.Servers.{list_served, watch_served, Server, opened_server, after_write, after_writing, after_entries, list_by, watch_by, compact_by, IsServerAfter}
+use Rattle.spec_api.specs.History.{History, Write, write, View, present, list}
+use Rattle.spec_laws.specs.Happening.{CanHappen}
+use Rattle.spec_api.specs.Refusals.{Refusal}
+use Rattle.spec_api.specs.Verbs.{accept_at, accept, write_of, history_after}
+use Rattle.spec_api.specs.ObjectRequests.{Request}
+use Rattle.spec_api.specs.Events.{events, applied}
+use Rattle.spec_api.specs.Streams.{IsStream, applied_lines}
+use Rattle.spec_api.specs.Windows.{floor, since}
+use Rattle.spec_api.specs.declared.versions.At.{At}
+use Rattle.spec_api.specs.declared.versions.At.TheVariants.{Present, NotOlder, Exact}
+use Rattle.spec_api.specs.Versions.{Watched, list_for, watched_from, compacts}
+use Rattle.spec_api.specs.WatchReplies.{lines_from, watch_lines}
+use Rattle.spec_api.specs.ListQueries.{ListOptions, WatchOptions}
+use Rattle.spec_api.specs.Lists.{list_outcome}
+use Rattle.spec_server.specs.Servers.{list_served, watch_served, Server, opened_server, after_write, after_writing, after_entries, list_by, watch_by, compact_by, IsServerAfter}
 
 -- a new server stands for the empty history
 abbrev pub ServersOpen : Type 0

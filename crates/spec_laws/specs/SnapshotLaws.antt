@@ -1,7 +1,7 @@
 -- What follows from the definition of snapshots.
 use Rattle.std.specs.Prelude.{◌≡◌, ◌++◌, ℕ, [], ◌∷◌}
-use Rattle.definitions.specs.History.{History, Write, write, compaction}
-use Rattle.server_state.specs.Snapshots.{empty, snapshot, written}
+use Rattle.spec_api.specs.History.{History, Write, write, compaction}
+use Rattle.spec_server.specs.Snapshots.{empty, snapshot, written}
 
 -- nothing is there at first, each write makes the next snapshot of the one before, and a compaction changes none
 abbrev pub SnapshotsFollow : Type 0

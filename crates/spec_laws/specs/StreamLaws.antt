@@ -1,16 +1,16 @@
 -- What follows for watches that begin with initial events.
 use Rattle.std.specs.Prelude.{◌≡◌, ◌≤◌, ℕ, List, [], ◌∷◌, ◌++◌, Bool, true, false, Option, None, unwrap_or, Ok, IsOk, ◌↔◌}
 use Rattle.serde_json.specs.Data.{Data}
-use Rattle.definitions.specs.Keys.{Key}
-use Rattle.definitions.specs.declared.kinds.Kind.{Kind}
-use Rattle.definitions.specs.History.{History, View, Entries, present, list}
-use Rattle.definitions.specs.Streams.{Line, initial, initial_end, added_lines, text_of_lines, IsInitialStream}
-use Rattle.definitions.specs.Windows.{floor}
-use Rattle.definitions.specs.declared.versions.Start.TheVariants.{Listed, Streamed, Present}
-use Rattle.laws.specs.LookLaws.{Look, AreLooks, last_history, last_stand, look_lines}
-use Rattle.definitions.specs.Versions.{Watched}
-use Rattle.server_state.specs.Servers.{Server, IsServerAfter, initial_by, watch_by}
-use Rattle.definitions.specs.WatchReplies.{Initial, initial_at, initial_for, lines_from, opening_lines, opened_lines, watch_lines}
+use Rattle.spec_api.specs.Keys.{Key}
+use Rattle.spec_api.specs.declared.kinds.Kind.{Kind}
+use Rattle.spec_api.specs.History.{History, View, Entries, present, list}
+use Rattle.spec_api.specs.Streams.{Line, initial, initial_end, added_lines, text_of_lines, IsInitialStream}
+use Rattle.spec_api.specs.Windows.{floor}
+use Rattle.spec_api.specs.declared.versions.Start.TheVariants.{Listed, Streamed, Present}
+use Rattle.spec_laws.specs.LookLaws.{Look, AreLooks, last_history, last_stand, look_lines}
+use Rattle.spec_api.specs.Versions.{Watched}
+use Rattle.spec_server.specs.Servers.{Server, IsServerAfter, initial_by, watch_by}
+use Rattle.spec_api.specs.WatchReplies.{Initial, initial_at, initial_for, lines_from, opening_lines, opened_lines, watch_lines}
 
 -- a server that stands for what has happened gives the initial events that it says
 abbrev pub ServersBegin : Type 0

@@ -1,7 +1,7 @@
 -- Which texts are uids of objects that are not created yet.
 use Rattle.std.specs.Prelude.{◌≡◌, ◌↔◌, ◌<◌, ◌^◌, ℕ, List, true}
-use Rattle.definitions.specs.Checks.{is_of_the_future}
-use Rattle.definitions.specs.Uids.{uid_text, cluster_word}
+use Rattle.spec_api.specs.Checks.{is_of_the_future}
+use Rattle.spec_api.specs.Uids.{uid_text, cluster_word}
 
 -- the uid of an object that is created at a revision above this one (RFC 9562, UUID Version 8)
 abbrev pub IsUidAbove : ℕ → List ℕ → Type 0

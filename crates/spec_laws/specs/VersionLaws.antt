@@ -1,9 +1,9 @@
 -- What a watch is given a part at a time, by all its events.
 use Rattle.std.specs.Prelude.{◌≡◌, ℕ, zero, suc, List, length, take, nat_le, option_map, unwrap_or, slice_get, if◌then◌else◌}
-use Rattle.definitions.specs.Events.{Event, events}
-use Rattle.definitions.specs.History.{History, View, present}
-use Rattle.definitions.specs.Versions.{Watched, watched_from}
-use Rattle.definitions.specs.Windows.{floor, within}
+use Rattle.spec_api.specs.Events.{Event, events}
+use Rattle.spec_api.specs.History.{History, View, present}
+use Rattle.spec_api.specs.Versions.{Watched, watched_from}
+use Rattle.spec_api.specs.Windows.{floor, within}
 
 -- the revision of the n-th of these events, and where n is 0 that from which the watch began
 abbrev pub nth_revision : ℕ → ℕ → List Event → ℕ

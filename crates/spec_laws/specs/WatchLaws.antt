@@ -1,8 +1,8 @@
 -- What follows from the definitions of events and streams.
 use Rattle.std.specs.Prelude.{◌≡◌, ◌≤◌, ◌<◌, ℕ, List, [], ◌∷◌, ◌++◌}
-use Rattle.definitions.specs.History.{History, View, list}
-use Rattle.definitions.specs.Events.{Event, events, applied}
-use Rattle.definitions.specs.Streams.{Line, IsStream, IsInitialStream, applied_lines}
+use Rattle.spec_api.specs.History.{History, View, list}
+use Rattle.spec_api.specs.Events.{Event, events, applied}
+use Rattle.spec_api.specs.Streams.{Line, IsStream, IsInitialStream, applied_lines}
 
 -- applying the events after a to the list at a gives the list at b
 abbrev pub ChangesAreApplied : Type 0

@@ -1,11 +1,11 @@
 -- What follows from the definitions of windows.
 use Rattle.std.specs.Prelude.{◌≡◌, ◌≤◌, ◌↔◌, ℕ, [], ◌∷◌, ◌++◌, length, take, true, false, Ok, IsOk}
-use Rattle.definitions.specs.declared.kinds.Kind.{Kind}
-use Rattle.definitions.specs.Keys.{Key}
-use Rattle.definitions.specs.History.{History, Write, write, compaction, View, writes, present, state, list}
-use Rattle.definitions.specs.Events.{events}
-use Rattle.definitions.specs.Windows.{is_of, change_of, changes_of, last_revision, compacted, floor, since, list_within}
-use Rattle.server_state.specs.Recorded.{Window, recorded_since, recorded_list, opened, recorded, compacted_to, IsWindowAfter}
+use Rattle.spec_api.specs.declared.kinds.Kind.{Kind}
+use Rattle.spec_api.specs.Keys.{Key}
+use Rattle.spec_api.specs.History.{History, Write, write, compaction, View, writes, present, state, list}
+use Rattle.spec_api.specs.Events.{events}
+use Rattle.spec_api.specs.Windows.{is_of, change_of, changes_of, last_revision, compacted, floor, since, list_within}
+use Rattle.spec_server.specs.Recorded.{Window, recorded_since, recorded_list, opened, recorded, compacted_to, IsWindowAfter}
 
 -- a new window follows the empty history
 abbrev pub WindowsOpen : Type 0

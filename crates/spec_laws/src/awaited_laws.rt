@@ -1,5 +1,5 @@
 //! What a controller's author may rely on while pods that it had deleted are still to be seen gone.
-ghost use Rattle.laws.specs.AwaitedLaws.{SeenIsAwaitedNoMore, StrangersChangeNothing, WaitsForEach, DeletionsOnlyFall};
+ghost use Rattle.spec_laws.specs.AwaitedLaws.{SeenIsAwaitedNoMore, StrangersChangeNothing, WaitsForEach, DeletionsOnlyFall};
 
 /// A pod that is seen deleted is waited for no more, and each other pod as before.
 pub fn seen_is_awaited_no_more()

@@ -1,5 +1,5 @@
 //! Laws of defaults and checks.
-ghost use Rattle.laws.specs.CheckLaws.{CreatedSelectTheirTemplates, UpdatedSelectTheirTemplates, StoredPassAgain, DefaultsReadAgain};
+ghost use Rattle.spec_laws.specs.CheckLaws.{CreatedSelectTheirTemplates, UpdatedSelectTheirTemplates, StoredPassAgain, DefaultsReadAgain};
 
 /// The selector of a ReplicaSet or Deployment that can be created matches the labels of its template.
 pub fn created_select_their_templates()

@@ -1,5 +1,5 @@
 //! Laws of delays.
-ghost use Rattle.laws.specs.DueLaws.{DueHaveCome, DueAreInTurn, DueAreTheOnlyList, StillDelayedAreLater};
+ghost use Rattle.spec_laws.specs.DueLaws.{DueHaveCome, DueAreInTurn, DueAreTheOnlyList, StillDelayedAreLater};
 
 /// A key is handed over when its moment has come, and not before.
 pub fn due_have_come()

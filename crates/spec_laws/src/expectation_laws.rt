@@ -1,5 +1,5 @@
 //! What a controller's author may rely on while it waits for what it asked for.
-ghost use Rattle.laws.specs.ExpectationLaws.{WaitsForBoth, ForgetsAll, NoneBelowZero, OnlyFalls, StaysOver};
+ghost use Rattle.spec_laws.specs.ExpectationLaws.{WaitsForBoth, ForgetsAll, NoneBelowZero, OnlyFalls, StaysOver};
 
 /// Of two creations, after the first is seen the wait lasts five minutes at most, and after the second it is over.
 pub fn waits_for_both()

@@ -1,5 +1,5 @@
 //! Laws of the finalizers that a delete leaves.
-ghost use Rattle.laws.specs.FinalizerLaws.{NoPolicyLeavesAll, PoliciesReplaceFinalizers};
+ghost use Rattle.spec_laws.specs.FinalizerLaws.{NoPolicyLeavesAll, PoliciesReplaceFinalizers};
 
 /// A delete without a policy leaves the finalizers as they are.
 pub fn no_policy_leaves_all()

@@ -1,5 +1,5 @@
 //! Laws of the texts of selectors, by how they are written.
-ghost use Rattle.laws.specs.GrammarLaws.{WrittenTextsAreRead, ReadTextsAreWritten, TextsAreClear};
+ghost use Rattle.spec_laws.specs.GrammarLaws.{WrittenTextsAreRead, ReadTextsAreWritten, TextsAreClear};
 
 /// A text in the forms of the API, with blanks anywhere between its parts, is read as the requirements that it writes.
 pub fn written_texts_are_read()

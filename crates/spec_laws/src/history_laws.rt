@@ -1,5 +1,5 @@
 //! Laws of the definitions.
-ghost use Rattle.laws.specs.HistoryLaws.{MembersAreState, MembersAreInOrder, ListsShowTheState, ListsAreInOrder, PastStands, WritesSetState, WritesCarryTheirRevision, CreatesAreNew, NamedVersionsAreReplaced, WritesKeepIdentity, WritesFit, WritesHaveRoom, RefusalsWriteNothing, AnswersAreRead, UidsHoldRevisions, PathsAreRoutes, BodiesFit, RunsOnlyAdd, WindowsOnlyForget, ReadsAgain};
+ghost use Rattle.spec_laws.specs.HistoryLaws.{MembersAreState, MembersAreInOrder, ListsShowTheState, ListsAreInOrder, PastStands, WritesSetState, WritesCarryTheirRevision, CreatesAreNew, NamedVersionsAreReplaced, WritesKeepIdentity, WritesFit, WritesHaveRoom, RefusalsWriteNothing, AnswersAreRead, UidsHoldRevisions, PathsAreRoutes, BodiesFit, RunsOnlyAdd, WindowsOnlyForget, ReadsAgain};
 
 /// What is there under a key at a revision is what the last write to that key put there.
 pub fn members_are_state()

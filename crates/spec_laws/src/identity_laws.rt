@@ -1,5 +1,5 @@
 //! Laws of versions, uids and owner references, over all that can have happened at a server.
-ghost use Rattle.laws.specs.IdentityLaws.{VersionsTellWrites, VersionsNameOneWrite, UidsTellCreates, UidsAreGivenOnce, DeletionsStand, OwnersAreKnown};
+ghost use Rattle.spec_laws.specs.IdentityLaws.{VersionsTellWrites, VersionsNameOneWrite, UidsTellCreates, UidsAreGivenOnce, DeletionsStand, OwnersAreKnown};
 
 /// An object that is there is what the write of its version put.
 pub fn versions_tell_writes()

@@ -1,5 +1,5 @@
 //! What becomes of objects, whatever is asked.
-ghost use Rattle.laws.specs.LifecycleLaws.{DeletesSpareFinalizers, LastFinalizersRemove, WritesKeepDeletions, NoFinalizerIsAdded, NewUidsAreUnused, GenerationsCount, GenerationsBegin, StatusesChangeNothingElse, UpdatesReplaceTheirVersion, StatusesReplaceTheirVersion, PatchesReplaceTheirVersion, DeletesRemoveTheirVersion, DeletesFindTheirUid, NoWriteNoChange};
+ghost use Rattle.spec_laws.specs.LifecycleLaws.{DeletesSpareFinalizers, LastFinalizersRemove, WritesKeepDeletions, NoFinalizerIsAdded, NewUidsAreUnused, GenerationsCount, GenerationsBegin, StatusesChangeNothingElse, UpdatesReplaceTheirVersion, StatusesReplaceTheirVersion, PatchesReplaceTheirVersion, DeletesRemoveTheirVersion, DeletesFindTheirUid, NoWriteNoChange};
 
 /// A delete removes no object that has a finalizer, but those by which a policy is known; without a policy, none that has
 /// any.

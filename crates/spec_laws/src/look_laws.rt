@@ -1,5 +1,5 @@
 //! Laws of watches that look again and again, and of those that begin with what is there.
-ghost use Rattle.laws.specs.LookLaws.{LooksAskForAnyNumber, LooksAreOneStream, WatchesBeginWithTheList};
+ghost use Rattle.spec_laws.specs.LookLaws.{LooksAskForAnyNumber, LooksAreOneStream, WatchesBeginWithTheList};
 
 /// A watch may ask for as few events at a time as it likes, or for none: it is answered all the same, and what it is shown
 /// is whole up to where it then stands.

@@ -1,5 +1,5 @@
 //! Laws of pages.
-ghost use Rattle.laws.specs.PageLaws.{ListsAreInPlace, PagesAreLists, PagesHaveLimits, RemaindersAddUp, PagesEnd, NextsAreLast, TokensAreDistinct, TokensAreRead};
+ghost use Rattle.spec_laws.specs.PageLaws.{ListsAreInPlace, PagesAreLists, PagesHaveLimits, RemaindersAddUp, PagesEnd, NextsAreLast, TokensAreDistinct, TokensAreRead};
 
 /// The list of a view goes by namespace, then name.
 pub fn lists_are_in_place()

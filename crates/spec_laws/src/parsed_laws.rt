@@ -1,5 +1,5 @@
 //! Laws of what may be sent again, for who reads objects and writes them changed.
-ghost use Rattle.laws.specs.ParsedLaws.{StoredAreParsed, ListedAreParsed, NamesAreValid, MetadataEditsStayParsed, MembersStayParsed, InnerEditsStayParsed, ReferencesStayParsed, ReferencesReadAgain, MadePodsAreParsed};
+ghost use Rattle.spec_laws.specs.ParsedLaws.{StoredAreParsed, ListedAreParsed, NamesAreValid, MetadataEditsStayParsed, MembersStayParsed, InnerEditsStayParsed, ReferencesStayParsed, ReferencesReadAgain, MadePodsAreParsed};
 
 /// An object that is there is as a parser gives it, so who read it may send it again.
 pub fn stored_are_parsed()

@@ -1,5 +1,5 @@
 //! Laws of all that can have happened at a server, whoever asked.
-ghost use Rattle.laws.specs.ReachedLaws.{RunsAreReached, PastsAreReached, RequestsAreAsked, MomentsAreTimes, ReachedCanHappen, ReachedStayWithinLimits, ReachedCarryRevisions};
+ghost use Rattle.spec_laws.specs.ReachedLaws.{RunsAreReached, PastsAreReached, RequestsAreAsked, MomentsAreTimes, ReachedCanHappen, ReachedStayWithinLimits, ReachedCarryRevisions};
 
 /// What has happened once some lines were read is reached: each law of what is reached is one of every session.
 pub fn runs_are_reached()

@@ -1,5 +1,5 @@
 //! Laws of objects in the place of others.
-ghost use Rattle.laws.specs.ReplacementLaws.{SameButForTheVersion, UpdatesAreAtTheVersion};
+ghost use Rattle.spec_laws.specs.ReplacementLaws.{SameButForTheVersion, UpdatesAreAtTheVersion};
 
 /// What an update says is the same as what is stored exactly if nothing differs but the version.
 pub fn same_but_for_the_version()

@@ -1,5 +1,5 @@
 //! Laws of what lists and their pages are answered.
-ghost use Rattle.laws.specs.ReplyLaws.{ListsAreOnePage, RepliesAreRead, ObjectsAreReadBack, PageRepliesAreLists};
+ghost use Rattle.spec_laws.specs.ReplyLaws.{ListsAreOnePage, RepliesAreRead, ObjectsAreReadBack, PageRepliesAreLists};
 
 /// A list that is asked without options is answered as the one page of all there is.
 pub fn lists_are_one_page()

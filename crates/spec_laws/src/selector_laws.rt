@@ -1,5 +1,5 @@
 //! Laws of selectors.
-ghost use Rattle.laws.specs.SelectorLaws.{ExclusionsNeedNoKey, InclusionsNeedTheKey, EmptyTextMatchesAll, EachMustHold, OrderIsNoMatter, TextsAndValuesAgree, PairsAreEqualities, EachTextHasAValue, EachValueHasAText};
+ghost use Rattle.spec_laws.specs.SelectorLaws.{ExclusionsNeedNoKey, InclusionsNeedTheKey, EmptyTextMatchesAll, EachMustHold, OrderIsNoMatter, TextsAndValuesAgree, PairsAreEqualities, EachTextHasAValue, EachValueHasAText};
 
 /// `notin` and `!=` match an object without the key.
 pub fn exclusions_need_no_key()

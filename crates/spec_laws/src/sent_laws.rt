@@ -1,5 +1,5 @@
 //! Laws of what is stored and sent, for who takes it in.
-ghost use Rattle.laws.specs.SentLaws.{ObjectsAreKept, ChangesAreTold, ListsArePut, ListsAreRead, ListsNest, WatchesAreStreams};
+ghost use Rattle.spec_laws.specs.SentLaws.{ObjectsAreKept, ChangesAreTold, ListsArePut, ListsAreRead, ListsNest, WatchesAreStreams};
 
 /// Whoever asks, each object that is ever stored reads as itself, and has its name, its namespace, a uid and the
 /// revision of its write: no client is sent an object that it can't take in.

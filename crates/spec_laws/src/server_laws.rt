@@ -1,5 +1,5 @@
 //! Laws of servers that store windows in the place of a history.
-ghost use Rattle.laws.specs.ServerLaws.{ServersOpen, ServersWrite, ServersFollow, ServersCompact, CompactionsHappen, ServersAccept, ServersList, ServersWatch, ServersAnswerLists, ServersShow, WatchesStand, WatchesGoOn, ListsAreServed};
+ghost use Rattle.spec_laws.specs.ServerLaws.{ServersOpen, ServersWrite, ServersFollow, ServersCompact, CompactionsHappen, ServersAccept, ServersList, ServersWatch, ServersAnswerLists, ServersShow, WatchesStand, WatchesGoOn, ListsAreServed};
 
 /// A new server stands for a history in which nothing has happened.
 pub fn servers_open()

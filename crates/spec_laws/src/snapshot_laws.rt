@@ -1,5 +1,5 @@
 //! A law of snapshots.
-ghost use Rattle.laws.specs.SnapshotLaws.{SnapshotsFollow};
+ghost use Rattle.spec_laws.specs.SnapshotLaws.{SnapshotsFollow};
 
 /// Nothing is there at first, each write makes the next snapshot of the one before, and a compaction changes none: so
 /// who has the last snapshot needs none of the writes before it.

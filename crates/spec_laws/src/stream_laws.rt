@@ -1,5 +1,5 @@
 //! Laws of watches that begin with initial events.
-ghost use Rattle.laws.specs.StreamLaws.{PresentStartsAreEmpty, UnclosedStreamsAreLists, EarlyClosingsAreNone, FirstLooksAreSent, InitialStreamsAreSent, InitialStreamsAreServed, InitialsAreServed, OpeningsAreLists, ServersBegin};
+ghost use Rattle.spec_laws.specs.StreamLaws.{PresentStartsAreEmpty, UnclosedStreamsAreLists, EarlyClosingsAreNone, FirstLooksAreSent, InitialStreamsAreSent, InitialStreamsAreServed, InitialsAreServed, OpeningsAreLists, ServersBegin};
 
 /// A server gives the initial events that all that has happened says.
 pub fn servers_begin()

@@ -1,5 +1,5 @@
 //! Laws of uids.
-ghost use Rattle.laws.specs.UidLaws.{FutureUidsAreLater};
+ghost use Rattle.spec_laws.specs.UidLaws.{FutureUidsAreLater};
 
 /// The uid of an owner is one of the future exactly if only a later create can give it.
 pub fn future_uids_are_later()

@@ -1,5 +1,5 @@
 //! Laws of events and streams.
-ghost use Rattle.laws.specs.WatchLaws.{ChangesAreApplied, ChangesGoOn, ChangesLieBetween, StreamsAreApplied, InitialStreamsAreApplied};
+ghost use Rattle.spec_laws.specs.WatchLaws.{ChangesAreApplied, ChangesGoOn, ChangesLieBetween, StreamsAreApplied, InitialStreamsAreApplied};
 
 /// Who has the list at one revision and takes in the events after it has the list at the later one: a watch loses
 /// nothing and makes nothing up.

@@ -1,5 +1,5 @@
 //! Laws of windows.
-ghost use Rattle.laws.specs.WindowLaws.{WindowsOpen, WindowsRecord, WindowsStay, WindowsCompact, RecordedChangesArePast, WatchesAreServed, ListsAreUndone, RevisionsAreServed, CompactionsChangeNothing, WideWindowsServeAll};
+ghost use Rattle.spec_laws.specs.WindowLaws.{WindowsOpen, WindowsRecord, WindowsStay, WindowsCompact, RecordedChangesArePast, WatchesAreServed, ListsAreUndone, RevisionsAreServed, CompactionsChangeNothing, WideWindowsServeAll};
 
 /// A new window follows a history in which nothing has happened.
 pub fn windows_open()

@@ -1,5 +1,5 @@
 //! What a controller's author may rely on, whatever calls are made of a work queue, in whatever order.
-ghost use Rattle.laws.specs.WorkQueueLaws.{QueuesOnce, HandsApart, NothingIsLost, QueuedIsDirty, AddedIsServed, ShutAddsNothing};
+ghost use Rattle.spec_laws.specs.WorkQueueLaws.{QueuesOnce, HandsApart, NothingIsLost, QueuedIsDirty, AddedIsServed, ShutAddsNothing};
 
 /// A key stands in the queue at most once, however often it was added.
 pub fn queues_once()

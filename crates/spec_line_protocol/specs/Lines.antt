@@ -4,18 +4,18 @@ use Rattle.std.specs.List.{slice_split}
 use Rattle.std.specs.Str.{bytes_eq}
 use Rattle.serde_json.specs.Written.{compact_text}
 use Rattle.serde_json.specs.Data.{Data}
-use Rattle.definitions.specs.History.{History}
-use Rattle.definitions.specs.Moments.{is_moment}
-use Rattle.definitions.specs.declared.methods.Method.{Method}
-use Rattle.definitions.specs.declared.methods.Method.TheVariants.{Get, Post, Put, Patch, Delete}
-use Rattle.definitions.specs.declared.refusals.Part.TheVariants as part
-use Rattle.definitions.specs.Refusals.{bad_request, success_body}
-use Rattle.definitions.specs.Revisions.{revision_of}
-use Rattle.definitions.specs.Streams.{text_of_lines}
-use Rattle.definitions.specs.Targets.{read_request}
-use Rattle.definitions.specs.Versions.{compacts}
-use Rattle.definitions.specs.Verbs.{refused, outcome_code, outcome_body}
-use Rattle.definitions.specs.Replies.{default_window, Session, start, Reply, outcome, shown, compacted, reply_for, compact_reply, history_from}
+use Rattle.spec_api.specs.History.{History}
+use Rattle.spec_api.specs.Moments.{is_moment}
+use Rattle.spec_api.specs.declared.methods.Method.{Method}
+use Rattle.spec_api.specs.declared.methods.Method.TheVariants.{Get, Post, Put, Patch, Delete}
+use Rattle.spec_api.specs.declared.refusals.Part.TheVariants as part
+use Rattle.spec_api.specs.Refusals.{bad_request, success_body}
+use Rattle.spec_api.specs.Revisions.{revision_of}
+use Rattle.spec_api.specs.Streams.{text_of_lines}
+use Rattle.spec_api.specs.Targets.{read_request}
+use Rattle.spec_api.specs.Versions.{compacts}
+use Rattle.spec_api.specs.Verbs.{refused, outcome_code, outcome_body}
+use Rattle.spec_api.specs.Replies.{default_window, Session, start, Reply, outcome, shown, compacted, reply_for, compact_reply, history_from}
 
 -- ---- what a line says
 

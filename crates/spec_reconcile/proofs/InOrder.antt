@@ -5,7 +5,7 @@ use Rattle.std.specs.List.{AllByRecursion, filter}
 use Rattle.std.specs.List.Sorted.{IsSorted, IsStable, ties}
 use Rattle.std.specs.Ordering.{is_le, is_lt, on, ordering_reverse}
 use Rattle.std.proofs.lemmas.List.Sorted.{sorted_far, ranks_by}
-use Rattle.plans.specs.Orders.{placed, in_order}
+use Rattle.spec_reconcile.specs.Orders.{placed, in_order}
 
 -- ---- each of a list
 

@@ -3,9 +3,9 @@ use Rattle.std.proofs.Common.{◌≡◌, Equal, Ordering}
 use Rattle.std.specs.Cmp.{IsTotalOrder, nat_cmp_total, int_cmp_total, bool_cmp_total, on_total, then_total, back_total}
 use Rattle.std.specs.Cmp.Lexicographic.{nat_list_cmp_total, slice_cmp}
 use Rattle.std.specs.Ordering.{bool_cmp, int_cmp, nat_cmp, then_cmp, on, flip_args}
-use Rattle.definitions.specs.Keys.{key_cmp}
-use Rattle.controllers.proofs.WorkKeyOrder.{name_total, name_tells, then_Equal}
-use Rattle.plans.specs.PodRanks.{Rank, rank_cmp}
+use Rattle.spec_api.specs.Keys.{key_cmp}
+use Rattle.spec_client_go.proofs.WorkKeyOrder.{name_total, name_tells, then_Equal}
+use Rattle.spec_reconcile.specs.PodRanks.{Rank, rank_cmp}
 
 pub rank_total : IsTotalOrder rank_cmp
 rank_total =

@@ -1,7 +1,7 @@
 -- The counts that objects say (Kubernetes API reference, ReplicaSetSpec, ReplicaSetStatus, DeploymentSpec and DeploymentStatus).
 use Rattle.std.specs.Prelude.{ℕ, List, Option, codes, unwrap_or, ℤ, pos, negsuc}
 use Rattle.serde_json.specs.Data.{Data}
-use Rattle.definitions.specs.Checks.{in_spec, in_status, whole_of}
+use Rattle.spec_api.specs.Checks.{in_spec, in_status, whole_of}
 
 abbrev pub not_below_0 : ℤ → ℕ
 not_below_0 (pos n) = n

@@ -7,34 +7,34 @@ use Rattle.std.specs.Str.{bytes_eq}
 use Rattle.std.specs.declared.cmp.Ordering.{Ordering}
 use Rattle.serde_json.specs.Data.{Data, Members as Fields, object, no_members, put}
 use Rattle.serde_json.specs.Find.{get, as_bool}
-use Rattle.definitions.specs.declared.amounts.Amount.{Amount}
-use Rattle.definitions.specs.declared.amounts.Amount.TheVariants.{Pods}
-use Rattle.definitions.specs.declared.kinds.Kind.TheVariants.{ReplicaSet}
-use Rattle.definitions.specs.Checks.{amount, in_spec}
-use Rattle.definitions.specs.Defaults.{unsigned_value, is_rolling_update}
-use Rattle.definitions.specs.History.{Entries, found}
-use Rattle.definitions.specs.Keys.{Key, key_cmp}
-use Rattle.definitions.specs.Metadata.{is_being_deleted, uid}
-use Rattle.definitions.specs.Replacements.{generation}
-use Rattle.definitions.specs.SelectorValues.{is_some_and}
-use Rattle.definitions.specs.Values.{inner_of, members_of}
-use Rattle.controllers.specs.Commands.{Command, create, update, update_status, delete}
-use Rattle.controllers.specs.Hands.{Hand}
-use Rattle.controllers.specs.Informers.{Looks, of_namespace}
-use Rattle.controllers.specs.OwnerReferences.{is_controlled_by}
-use Rattle.plans.specs.Counts.{count_in_spec, count_in_status, replicas}
-use Rattle.plans.specs.MetadataEdits.{controller_reference}
-use Rattle.plans.specs.NewPods.{template}
-use Rattle.plans.specs.Orders.{in_order}
-use Rattle.plans.specs.PodRanks.{creation}
-use Rattle.plans.specs.Pods.{phase}
-use Rattle.plans.specs.Revisions.{revision, next_revision, annotated, raised}
-use Rattle.plans.specs.Rollouts.{total, asked, growth, pace, resized, shrunk}
-use Rattle.plans.specs.Statuses.{status, with_status, report_status}
-use Rattle.plans.specs.Templates.{is_same_template, template_hash, set_name, selector, new_set_metadata, new_set_spec}
-use Rattle.plans.specs.declared.rollouts.Pace.{Pace}
-use Rattle.plans.specs.declared.rollouts.Summary.{Summary}
-use Rattle.plans.specs.declared.rollouts.Tally.{Tally}
+use Rattle.spec_api.specs.declared.amounts.Amount.{Amount}
+use Rattle.spec_api.specs.declared.amounts.Amount.TheVariants.{Pods}
+use Rattle.spec_api.specs.declared.kinds.Kind.TheVariants.{ReplicaSet}
+use Rattle.spec_api.specs.Checks.{amount, in_spec}
+use Rattle.spec_api.specs.Defaults.{unsigned_value, is_rolling_update}
+use Rattle.spec_api.specs.History.{Entries, found}
+use Rattle.spec_api.specs.Keys.{Key, key_cmp}
+use Rattle.spec_api.specs.Metadata.{is_being_deleted, uid}
+use Rattle.spec_api.specs.Replacements.{generation}
+use Rattle.spec_api.specs.SelectorValues.{is_some_and}
+use Rattle.spec_api.specs.Values.{inner_of, members_of}
+use Rattle.spec_client_go.specs.Commands.{Command, create, update, update_status, delete}
+use Rattle.spec_client_go.specs.Hands.{Hand}
+use Rattle.spec_client_go.specs.Informers.{Looks, of_namespace}
+use Rattle.spec_client_go.specs.OwnerReferences.{is_controlled_by}
+use Rattle.spec_reconcile.specs.Counts.{count_in_spec, count_in_status, replicas}
+use Rattle.spec_reconcile.specs.MetadataEdits.{controller_reference}
+use Rattle.spec_reconcile.specs.NewPods.{template}
+use Rattle.spec_reconcile.specs.Orders.{in_order}
+use Rattle.spec_reconcile.specs.PodRanks.{creation}
+use Rattle.spec_reconcile.specs.Pods.{phase}
+use Rattle.spec_reconcile.specs.Revisions.{revision, next_revision, annotated, raised}
+use Rattle.spec_reconcile.specs.Rollouts.{total, asked, growth, pace, resized, shrunk}
+use Rattle.spec_reconcile.specs.Statuses.{status, with_status, report_status}
+use Rattle.spec_reconcile.specs.Templates.{is_same_template, template_hash, set_name, selector, new_set_metadata, new_set_spec}
+use Rattle.spec_reconcile.specs.declared.rollouts.Pace.{Pace}
+use Rattle.spec_reconcile.specs.declared.rollouts.Summary.{Summary}
+use Rattle.spec_reconcile.specs.declared.rollouts.Tally.{Tally}
 
 -- ---- its sets
 

@@ -2,19 +2,19 @@
 use Rattle.std.specs.Prelude.{List, [], ◌∷◌, ◌++◌, map, not, ◌&&◌, Bool, length, nat_lt, Option, Some, None, option_map, if◌then◌else◌}
 use Rattle.std.specs.List.{list_all, list_any}
 use Rattle.serde_json.specs.Data.{Data}
-use Rattle.definitions.specs.declared.policies.Policy.{Policy}
-use Rattle.definitions.specs.declared.policies.Policy.TheVariants.{Orphan, Foreground, Background}
-use Rattle.definitions.specs.Checks.{finalizers, has_text}
-use Rattle.definitions.specs.Deletion.{orphan, foreground}
-use Rattle.definitions.specs.History.{Entries}
-use Rattle.definitions.specs.Keys.{Key}
-use Rattle.definitions.specs.Metadata.{uid, version, is_being_deleted}
-use Rattle.controllers.specs.Commands.{Command, update, delete, seen, answered}
-use Rattle.controllers.specs.Hands.{Hand, Read, live, unread}
-use Rattle.controllers.specs.OwnerReferences.{namespace_of, owner_keys}
-use Rattle.plans.specs.MetadataEdits.{without_finalizer, keeping_owners, blocking_nobody}
-use Rattle.plans.specs.declared.standing.Standing.{Standing}
-use Rattle.plans.specs.Standings.{standing, standings, is_solid, is_waiting, is_to, waits_for_dependents, blocks, dependents}
+use Rattle.spec_api.specs.declared.policies.Policy.{Policy}
+use Rattle.spec_api.specs.declared.policies.Policy.TheVariants.{Orphan, Foreground, Background}
+use Rattle.spec_api.specs.Checks.{finalizers, has_text}
+use Rattle.spec_api.specs.Deletion.{orphan, foreground}
+use Rattle.spec_api.specs.History.{Entries}
+use Rattle.spec_api.specs.Keys.{Key}
+use Rattle.spec_api.specs.Metadata.{uid, version, is_being_deleted}
+use Rattle.spec_client_go.specs.Commands.{Command, update, delete, seen, answered}
+use Rattle.spec_client_go.specs.Hands.{Hand, Read, live, unread}
+use Rattle.spec_client_go.specs.OwnerReferences.{namespace_of, owner_keys}
+use Rattle.spec_reconcile.specs.MetadataEdits.{without_finalizer, keeping_owners, blocking_nobody}
+use Rattle.spec_reconcile.specs.declared.standing.Standing.{Standing}
+use Rattle.spec_reconcile.specs.Standings.{standing, standings, is_solid, is_waiting, is_to, waits_for_dependents, blocks, dependents}
 
 -- ---- what is read live
 

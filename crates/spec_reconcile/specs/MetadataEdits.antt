@@ -2,12 +2,12 @@
 use Rattle.std.specs.Prelude.{ℕ, List, [], Bool, true, false, not, codes, unwrap_or, if◌then◌else◌}
 use Rattle.std.specs.Str.{bytes_eq}
 use Rattle.serde_json.specs.Data.{Data, Items, no_items, item, boolean, string, array, object, Members, no_members, put}
-use Rattle.definitions.specs.Checks.{finalizers, text_is}
-use Rattle.definitions.specs.Keys.{Key}
-use Rattle.definitions.specs.Kinds.{api_version, kind_text}
-use Rattle.definitions.specs.Metadata.{Owner, owner, metadata, metadata_of, with_metadata, uid}
-use Rattle.definitions.specs.SelectorValues.{items_in}
-use Rattle.definitions.specs.Values.{members_of}
+use Rattle.spec_api.specs.Checks.{finalizers, text_is}
+use Rattle.spec_api.specs.Keys.{Key}
+use Rattle.spec_api.specs.Kinds.{api_version, kind_text}
+use Rattle.spec_api.specs.Metadata.{Owner, owner, metadata, metadata_of, with_metadata, uid}
+use Rattle.spec_api.specs.SelectorValues.{items_in}
+use Rattle.spec_api.specs.Values.{members_of}
 
 -- the object with a list in its metadata
 abbrev pub with_list : List ℕ → Items → Data → Data

@@ -1,12 +1,12 @@
 -- The pod that a ReplicaSet creates from its template (Kubernetes, ReplicaSet, Pod Template).
 use Rattle.std.specs.Prelude.{ℕ, List, [], ◌∷◌, ◌++◌, codes}
 use Rattle.serde_json.specs.Data.{Data, Members, no_members, no_items, item, string, array, object, put}
-use Rattle.definitions.specs.Checks.{in_spec}
-use Rattle.definitions.specs.Keys.{Key}
-use Rattle.definitions.specs.Metadata.{metadata_of}
-use Rattle.definitions.specs.Replacements.{keeping}
-use Rattle.definitions.specs.Values.{members_of, inner_of}
-use Rattle.plans.specs.MetadataEdits.{controller_reference}
+use Rattle.spec_api.specs.Checks.{in_spec}
+use Rattle.spec_api.specs.Keys.{Key}
+use Rattle.spec_api.specs.Metadata.{metadata_of}
+use Rattle.spec_api.specs.Replacements.{keeping}
+use Rattle.spec_api.specs.Values.{members_of, inner_of}
+use Rattle.spec_reconcile.specs.MetadataEdits.{controller_reference}
 
 -- the template; an empty object where there is none
 abbrev pub template : Data → Data

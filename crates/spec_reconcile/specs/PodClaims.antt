@@ -1,14 +1,14 @@
 -- Claims: which pods a ReplicaSet releases and adopts, and which are its own (Kubernetes, ReplicaSet, Non-Template Pod acquisitions).
 use Rattle.std.specs.Prelude.{◌&&◌, ◌||◌, List, [], ◌∷◌, filter, flat_map, Bool, not, Option, if◌then◌else◌}
 use Rattle.serde_json.specs.Data.{Data}
-use Rattle.definitions.specs.History.{Entries}
-use Rattle.definitions.specs.Keys.{Key}
-use Rattle.definitions.specs.Metadata.{Owner, is_being_deleted, uid}
-use Rattle.definitions.specs.SelectorValues.{is_some_and}
-use Rattle.controllers.specs.Commands.{Command, update}
-use Rattle.controllers.specs.OwnerReferences.{is_text}
-use Rattle.plans.specs.MetadataEdits.{keeping_owners, with_controller}
-use Rattle.plans.specs.Pods.{is_owned, is_orphan, matches}
+use Rattle.spec_api.specs.History.{Entries}
+use Rattle.spec_api.specs.Keys.{Key}
+use Rattle.spec_api.specs.Metadata.{Owner, is_being_deleted, uid}
+use Rattle.spec_api.specs.SelectorValues.{is_some_and}
+use Rattle.spec_client_go.specs.Commands.{Command, update}
+use Rattle.spec_client_go.specs.OwnerReferences.{is_text}
+use Rattle.spec_reconcile.specs.MetadataEdits.{keeping_owners, with_controller}
+use Rattle.spec_reconcile.specs.Pods.{is_owned, is_orphan, matches}
 
 -- ---- which pods
 

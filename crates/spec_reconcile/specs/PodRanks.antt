@@ -8,14 +8,14 @@ use Rattle.std.specs.Cmp.Lexicographic.{slice_cmp}
 use Rattle.std.specs.declared.cmp.Ordering.{Ordering}
 use Rattle.serde_json.specs.Data.{Data}
 use Rattle.serde_json.specs.Find.{get}
-use Rattle.definitions.specs.Checks.{in_spec}
-use Rattle.definitions.specs.History.{Entries}
-use Rattle.definitions.specs.Keys.{Key, key_cmp}
-use Rattle.definitions.specs.Metadata.{metadata, metadata_text}
-use Rattle.definitions.specs.Moments.{is_digit}
-use Rattle.definitions.specs.SelectorValues.{text_in}
-use Rattle.plans.specs.Orders.{in_order}
-use Rattle.plans.specs.Pods.{phase, is_ready}
+use Rattle.spec_api.specs.Checks.{in_spec}
+use Rattle.spec_api.specs.History.{Entries}
+use Rattle.spec_api.specs.Keys.{Key, key_cmp}
+use Rattle.spec_api.specs.Metadata.{metadata, metadata_text}
+use Rattle.spec_api.specs.Moments.{is_digit}
+use Rattle.spec_api.specs.SelectorValues.{text_in}
+use Rattle.spec_reconcile.specs.Orders.{in_order}
+use Rattle.spec_reconcile.specs.Pods.{phase, is_ready}
 
 -- ---- what a rank is made of
 

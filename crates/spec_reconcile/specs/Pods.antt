@@ -2,11 +2,11 @@
 use Rattle.std.specs.Prelude.{ℕ, ◌&&◌, ◌||◌, List, Bool, false, not, codes}
 use Rattle.std.specs.Str.{bytes_eq}
 use Rattle.serde_json.specs.Data.{Data, Items, no_items, item}
-use Rattle.definitions.specs.Checks.{requirements, in_status}
-use Rattle.definitions.specs.Metadata.{labels_of, is_being_deleted, uid, text_at}
-use Rattle.definitions.specs.Selectors.{meets_all}
-use Rattle.definitions.specs.SelectorValues.{items_in, is_some_and, text_in}
-use Rattle.controllers.specs.OwnerReferences.{has_controller, is_controlled_by, is_text}
+use Rattle.spec_api.specs.Checks.{requirements, in_status}
+use Rattle.spec_api.specs.Metadata.{labels_of, is_being_deleted, uid, text_at}
+use Rattle.spec_api.specs.Selectors.{meets_all}
+use Rattle.spec_api.specs.SelectorValues.{items_in, is_some_and, text_in}
+use Rattle.spec_client_go.specs.OwnerReferences.{has_controller, is_controlled_by, is_text}
 
 -- ---- what a pod says (Kubernetes, Pod Lifecycle)
 

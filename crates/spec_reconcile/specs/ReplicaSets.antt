@@ -2,21 +2,21 @@
 use Rattle.std.specs.Prelude.{ℕ, ◌&&◌, List, [], ◌∷◌, ◌++◌, map, length, replicate, filter, Bool, not, codes, Option, Some, None, if◌then◌else◌}
 use Rattle.std.specs.List.{list_any}
 use Rattle.serde_json.specs.Data.{Data, Members as Fields, put}
-use Rattle.definitions.specs.declared.kinds.Kind.TheVariants.{Pod}
-use Rattle.definitions.specs.Defaults.{unsigned_value}
-use Rattle.definitions.specs.History.{Entries, found}
-use Rattle.definitions.specs.Keys.{Key}
-use Rattle.definitions.specs.Metadata.{is_being_deleted, uid}
-use Rattle.definitions.specs.Replacements.{generation}
-use Rattle.controllers.specs.Commands.{Command, create, delete}
-use Rattle.controllers.specs.Hands.{Hand, live, unread}
-use Rattle.controllers.specs.Informers.{of_namespace}
-pub use Rattle.plans.specs.Counts.{replicas}
-use Rattle.plans.specs.NewPods.{new_pod}
-use Rattle.plans.specs.PodClaims.{claims, own_pods, is_adoptable, may_adopt}
-use Rattle.plans.specs.PodRanks.{missing, victims}
-use Rattle.plans.specs.Pods.{is_ready}
-pub use Rattle.plans.specs.Statuses.{status, with_status, report_status}
+use Rattle.spec_api.specs.declared.kinds.Kind.TheVariants.{Pod}
+use Rattle.spec_api.specs.Defaults.{unsigned_value}
+use Rattle.spec_api.specs.History.{Entries, found}
+use Rattle.spec_api.specs.Keys.{Key}
+use Rattle.spec_api.specs.Metadata.{is_being_deleted, uid}
+use Rattle.spec_api.specs.Replacements.{generation}
+use Rattle.spec_client_go.specs.Commands.{Command, create, delete}
+use Rattle.spec_client_go.specs.Hands.{Hand, live, unread}
+use Rattle.spec_client_go.specs.Informers.{of_namespace}
+pub use Rattle.spec_reconcile.specs.Counts.{replicas}
+use Rattle.spec_reconcile.specs.NewPods.{new_pod}
+use Rattle.spec_reconcile.specs.PodClaims.{claims, own_pods, is_adoptable, may_adopt}
+use Rattle.spec_reconcile.specs.PodRanks.{missing, victims}
+use Rattle.spec_reconcile.specs.Pods.{is_ready}
+pub use Rattle.spec_reconcile.specs.Statuses.{status, with_status, report_status}
 
 -- ---- what is looked at
 

@@ -4,10 +4,10 @@ use Rattle.std.specs.List.{list_all}
 use Rattle.std.specs.Str.Parse.{digits_value}
 use Rattle.serde_json.specs.Data.{Data, Members as Fields, object, string, put}
 use Rattle.serde_json.specs.Find.{get}
-use Rattle.definitions.specs.Metadata.{metadata, metadata_of, with_metadata}
-use Rattle.definitions.specs.Moments.{is_digit}
-use Rattle.definitions.specs.SelectorValues.{text_in}
-use Rattle.definitions.specs.Values.{inner_of}
+use Rattle.spec_api.specs.Metadata.{metadata, metadata_of, with_metadata}
+use Rattle.spec_api.specs.Moments.{is_digit}
+use Rattle.spec_api.specs.SelectorValues.{text_in}
+use Rattle.spec_api.specs.Values.{inner_of}
 
 abbrev pub revision_annotation : List ℕ
 revision_annotation = codes "deployment.kubernetes.io/revision"

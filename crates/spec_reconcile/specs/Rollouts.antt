@@ -1,10 +1,10 @@
 -- The numbers of a rolling update: how far the new set grows, and what the old ones lose (Kubernetes, Deployments, Rolling Update Deployment).
 use Rattle.std.specs.Prelude.{ℕ, ◌+◌, ◌-◌, ◌*◌, ◌/◌, ◌==◌, ◌&&◌, min, nat_lt, List, [], ◌∷◌, map, if◌then◌else◌}
-use Rattle.definitions.specs.declared.amounts.Amount.{Amount}
-use Rattle.definitions.specs.declared.amounts.Amount.TheVariants.{Pods, Percent}
-use Rattle.plans.specs.Counts.{not_below_0}
-use Rattle.plans.specs.declared.rollouts.Pace.{Pace}
-use Rattle.plans.specs.declared.rollouts.Tally.{Tally}
+use Rattle.spec_api.specs.declared.amounts.Amount.{Amount}
+use Rattle.spec_api.specs.declared.amounts.Amount.TheVariants.{Pods, Percent}
+use Rattle.spec_reconcile.specs.Counts.{not_below_0}
+use Rattle.spec_reconcile.specs.declared.rollouts.Pace.{Pace}
+use Rattle.spec_reconcile.specs.declared.rollouts.Tally.{Tally}
 
 -- ---- the pace (Kubernetes, Deployments, Max Unavailable and Max Surge)
 

@@ -2,17 +2,17 @@
 use Rattle.std.specs.Prelude.{ℕ, List, [], ◌++◌, map, Bool, true, false, ◌&&◌, Option, Some, None, if◌then◌else◌}
 use Rattle.std.specs.List.{list_any}
 use Rattle.serde_json.specs.Data.{Data}
-use Rattle.definitions.specs.Checks.{finalizers, has_text}
-use Rattle.definitions.specs.Deletion.{foreground}
-use Rattle.definitions.specs.History.{Entries}
-use Rattle.definitions.specs.Keys.{Key}
-use Rattle.definitions.specs.Metadata.{Owner, owners, uid, is_being_deleted}
-use Rattle.definitions.specs.SelectorValues.{is_some_and}
-use Rattle.controllers.specs.Hands.{Read, live}
-use Rattle.controllers.specs.Informers.{Looks, of_owner}
-use Rattle.controllers.specs.OwnerReferences.{is_text, owner_key, namespace_of}
-use Rattle.plans.specs.declared.standing.Standing.{Standing}
-use Rattle.plans.specs.declared.standing.Standing.TheVariants.{Solid, Waiting, Dangling}
+use Rattle.spec_api.specs.Checks.{finalizers, has_text}
+use Rattle.spec_api.specs.Deletion.{foreground}
+use Rattle.spec_api.specs.History.{Entries}
+use Rattle.spec_api.specs.Keys.{Key}
+use Rattle.spec_api.specs.Metadata.{Owner, owners, uid, is_being_deleted}
+use Rattle.spec_api.specs.SelectorValues.{is_some_and}
+use Rattle.spec_client_go.specs.Hands.{Read, live}
+use Rattle.spec_client_go.specs.Informers.{Looks, of_owner}
+use Rattle.spec_client_go.specs.OwnerReferences.{is_text, owner_key, namespace_of}
+use Rattle.spec_reconcile.specs.declared.standing.Standing.{Standing}
+use Rattle.spec_reconcile.specs.declared.standing.Standing.TheVariants.{Solid, Waiting, Dangling}
 
 -- whether a reference is to this object, by its uid
 abbrev pub is_to : Data → Owner → Bool

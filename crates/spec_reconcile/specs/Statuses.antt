@@ -2,10 +2,10 @@
 use Rattle.std.specs.Prelude.{List, [], ◌∷◌, codes, if◌then◌else◌}
 use Rattle.serde_json.specs.Data.{Data, Members as Fields, object, put}
 use Rattle.serde_json.specs.Find.{get}
-use Rattle.definitions.specs.Keys.{Key}
-use Rattle.definitions.specs.Replacements.{says_the_same}
-use Rattle.definitions.specs.Values.{inner_of, members_of}
-use Rattle.controllers.specs.Commands.{Command, update_status}
+use Rattle.spec_api.specs.Keys.{Key}
+use Rattle.spec_api.specs.Replacements.{says_the_same}
+use Rattle.spec_api.specs.Values.{inner_of, members_of}
+use Rattle.spec_client_go.specs.Commands.{Command, update_status}
 
 abbrev pub status : Data → Fields
 status d = inner_of (get (codes "status") d)

@@ -5,11 +5,11 @@ use Rattle.sha2.specs.Sha256.{sha256}
 use Rattle.serde_json.specs.Data.{Data, string, array, object, no_items, item, Members, no_members, member, put}
 use Rattle.serde_json.specs.Find.{get}
 use Rattle.serde_json.specs.Written.{compact_text}
-use Rattle.definitions.specs.Checks.{in_spec}
-use Rattle.definitions.specs.Defaults.{unsigned_value}
-use Rattle.definitions.specs.Metadata.{labels_of, metadata_of, with_metadata}
-use Rattle.definitions.specs.Replacements.{says_the_same}
-use Rattle.definitions.specs.Values.{members_of, inner_of, without}
+use Rattle.spec_api.specs.Checks.{in_spec}
+use Rattle.spec_api.specs.Defaults.{unsigned_value}
+use Rattle.spec_api.specs.Metadata.{labels_of, metadata_of, with_metadata}
+use Rattle.spec_api.specs.Replacements.{says_the_same}
+use Rattle.spec_api.specs.Values.{members_of, inner_of, without}
 
 abbrev pub hash_label : List ℕ
 hash_label = codes "pod-template-hash"

@@ -4,17 +4,17 @@ use Rattle.std.proofs.lemmas.Option.{slice_get-map}
 use Rattle.std.specs.Prelude.{◌≡◌, ℕ, List, Option, map, option_map, unwrap_or, slice_get, refl}
 use Rattle.std.specs.Coded.{Coded, code_by, coded×, coded_ℕ, coded_list, coded_option}
 use Rattle.serde_json.specs.Data.{Data}
-use Rattle.definitions.specs.declared.kinds.Kind.{Kind}
-use Rattle.definitions.specs.contracts.kinds.Kind as kind
-use Rattle.definitions.specs.Kinds.{kinds, rank, kinds_at}
-use Rattle.codes.specs.Codes.{coded_data}
-use Rattle.codes.specs.HistoryCodes.{coded_key}
-use Rattle.definitions.specs.Keys.{Key}
-use Rattle.definitions.specs.Windows.{Change}
-use Rattle.server_state.specs.Recorded.{Window, opened}
-use Rattle.definitions.specs.History.{Entries}
-use Rattle.server_state.specs.Snapshots.{Snapshot}
-use Rattle.server_state.specs.Servers.{Server}
+use Rattle.spec_api.specs.declared.kinds.Kind.{Kind}
+use Rattle.spec_api.specs.contracts.kinds.Kind as kind
+use Rattle.spec_api.specs.Kinds.{kinds, rank, kinds_at}
+use Rattle.model_encodings.specs.Codes.{coded_data}
+use Rattle.model_encodings.specs.HistoryCodes.{coded_key}
+use Rattle.spec_api.specs.Keys.{Key}
+use Rattle.spec_api.specs.Windows.{Change}
+use Rattle.spec_server.specs.Recorded.{Window, opened}
+use Rattle.spec_api.specs.History.{Entries}
+use Rattle.spec_server.specs.Snapshots.{Snapshot}
+use Rattle.spec_server.specs.Servers.{Server}
 
 abbrev pub coded_change : Coded Change
 coded_change =

@@ -1,10 +1,10 @@
 -- A window as a server records it, and what it answers by the changes that it has.
 use Rattle.std.specs.Prelude.{◌≡◌, ℕ, List, [], ◌∷◌, ◌++◌, take, filter, flat_map, max, nat_lt, Result}
-use Rattle.definitions.specs.declared.kinds.Kind.{Kind}
-use Rattle.definitions.specs.History.{History, View, Entries, put_or_remove, seen}
-use Rattle.definitions.specs.Refusals.{Refusal}
-use Rattle.definitions.specs.Events.{Event, event_of}
-use Rattle.definitions.specs.Windows.{Change, last_n, all_but, last_revision, changes_of, floor, within}
+use Rattle.spec_api.specs.declared.kinds.Kind.{Kind}
+use Rattle.spec_api.specs.History.{History, View, Entries, put_or_remove, seen}
+use Rattle.spec_api.specs.Refusals.{Refusal}
+use Rattle.spec_api.specs.Events.{Event, event_of}
+use Rattle.spec_api.specs.Windows.{Change, last_n, all_but, last_revision, changes_of, floor, within}
 
 -- the last changes of a kind, as many as there is room for, and the revision from which they answer
 pub record Window : Type 0 where

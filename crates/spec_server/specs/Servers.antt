@@ -1,20 +1,20 @@
 -- A server: what is there, and a window of each kind, and what it answers by these in the place of a history.
 use Rattle.std.specs.Prelude.{◌≡◌, ℕ, ◌+◌, ◌==◌, List, [], ◌∷◌, Option, Some, None, Result, if◌then◌else◌}
 use Rattle.std.specs.Result.{result_map_both}
-use Rattle.definitions.specs.declared.kinds.Kind.{Kind}
-use Rattle.definitions.specs.declared.versions.At.{At}
-use Rattle.definitions.specs.Kinds.{rank}
-use Rattle.definitions.specs.History.{History, Write, write, compaction, View, viewed, found}
-use Rattle.definitions.specs.ListQueries.{ListOptions, WatchOptions}
-use Rattle.definitions.specs.Refusals.{Refusal}
-use Rattle.definitions.specs.Verbs.{Outcome}
-use Rattle.definitions.specs.Versions.{Listed, Watched, once_present, listed_at, watched}
-use Rattle.definitions.specs.Lists.{list_answer}
-use Rattle.definitions.specs.Streams.{Line}
-use Rattle.definitions.specs.WatchReplies.{Initial, initial_from, lines_by}
-use Rattle.definitions.specs.Windows.{Change}
-use Rattle.server_state.specs.Snapshots.{Snapshot, empty, snapshot, written}
-use Rattle.server_state.specs.Recorded.{Window, opened, recorded, compacted_to, recorded_since, recorded_list, IsWindowAfter}
+use Rattle.spec_api.specs.declared.kinds.Kind.{Kind}
+use Rattle.spec_api.specs.declared.versions.At.{At}
+use Rattle.spec_api.specs.Kinds.{rank}
+use Rattle.spec_api.specs.History.{History, Write, write, compaction, View, viewed, found}
+use Rattle.spec_api.specs.ListQueries.{ListOptions, WatchOptions}
+use Rattle.spec_api.specs.Refusals.{Refusal}
+use Rattle.spec_api.specs.Verbs.{Outcome}
+use Rattle.spec_api.specs.Versions.{Listed, Watched, once_present, listed_at, watched}
+use Rattle.spec_api.specs.Lists.{list_answer}
+use Rattle.spec_api.specs.Streams.{Line}
+use Rattle.spec_api.specs.WatchReplies.{Initial, initial_from, lines_by}
+use Rattle.spec_api.specs.Windows.{Change}
+use Rattle.spec_server.specs.Snapshots.{Snapshot, empty, snapshot, written}
+use Rattle.spec_server.specs.Recorded.{Window, opened, recorded, compacted_to, recorded_since, recorded_list, IsWindowAfter}
 
 -- what is there, and the window of the last changes of each kind
 pub record Server : Type 0 where

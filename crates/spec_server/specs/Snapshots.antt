@@ -1,7 +1,7 @@
 -- What is there at one revision, and what a write makes of it.
 use Rattle.std.specs.Prelude.{ℕ, ◌+◌, []}
-use Rattle.definitions.specs.History as history
-use Rattle.definitions.specs.History.{History, Write, present, after}
+use Rattle.spec_api.specs.History as history
+use Rattle.spec_api.specs.History.{History, Write, present, after}
 
 -- what is there, and the revision at which it is (etcd API, Revisions)
 pub record Snapshot : Type 0 where

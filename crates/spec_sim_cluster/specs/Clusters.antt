@@ -1,15 +1,15 @@
 -- A cluster: a server, and a follower of each kind, one step after another.
 use Rattle.std.specs.Prelude.{ℕ, List, [], ◌∷◌}
-use Rattle.definitions.specs.declared.kinds.Kind.{Kind}
-use Rattle.definitions.specs.declared.kinds.Kind.TheVariants.{ConfigMap, Pod, ReplicaSet, Deployment}
-use Rattle.definitions.specs.History.{History}
-use Rattle.definitions.specs.Replies.{Session, start}
-use Rattle.line_protocol.specs.Lines as lines
-use Rattle.line_protocol.specs.Lines.{line_of, reply_to, session_after}
-use Rattle.controllers.specs.Informers.{Looks}
-use Rattle.simulation.specs.declared.initial_syncs.InitialSync.{InitialSync}
-use Rattle.simulation.specs.Followers.{Follower, begun}
-use Rattle.simulation.specs.Moves.{Move, Outcome, replied, restarted, Moved, move}
+use Rattle.spec_api.specs.declared.kinds.Kind.{Kind}
+use Rattle.spec_api.specs.declared.kinds.Kind.TheVariants.{ConfigMap, Pod, ReplicaSet, Deployment}
+use Rattle.spec_api.specs.History.{History}
+use Rattle.spec_api.specs.Replies.{Session, start}
+use Rattle.spec_line_protocol.specs.Lines as lines
+use Rattle.spec_line_protocol.specs.Lines.{line_of, reply_to, session_after}
+use Rattle.spec_client_go.specs.Informers.{Looks}
+use Rattle.spec_sim_cluster.specs.declared.initial_syncs.InitialSync.{InitialSync}
+use Rattle.spec_sim_cluster.specs.Followers.{Follower, begun}
+use Rattle.spec_sim_cluster.specs.Moves.{Move, Outcome, replied, restarted, Moved, move}
 
 -- what has happened at the server, the moment and the size of its windows; how followers begin; and what follows each kind
 pub record Cluster : Type 0 where

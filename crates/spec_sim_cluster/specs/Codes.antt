@@ -2,17 +2,17 @@
 use Rattle.std.specs.Prelude.{ℕ, List, Bool, Option, refl}
 use Rattle.std.specs.Coded.{Coded, code_by, coded×, coded_ℕ, coded_bool, coded_list, coded_option}
 use Rattle.serde_json.specs.Data.{Data}
-use Rattle.codes.specs.Codes.{coded_text, coded_data}
-use Rattle.codes.specs.HistoryCodes.{coded_key}
-use Rattle.definitions.specs.Keys.{Key}
-use Rattle.controllers.specs.Codes.{coded_reflector}
-use Rattle.controllers.specs.InformerCodes.{coded_informer}
-use Rattle.controllers.specs.Informers.{Informer}
-use Rattle.controllers.specs.Reflectors.{Reflector}
-use Rattle.controllers.specs.Shifts.{Shift}
-use Rattle.definitions.specs.Streams.{Line}
-use Rattle.simulation.specs.Followers.{Link, Notification, Follower}
-use Rattle.simulation.specs.LineCodes.{coded_line}
+use Rattle.model_encodings.specs.Codes.{coded_text, coded_data}
+use Rattle.model_encodings.specs.HistoryCodes.{coded_key}
+use Rattle.spec_api.specs.Keys.{Key}
+use Rattle.spec_client_go.specs.Codes.{coded_reflector}
+use Rattle.spec_client_go.specs.InformerCodes.{coded_informer}
+use Rattle.spec_client_go.specs.Informers.{Informer}
+use Rattle.spec_client_go.specs.Reflectors.{Reflector}
+use Rattle.spec_client_go.specs.Shifts.{Shift}
+use Rattle.spec_api.specs.Streams.{Line}
+use Rattle.spec_sim_cluster.specs.Followers.{Link, Notification, Follower}
+use Rattle.spec_sim_cluster.specs.LineCodes.{coded_line}
 
 abbrev pub coded_link : Coded Link
 coded_link =

@@ -1,16 +1,16 @@
 -- Followers: what follows one kind of a server, from the bytes on a link to what is published and to be handled (client-go, tools/cache, Reflector and SharedInformer).
 use Rattle.std.specs.Prelude.{ℕ, List, [], ◌∷◌, ◌++◌, map, Bool, true, false, Option, Some, None}
-use Rattle.definitions.specs.declared.kinds.Kind.{Kind}
-use Rattle.definitions.specs.History.{Entries}
-use Rattle.definitions.specs.Streams.{Line}
-use Rattle.definitions.specs.WatchReplies.{opening_lines}
-use Rattle.controllers.specs.Informers as informers
-use Rattle.controllers.specs.Informers.{Informer, after_publish}
-use Rattle.controllers.specs.Reflectors as reflectors
-use Rattle.controllers.specs.Reflectors.{Reflector, Delta, replace, Listed, Fed, with_list, list_delta, apply_delta}
-use Rattle.controllers.specs.Shifts.{Shift, shifts_of, all_shifts}
-use Rattle.simulation.specs.declared.initial_syncs.InitialSync.{InitialSync}
-use Rattle.simulation.specs.declared.initial_syncs.InitialSync.TheVariants as sync
+use Rattle.spec_api.specs.declared.kinds.Kind.{Kind}
+use Rattle.spec_api.specs.History.{Entries}
+use Rattle.spec_api.specs.Streams.{Line}
+use Rattle.spec_api.specs.WatchReplies.{opening_lines}
+use Rattle.spec_client_go.specs.Informers as informers
+use Rattle.spec_client_go.specs.Informers.{Informer, after_publish}
+use Rattle.spec_client_go.specs.Reflectors as reflectors
+use Rattle.spec_client_go.specs.Reflectors.{Reflector, Delta, replace, Listed, Fed, with_list, list_delta, apply_delta}
+use Rattle.spec_client_go.specs.Shifts.{Shift, shifts_of, all_shifts}
+use Rattle.spec_sim_cluster.specs.declared.initial_syncs.InitialSync.{InitialSync}
+use Rattle.spec_sim_cluster.specs.declared.initial_syncs.InitialSync.TheVariants as sync
 
 -- ---- links
 

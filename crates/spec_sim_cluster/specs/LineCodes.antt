@@ -3,13 +3,13 @@ use Rattle.std.specs.Prelude.{ℕ, refl}
 use Rattle.std.specs.Coded.{Coded, code_by, coded×, coded⊎, coded_ℕ}
 use Rattle.std.proofs.Common.{◌⊎◌, inl, inr, ◌≡◌}
 use Rattle.serde_json.specs.Data.{Data}
-use Rattle.codes.specs.Codes.{coded_data}
-use Rattle.codes.specs.HistoryCodes.{coded_key}
-use Rattle.definitions.specs.contracts.frames.ChangeKind as change
-use Rattle.definitions.specs.declared.frames.ChangeKind.{ChangeKind}
-use Rattle.definitions.specs.Events.{Event}
-use Rattle.definitions.specs.Keys.{Key}
-use Rattle.definitions.specs.Streams.{Line, event, bookmark, initial, initial_end}
+use Rattle.model_encodings.specs.Codes.{coded_data}
+use Rattle.model_encodings.specs.HistoryCodes.{coded_key}
+use Rattle.spec_api.specs.contracts.frames.ChangeKind as change
+use Rattle.spec_api.specs.declared.frames.ChangeKind.{ChangeKind}
+use Rattle.spec_api.specs.Events.{Event}
+use Rattle.spec_api.specs.Keys.{Key}
+use Rattle.spec_api.specs.Streams.{Line, event, bookmark, initial, initial_end}
 
 abbrev pub coded_event : Coded Event
 coded_event =

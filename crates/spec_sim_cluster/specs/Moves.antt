@@ -1,19 +1,19 @@
 -- Moves: what a follower and its link do, each a function of what the server answers to those who follow the kind.
 use Rattle.std.specs.Prelude.{ℕ, ◌==◌, List, [], ◌∷◌, ◌++◌, length, map, take, drop, true, Option, Some, None, Result, Ok, Err, if◌then◌else◌}
-use Rattle.definitions.specs.declared.kinds.Kind.{Kind}
-use Rattle.definitions.specs.Frames.{frame_text, error_frame}
-use Rattle.definitions.specs.History as history
-use Rattle.definitions.specs.History.{History, Entries, present, viewed, unfiltered}
-use Rattle.definitions.specs.Refusals.{Refusal}
-use Rattle.definitions.specs.Streams.{Line, event, bookmark, text_of_lines}
-use Rattle.definitions.specs.Versions.{Watched, watched_from}
-use Rattle.server_state.specs.Servers.{Server, watch_by}
-use Rattle.controllers.specs.declared.reflectors.End.{End}
-use Rattle.controllers.specs.declared.reflectors.Phase.{Phase}
-use Rattle.controllers.specs.declared.reflectors.Phase.TheVariants.{Listing, Streaming, Watching}
-use Rattle.controllers.specs.Reflectors as reflectors
-use Rattle.controllers.specs.Reflectors.{Listed, Fed}
-use Rattle.simulation.specs.Followers.{Link, Follower, after_list, after_open, after_stream, after_expiry, after_bytes, after_cut, after_publishing}
+use Rattle.spec_api.specs.declared.kinds.Kind.{Kind}
+use Rattle.spec_api.specs.Frames.{frame_text, error_frame}
+use Rattle.spec_api.specs.History as history
+use Rattle.spec_api.specs.History.{History, Entries, present, viewed, unfiltered}
+use Rattle.spec_api.specs.Refusals.{Refusal}
+use Rattle.spec_api.specs.Streams.{Line, event, bookmark, text_of_lines}
+use Rattle.spec_api.specs.Versions.{Watched, watched_from}
+use Rattle.spec_server.specs.Servers.{Server, watch_by}
+use Rattle.spec_client_go.specs.declared.reflectors.End.{End}
+use Rattle.spec_client_go.specs.declared.reflectors.Phase.{Phase}
+use Rattle.spec_client_go.specs.declared.reflectors.Phase.TheVariants.{Listing, Streaming, Watching}
+use Rattle.spec_client_go.specs.Reflectors as reflectors
+use Rattle.spec_client_go.specs.Reflectors.{Listed, Fed}
+use Rattle.spec_sim_cluster.specs.Followers.{Link, Follower, after_list, after_open, after_stream, after_expiry, after_bytes, after_cut, after_publishing}
 
 -- a list is answered and taken in; a watch is opened, or one that begins with all that is there; the server writes the next lines on
 -- it, at most so many, or a bookmark; the next bytes, at most so many, or all, are delivered; the link is cut; what waits is published

@@ -1,9 +1,9 @@
 -- The lines by which outcomes are told.
 use Rattle.std.specs.Prelude.{ℕ, List, [], ◌∷◌, ◌++◌, Option, Some, None, codes, decimal}
-use Rattle.definitions.specs.Kinds.{plural}
-use Rattle.controllers.specs.declared.reflectors.End.{End}
-use Rattle.controllers.specs.declared.reflectors.End.TheVariants.{Expired, Unreadable}
-use Rattle.simulation.specs.Moves.{Outcome, replied, no_step, listed, opened, streaming, expired, sent, fed, was_cut, published, restarted}
+use Rattle.spec_api.specs.Kinds.{plural}
+use Rattle.spec_client_go.specs.declared.reflectors.End.{End}
+use Rattle.spec_client_go.specs.declared.reflectors.End.TheVariants.{Expired, Unreadable}
+use Rattle.spec_sim_cluster.specs.Moves.{Outcome, replied, no_step, listed, opened, streaming, expired, sent, fed, was_cut, published, restarted}
 
 -- a line of words, with a space between them
 abbrev pub words_line : List ℕ → List (List ℕ) → List ℕ

@@ -3,17 +3,17 @@ use Rattle.std.specs.Prelude.{ℕ, ◌==◌, ◌&&◌, not, nat_lt, nat_le, List
 use Rattle.std.specs.List.{filter, find, list_all, slice_split}
 use Rattle.std.specs.Str.{bytes_eq}
 use Rattle.std.specs.Str.Parse.{digits_value}
-use Rattle.definitions.specs.declared.kinds.Kind.{Kind}
-use Rattle.definitions.specs.Kinds.{kinds, plural}
-use Rattle.definitions.specs.Moments.{is_digit}
-use Rattle.definitions.specs.Revisions.{revision_of}
-use Rattle.line_protocol.specs.Lines.{cut, lines_of}
-use Rattle.simulation.specs.declared.initial_syncs.InitialSync.{InitialSync}
-use Rattle.simulation.specs.declared.initial_syncs.InitialSync.TheVariants as sync
-use Rattle.simulation.specs.Moves as move
-use Rattle.simulation.specs.Moves.{Move}
-use Rattle.simulation.specs.Clusters.{Cluster, opened, ClusterStep, request, compact, moves, restart, step}
-use Rattle.simulation.specs.OutcomeTexts.{outcome_text}
+use Rattle.spec_api.specs.declared.kinds.Kind.{Kind}
+use Rattle.spec_api.specs.Kinds.{kinds, plural}
+use Rattle.spec_api.specs.Moments.{is_digit}
+use Rattle.spec_api.specs.Revisions.{revision_of}
+use Rattle.spec_line_protocol.specs.Lines.{cut, lines_of}
+use Rattle.spec_sim_cluster.specs.declared.initial_syncs.InitialSync.{InitialSync}
+use Rattle.spec_sim_cluster.specs.declared.initial_syncs.InitialSync.TheVariants as sync
+use Rattle.spec_sim_cluster.specs.Moves as move
+use Rattle.spec_sim_cluster.specs.Moves.{Move}
+use Rattle.spec_sim_cluster.specs.Clusters.{Cluster, opened, ClusterStep, request, compact, moves, restart, step}
+use Rattle.spec_sim_cluster.specs.OutcomeTexts.{outcome_text}
 
 -- ---- words
 

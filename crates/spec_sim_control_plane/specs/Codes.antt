@@ -3,21 +3,21 @@ use Rattle.std.proofs.Common.{◌⊎◌, inl, inr, ◌≡◌}
 use Rattle.std.specs.Prelude.{ℕ, List, Bool, Option, Some, None, refl}
 use Rattle.std.specs.Coded.{Coded, code_by, coded×, coded⊎, coded_ℕ, coded_bool, coded_list, coded_option}
 use Rattle.serde_json.specs.Data.{Data}
-use Rattle.codes.specs.Codes.{coded_text, coded_data}
-use Rattle.codes.specs.HistoryCodes.{coded_key}
-use Rattle.definitions.specs.contracts.kinds.Kind as kind
-use Rattle.definitions.specs.contracts.policies.Policy as policy
-use Rattle.definitions.specs.declared.kinds.Kind.{Kind}
-use Rattle.definitions.specs.declared.policies.Policy.{Policy}
-use Rattle.definitions.specs.Keys.{Key}
-use Rattle.server_state.specs.Codes.{coded_snapshot}
-use Rattle.server_state.specs.Snapshots.{Snapshot}
-use Rattle.controllers.specs.Codes.{coded_work_key}
-use Rattle.controllers.specs.Commands.{Version, seen, answered, Command, create, update, update_status, delete}
-use Rattle.controllers.specs.Hands.{Read}
-use Rattle.controllers.specs.WorkQueues.{WorkKey}
-use Rattle.reconciling.specs.Managers.{Issued}
-use Rattle.reconciling.specs.Turns.{Sight, looked, satisfied, Answer, accepted, refused, lost, Issue, Turn}
+use Rattle.model_encodings.specs.Codes.{coded_text, coded_data}
+use Rattle.model_encodings.specs.HistoryCodes.{coded_key}
+use Rattle.spec_api.specs.contracts.kinds.Kind as kind
+use Rattle.spec_api.specs.contracts.policies.Policy as policy
+use Rattle.spec_api.specs.declared.kinds.Kind.{Kind}
+use Rattle.spec_api.specs.declared.policies.Policy.{Policy}
+use Rattle.spec_api.specs.Keys.{Key}
+use Rattle.spec_server.specs.Codes.{coded_snapshot}
+use Rattle.spec_server.specs.Snapshots.{Snapshot}
+use Rattle.spec_client_go.specs.Codes.{coded_work_key}
+use Rattle.spec_client_go.specs.Commands.{Version, seen, answered, Command, create, update, update_status, delete}
+use Rattle.spec_client_go.specs.Hands.{Read}
+use Rattle.spec_client_go.specs.WorkQueues.{WorkKey}
+use Rattle.spec_sim_control_plane.specs.Managers.{Issued}
+use Rattle.spec_sim_control_plane.specs.Turns.{Sight, looked, satisfied, Answer, accepted, refused, lost, Issue, Turn}
 
 -- ---- what is seen
 

@@ -1,21 +1,21 @@
 -- A control plane: a cluster and the controller manager beside it, one step after another (Kubernetes, Cluster Architecture, Control plane components).
 use Rattle.std.specs.Prelude.{ℕ, ◌+◌, ◌&&◌, List, [], ◌∷◌, length, Bool, Option, Some, None, if◌then◌else◌}
-use Rattle.definitions.specs.declared.kinds.Kind.{Kind}
-use Rattle.definitions.specs.History.{present, state}
-use Rattle.definitions.specs.ObjectRequests.{Request}
-use Rattle.definitions.specs.Verbs.{accept, history_after}
-use Rattle.controllers.specs.OwedKeys.{Change, keys_of}
-use Rattle.controllers.specs.Shifts.{Shift}
-use Rattle.controllers.specs.WorkQueues.{WorkKey}
-use Rattle.control.specs.Boards.{observed, may_tick, ticked}
-use Rattle.simulation.specs.declared.initial_syncs.InitialSync.{InitialSync}
-use Rattle.simulation.specs.Clusters as clusters
-use Rattle.simulation.specs.Clusters.{Cluster, history, follower, with_follower, looks, ClusterStep, restart}
-use Rattle.simulation.specs.Followers.{Notification}
-use Rattle.reconciling.specs.Managers as managers
-use Rattle.reconciling.specs.Managers.{Client, Manager, Action, Acted, act}
-use Rattle.reconciling.specs.Outcomes.{Outcome, of_cluster, handled, time, no_step, was_open}
-use Rattle.reconciling.specs.PodObservations.{observations}
+use Rattle.spec_api.specs.declared.kinds.Kind.{Kind}
+use Rattle.spec_api.specs.History.{present, state}
+use Rattle.spec_api.specs.ObjectRequests.{Request}
+use Rattle.spec_api.specs.Verbs.{accept, history_after}
+use Rattle.spec_client_go.specs.OwedKeys.{Change, keys_of}
+use Rattle.spec_client_go.specs.Shifts.{Shift}
+use Rattle.spec_client_go.specs.WorkQueues.{WorkKey}
+use Rattle.spec_work_board.specs.Boards.{observed, may_tick, ticked}
+use Rattle.spec_sim_cluster.specs.declared.initial_syncs.InitialSync.{InitialSync}
+use Rattle.spec_sim_cluster.specs.Clusters as clusters
+use Rattle.spec_sim_cluster.specs.Clusters.{Cluster, history, follower, with_follower, looks, ClusterStep, restart}
+use Rattle.spec_sim_cluster.specs.Followers.{Notification}
+use Rattle.spec_sim_control_plane.specs.Managers as managers
+use Rattle.spec_sim_control_plane.specs.Managers.{Client, Manager, Action, Acted, act}
+use Rattle.spec_sim_control_plane.specs.Outcomes.{Outcome, of_cluster, handled, time, no_step, was_open}
+use Rattle.spec_sim_control_plane.specs.PodObservations.{observations}
 
 -- a cluster, the controller manager, and how many steps were taken
 pub record ControlPlane : Type 0 where

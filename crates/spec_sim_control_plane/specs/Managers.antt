@@ -1,24 +1,24 @@
 -- The controller manager: the board, and workers that take turns by it (kubernetes, kube-controller-manager).
 use Rattle.std.specs.Prelude.{ℕ, ◌==◌, ◌&&◌, List, [], ◌∷◌, ◌++◌, length, map, replicate, Bool, true, false, Option, Some, None, option_and_then, slice_get, slice_set, if◌then◌else◌}
 use Rattle.serde_json.specs.Data.{Data}
-use Rattle.definitions.specs.declared.kinds.Kind.{Kind}
-use Rattle.definitions.specs.Keys.{Key}
-use Rattle.definitions.specs.Kinds.{rank}
-use Rattle.definitions.specs.Metadata.{version}
-use Rattle.definitions.specs.ObjectRequests.{Request}
-use Rattle.definitions.specs.Refusals as refusals
-use Rattle.definitions.specs.Verbs as verbs
-use Rattle.server_state.specs.Snapshots.{Snapshot}
-use Rattle.controllers.specs.Commands.{Command, request_of}
-use Rattle.controllers.specs.Expectations.{Owner}
-use Rattle.controllers.specs.WorkQueues.{WorkKey, handed}
-use Rattle.control.specs.Boards as boards
-use Rattle.control.specs.Boards.{Board, is_satisfied, forgotten, expecting_creations, expecting_deletions, requeued}
-use Rattle.reconciling.specs.NextSteps as next_step
-use Rattle.reconciling.specs.NextSteps.{NextStep, next}
-use Rattle.reconciling.specs.Outcomes.{Outcome, no_step, took, looked, satisfied, read, expected, issued, finished}
-use Rattle.reconciling.specs.Turns as turns
-use Rattle.reconciling.specs.Turns.{Turn, Answer, accepted, refused, lost, Expected, with_sight, with_read, with_expected, with_issue, all_accepted, version_answered, owner, taken_back}
+use Rattle.spec_api.specs.declared.kinds.Kind.{Kind}
+use Rattle.spec_api.specs.Keys.{Key}
+use Rattle.spec_api.specs.Kinds.{rank}
+use Rattle.spec_api.specs.Metadata.{version}
+use Rattle.spec_api.specs.ObjectRequests.{Request}
+use Rattle.spec_api.specs.Refusals as refusals
+use Rattle.spec_api.specs.Verbs as verbs
+use Rattle.spec_server.specs.Snapshots.{Snapshot}
+use Rattle.spec_client_go.specs.Commands.{Command, request_of}
+use Rattle.spec_client_go.specs.Expectations.{Owner}
+use Rattle.spec_client_go.specs.WorkQueues.{WorkKey, handed}
+use Rattle.spec_work_board.specs.Boards as boards
+use Rattle.spec_work_board.specs.Boards.{Board, is_satisfied, forgotten, expecting_creations, expecting_deletions, requeued}
+use Rattle.spec_sim_control_plane.specs.NextSteps as next_step
+use Rattle.spec_sim_control_plane.specs.NextSteps.{NextStep, next}
+use Rattle.spec_sim_control_plane.specs.Outcomes.{Outcome, no_step, took, looked, satisfied, read, expected, issued, finished}
+use Rattle.spec_sim_control_plane.specs.Turns as turns
+use Rattle.spec_sim_control_plane.specs.Turns.{Turn, Answer, accepted, refused, lost, Expected, with_sight, with_read, with_expected, with_issue, all_accepted, version_answered, owner, taken_back}
 
 -- ---- what a worker can reach
 

@@ -1,13 +1,13 @@
 -- What a worker does next in its turn, by the turn alone.
 use Rattle.std.specs.Prelude.{List, [], ◌∷◌, length, drop, Bool, true, false, Option, Some, None, option_map, unwrap_or}
 use Rattle.std.specs.Option.{option_or}
-use Rattle.definitions.specs.declared.kinds.Kind.{Kind}
-use Rattle.definitions.specs.declared.kinds.Kind.TheVariants as kind
-use Rattle.definitions.specs.Keys.{Key}
-use Rattle.controllers.specs.declared.controller.Controller.{Controller}
-use Rattle.controllers.specs.declared.controller.Controller.TheVariants.{ReplicaSet, Deployment, Collector}
-use Rattle.controllers.specs.Commands.{Command}
-use Rattle.reconciling.specs.Turns.{Turn, Expected, asks, expected, all_accepted, left}
+use Rattle.spec_api.specs.declared.kinds.Kind.{Kind}
+use Rattle.spec_api.specs.declared.kinds.Kind.TheVariants as kind
+use Rattle.spec_api.specs.Keys.{Key}
+use Rattle.spec_client_go.specs.declared.controller.Controller.{Controller}
+use Rattle.spec_client_go.specs.declared.controller.Controller.TheVariants.{ReplicaSet, Deployment, Collector}
+use Rattle.spec_client_go.specs.Commands.{Command}
+use Rattle.spec_sim_control_plane.specs.Turns.{Turn, Expected, asks, expected, all_accepted, left}
 
 -- ---- the order of a turn
 

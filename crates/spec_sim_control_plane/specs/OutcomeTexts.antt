@@ -1,17 +1,17 @@
 -- The lines by which the outcomes of a control plane are told.
 use Rattle.std.specs.Prelude.{ℕ, List, [], ◌∷◌, ◌++◌, Option, Some, None, unwrap_or, codes, decimal, if◌then◌else◌}
-use Rattle.definitions.specs.Checks.{generate_name}
-use Rattle.definitions.specs.Keys.{Key}
-use Rattle.definitions.specs.Kinds.{plural}
-use Rattle.definitions.specs.Metadata.{name}
-use Rattle.controllers.specs.declared.controller.Controller.{Controller}
-use Rattle.controllers.specs.declared.controller.Controller.TheVariants.{ReplicaSet, Deployment, Collector}
-use Rattle.controllers.specs.Commands.{Command, create, update, update_status, delete}
-use Rattle.controllers.specs.WorkQueues.{WorkKey}
-use Rattle.simulation.specs.OutcomeTexts as cluster_texts
-use Rattle.simulation.specs.OutcomeTexts.{words_line}
-use Rattle.reconciling.specs.Outcomes.{Outcome, of_cluster, handled, took, looked, satisfied, read, expected, issued, finished, time}
-use Rattle.reconciling.specs.Turns.{Answer, accepted, refused, lost}
+use Rattle.spec_api.specs.Checks.{generate_name}
+use Rattle.spec_api.specs.Keys.{Key}
+use Rattle.spec_api.specs.Kinds.{plural}
+use Rattle.spec_api.specs.Metadata.{name}
+use Rattle.spec_client_go.specs.declared.controller.Controller.{Controller}
+use Rattle.spec_client_go.specs.declared.controller.Controller.TheVariants.{ReplicaSet, Deployment, Collector}
+use Rattle.spec_client_go.specs.Commands.{Command, create, update, update_status, delete}
+use Rattle.spec_client_go.specs.WorkQueues.{WorkKey}
+use Rattle.spec_sim_cluster.specs.OutcomeTexts as cluster_texts
+use Rattle.spec_sim_cluster.specs.OutcomeTexts.{words_line}
+use Rattle.spec_sim_control_plane.specs.Outcomes.{Outcome, of_cluster, handled, took, looked, satisfied, read, expected, issued, finished, time}
+use Rattle.spec_sim_control_plane.specs.Turns.{Answer, accepted, refused, lost}
 
 -- a key by its resource, namespace and name, with slashes between them
 abbrev pub key_text : Key → List ℕ

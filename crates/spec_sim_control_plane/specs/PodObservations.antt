@@ -1,17 +1,17 @@
 -- What a published change shows of the pods that ReplicaSets expect (kubernetes, pkg/controller/replicaset, event handlers of pods).
 use Rattle.std.specs.Prelude.{ℕ, ◌&&◌, not, List, [], ◌++◌, map, flat_map, filter_map, Bool, false, Option, Some, None, option_map, option_and_then, if◌then◌else◌}
 use Rattle.serde_json.specs.Data.{Data}
-use Rattle.definitions.specs.declared.kinds.Kind.{Kind}
-use Rattle.definitions.specs.declared.kinds.Kind.TheVariants.{ConfigMap, Pod, ReplicaSet, Deployment}
-use Rattle.definitions.specs.Metadata as metadata
-use Rattle.definitions.specs.Metadata.{uid, is_being_deleted}
-use Rattle.controllers.specs.Expectations.{Owner}
-use Rattle.controllers.specs.OwedKeys.{one_of}
-use Rattle.controllers.specs.OwnerReferences.{key_named, namespace_of, controllers}
-use Rattle.controllers.specs.Shifts.{Shift}
-use Rattle.plans.specs.PodClaims.{have_one_uid}
-use Rattle.control.specs.Boards.{Observation, creation_observed, deletion_observed}
-use Rattle.simulation.specs.Followers.{Notification}
+use Rattle.spec_api.specs.declared.kinds.Kind.{Kind}
+use Rattle.spec_api.specs.declared.kinds.Kind.TheVariants.{ConfigMap, Pod, ReplicaSet, Deployment}
+use Rattle.spec_api.specs.Metadata as metadata
+use Rattle.spec_api.specs.Metadata.{uid, is_being_deleted}
+use Rattle.spec_client_go.specs.Expectations.{Owner}
+use Rattle.spec_client_go.specs.OwedKeys.{one_of}
+use Rattle.spec_client_go.specs.OwnerReferences.{key_named, namespace_of, controllers}
+use Rattle.spec_client_go.specs.Shifts.{Shift}
+use Rattle.spec_reconcile.specs.PodClaims.{have_one_uid}
+use Rattle.spec_work_board.specs.Boards.{Observation, creation_observed, deletion_observed}
+use Rattle.spec_sim_cluster.specs.Followers.{Notification}
 
 -- ---- whose pod it is
 

@@ -2,24 +2,24 @@
 use Rattle.std.specs.Prelude.{ℕ, ◌==◌, ◌&&◌, List, [], ◌∷◌, ◌++◌, length, map, filter, filter_map, drop, replicate, Bool, true, false, Option, Some, None, option_map, unwrap_or, if◌then◌else◌}
 use Rattle.std.specs.List.{list_all}
 use Rattle.serde_json.specs.Data.{Data}
-use Rattle.definitions.specs.declared.kinds.Kind.{Kind}
-use Rattle.definitions.specs.declared.kinds.Kind.TheVariants as kind
-use Rattle.definitions.specs.History.{Entries}
-use Rattle.definitions.specs.Keys.{Key}
-use Rattle.definitions.specs.Kinds.{rank}
-use Rattle.definitions.specs.Metadata.{uid, version}
-use Rattle.server_state.specs.Snapshots.{Snapshot}
-use Rattle.controllers.specs.declared.controller.Controller.{Controller}
-use Rattle.controllers.specs.declared.controller.Controller.TheVariants.{ReplicaSet, Deployment, Collector}
-use Rattle.controllers.specs.Commands.{Command, create, update, update_status, delete}
-use Rattle.controllers.specs.Expectations.{Owner}
-use Rattle.controllers.specs.Hands.{Hand, Read}
-use Rattle.controllers.specs.Informers.{Looks}
-use Rattle.controllers.specs.WorkQueues.{WorkKey}
-use Rattle.control.specs.Boards.{Observation, creation_observed, deletion_observed}
-use Rattle.plans.specs.Deployments as deployments
-use Rattle.plans.specs.GarbageCollection as garbage_collection
-use Rattle.plans.specs.ReplicaSets as replica_sets
+use Rattle.spec_api.specs.declared.kinds.Kind.{Kind}
+use Rattle.spec_api.specs.declared.kinds.Kind.TheVariants as kind
+use Rattle.spec_api.specs.History.{Entries}
+use Rattle.spec_api.specs.Keys.{Key}
+use Rattle.spec_api.specs.Kinds.{rank}
+use Rattle.spec_api.specs.Metadata.{uid, version}
+use Rattle.spec_server.specs.Snapshots.{Snapshot}
+use Rattle.spec_client_go.specs.declared.controller.Controller.{Controller}
+use Rattle.spec_client_go.specs.declared.controller.Controller.TheVariants.{ReplicaSet, Deployment, Collector}
+use Rattle.spec_client_go.specs.Commands.{Command, create, update, update_status, delete}
+use Rattle.spec_client_go.specs.Expectations.{Owner}
+use Rattle.spec_client_go.specs.Hands.{Hand, Read}
+use Rattle.spec_client_go.specs.Informers.{Looks}
+use Rattle.spec_client_go.specs.WorkQueues.{WorkKey}
+use Rattle.spec_work_board.specs.Boards.{Observation, creation_observed, deletion_observed}
+use Rattle.spec_reconcile.specs.Deployments as deployments
+use Rattle.spec_reconcile.specs.GarbageCollection as garbage_collection
+use Rattle.spec_reconcile.specs.ReplicaSets as replica_sets
 
 -- ---- what is seen
 

@@ -1,12 +1,12 @@
 -- The board: what the workers of controllers share (client-go, util/workqueue; kubernetes, pkg/controller, ControllerExpectations).
 use Rattle.std.specs.Prelude.{ℕ, ◌+◌, List, [], ◌∷◌, map as list_map, Bool, nat_le, if◌then◌else◌}
 use Rattle.std.specs.FinMap as map
-use Rattle.controllers.specs.Delays.{Delays, Failures, delay_after, delayed, due, still_delayed, failures, failed}
-use Rattle.controllers.specs.Expectations as expectations
-use Rattle.controllers.specs.Expectations.{Owner, Table, creations_expected, deletions_expected, created, deleted}
-use Rattle.controllers.specs.WorkQueues as queues
-use Rattle.controllers.specs.WorkQueues.{WorkKey, WorkQueue, idle, add, got, after_all}
-use Rattle.definitions.specs.Keys.{Key}
+use Rattle.spec_client_go.specs.Delays.{Delays, Failures, delay_after, delayed, due, still_delayed, failures, failed}
+use Rattle.spec_client_go.specs.Expectations as expectations
+use Rattle.spec_client_go.specs.Expectations.{Owner, Table, creations_expected, deletions_expected, created, deleted}
+use Rattle.spec_client_go.specs.WorkQueues as queues
+use Rattle.spec_client_go.specs.WorkQueues.{WorkKey, WorkQueue, idle, add, got, after_all}
+use Rattle.spec_api.specs.Keys.{Key}
 
 -- the work queue, the keys with a delay, how often each key failed in a row, what is expected, and the time in milliseconds
 pub record Board : Type 0 where

@@ -14,20 +14,20 @@ use Rattle.std.specs.BTreeMap.Range.{entries_between, range_contains}
 use Rattle.std.specs.Str.{bytes_eq}
 use Rattle.std.specs.declared.ops.Bound.TheVariants.{Included, Excluded, Unbounded}
 use Rattle.serde_json.specs.Data.{Data}
-use Rattle.definitions.specs.History.{View, Entries, in_view, in_namespace, viewed}
-use Rattle.definitions.specs.Kinds.{rank, kind_after}
-use Rattle.definitions.proofs.KindOrder.{rank_after, last_rank}
-use Rattle.definitions.specs.Metadata.{labels_of}
-use Rattle.definitions.specs.Lists.{is_selective}
-use Rattle.definitions.specs.Keys.{Key as Name, key_cmp as name_cmp}
-use Rattle.definitions.specs.Pages.{Place, is_after, after_place}
-use Rattle.definitions.specs.SelectorFields.{FieldRequirement, fields_meet}
-use Rattle.definitions.specs.Selectors.{Requirement, meets_all}
-use Rattle.definitions.specs.declared.kinds.Kind.{Kind}
-use Rattle.keys.specs.Keys.{key_of}
-use Rattle.keys.specs.declared.key.Key.{Key}
+use Rattle.spec_api.specs.History.{View, Entries, in_view, in_namespace, viewed}
+use Rattle.spec_api.specs.Kinds.{rank, kind_after}
+use Rattle.spec_api.proofs.KindOrder.{rank_after, last_rank}
+use Rattle.spec_api.specs.Metadata.{labels_of}
+use Rattle.spec_api.specs.Lists.{is_selective}
+use Rattle.spec_api.specs.Keys.{Key as Name, key_cmp as name_cmp}
+use Rattle.spec_api.specs.Pages.{Place, is_after, after_place}
+use Rattle.spec_api.specs.SelectorFields.{FieldRequirement, fields_meet}
+use Rattle.spec_api.specs.Selectors.{Requirement, meets_all}
+use Rattle.spec_api.specs.declared.kinds.Kind.{Kind}
+use Rattle.object_keys.specs.Keys.{key_of}
+use Rattle.object_keys.specs.declared.key.Key.{Key}
 use Rattle.meta.specs.declared.stored.StoredObject.{StoredObject}
-use Rattle.keys.proofs.KeyOrder.{key_cmp-name_cmp}
+use Rattle.object_keys.proofs.KeyOrder.{key_cmp-name_cmp}
 use Rattle.shared_map.specs.Entries.{end_before}
 use Rattle.store.specs.AskedKeys.{first_name, first_asked, first_past, first_after, start_name, later}
 use Rattle.store.specs.Seen.{members_seen}

@@ -5,16 +5,16 @@ use Rattle.std.specs.Map.{keys_of}
 use Rattle.std.specs.Ordering.{ordering_reverse}
 use Rattle.std.specs.HashMap.{get}
 use Rattle.serde_json.specs.Data.{Data}
-use Rattle.definitions.specs.Keys.{key_cmp as name_cmp}
-use Rattle.definitions.specs.History.{found, put_or_remove}
-use Rattle.definitions.specs.Keys.{is_same_key}
-use Rattle.definitions.proofs.PutLaws.{name_cmp_total, found-after}
-use Rattle.keys.specs.Keys.{key_of}
-use Rattle.keys.specs.contracts.key.KeyOrd.TheImpl.Laws.{matches_eq-law}
-use Rattle.keys.specs.contracts.key.KeyPartialEq.TheImpl as key_eq
-use Rattle.keys.specs.declared.key.Key.{Key}
+use Rattle.spec_api.specs.Keys.{key_cmp as name_cmp}
+use Rattle.spec_api.specs.History.{found, put_or_remove}
+use Rattle.spec_api.specs.Keys.{is_same_key}
+use Rattle.spec_api.proofs.PutLaws.{name_cmp_total, found-after}
+use Rattle.object_keys.specs.Keys.{key_of}
+use Rattle.object_keys.specs.contracts.key.KeyOrd.TheImpl.Laws.{matches_eq-law}
+use Rattle.object_keys.specs.contracts.key.KeyPartialEq.TheImpl as key_eq
+use Rattle.object_keys.specs.declared.key.Key.{Key}
 use Rattle.meta.specs.declared.stored.StoredObject.{StoredObject}
-use Rattle.keys.proofs.KeyOrder.{key_cmp-name_cmp}
+use Rattle.object_keys.proofs.KeyOrder.{key_cmp-name_cmp}
 use Rattle.store.specs.Seen.{members_seen, Index, IsIndexOf}
 use Rattle.store.proofs.SeenMaps.{key_cmp, ascending_seen}
 

@@ -4,12 +4,12 @@ use Rattle.std.proofs.Math.Seq.{take-append_seam}
 use Rattle.std.proofs.lemmas.Bool.Decides.{nat_tests}
 use Rattle.std.proofs.lemmas.List.{length-append, length-map, nil_from_length}
 use Rattle.serde_json.specs.Data.{Data}
-use Rattle.definitions.specs.Keys.{Key as Name}
-use Rattle.definitions.specs.History.{View, Entries, viewed, in_view}
-use Rattle.definitions.specs.Pages.{Place, is_after, after_place, page_of, remaining}
-use Rattle.keys.specs.Keys.{key_of}
+use Rattle.spec_api.specs.Keys.{Key as Name}
+use Rattle.spec_api.specs.History.{View, Entries, viewed, in_view}
+use Rattle.spec_api.specs.Pages.{Place, is_after, after_place, page_of, remaining}
+use Rattle.object_keys.specs.Keys.{key_of}
 use Rattle.meta.specs.Members.{member_of}
-use Rattle.keys.specs.declared.key.Key.{Key}
+use Rattle.object_keys.specs.declared.key.Key.{Key}
 use Rattle.meta.specs.declared.stored.StoredObject.{StoredObject}
 use Rattle.store.specs.Chunks.{IsFirst, Tells, IsPage}
 use Rattle.store.specs.Seen.{members_seen}

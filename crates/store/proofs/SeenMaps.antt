@@ -10,16 +10,16 @@ use Rattle.std.specs.List.{AllByRecursion}
 use Rattle.std.specs.List.Sorted.{IsStrictlySortedBy}
 use Rattle.std.specs.Map.{keys_of, remove_entry}
 use Rattle.std.specs.BTreeMap.{insert_entry, is_at}
-use Rattle.keys.specs.contracts.key.KeyOrd.TheImpl as key_ord
-use Rattle.keys.specs.Keys.{key_of}
-use Rattle.keys.specs.declared.key.Key.{Key}
+use Rattle.object_keys.specs.contracts.key.KeyOrd.TheImpl as key_ord
+use Rattle.object_keys.specs.Keys.{key_of}
+use Rattle.object_keys.specs.declared.key.Key.{Key}
 use Rattle.meta.specs.declared.stored.StoredObject.{StoredObject}
-use Rattle.keys.proofs.KeyOrder.{key_cmp-name_cmp}
-use Rattle.keys.proofs.MapViews.{map-remove_entry_by}
-use Rattle.definitions.proofs.PutLaws.{IsAbove, IsAbove-below, IsAscending, name_cmp_total, none_above, same_name}
-use Rattle.definitions.specs.Keys.{Key as Name}
-use Rattle.definitions.specs.History.{Entries, found}
-use Rattle.definitions.specs.Keys.{key_cmp as name_cmp}
+use Rattle.object_keys.proofs.KeyOrder.{key_cmp-name_cmp}
+use Rattle.object_keys.proofs.MapViews.{map-remove_entry_by}
+use Rattle.spec_api.proofs.PutLaws.{IsAbove, IsAbove-below, IsAscending, name_cmp_total, none_above, same_name}
+use Rattle.spec_api.specs.Keys.{Key as Name}
+use Rattle.spec_api.specs.History.{Entries, found}
+use Rattle.spec_api.specs.Keys.{key_cmp as name_cmp}
 use Rattle.store.specs.Seen.{members_seen}
 
 abbrev pub key_cmp : Key → Key → Ordering

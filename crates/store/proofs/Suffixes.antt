@@ -2,13 +2,13 @@
 use Rattle.std.proofs.Common.{◌≡◌, ◌∷◌, ◌++◌, [], cond, is_lt, Option, Some, None, Ordering, Less, Equal, Greater, refl, sym, ap, ◌∙◌, append_assoc}
 use Rattle.std.specs.List.Sorted.{IsStrictlySortedBy}
 use Rattle.std.specs.Map.{keys_of}
-use Rattle.definitions.specs.Keys.{Key as Name}
-use Rattle.definitions.specs.History.{View, Entries, viewed}
-use Rattle.definitions.specs.Pages.{Place, place_of, place_cmp, after_place}
-use Rattle.definitions.proofs.PageLists.{order, place_total, ascending_viewed, left_after, all_after}
-use Rattle.definitions.proofs.PutLaws.{IsAbove, IsAscending}
+use Rattle.spec_api.specs.Keys.{Key as Name}
+use Rattle.spec_api.specs.History.{View, Entries, viewed}
+use Rattle.spec_api.specs.Pages.{Place, place_of, place_cmp, after_place}
+use Rattle.spec_api.proofs.PageLists.{order, place_total, ascending_viewed, left_after, all_after}
+use Rattle.spec_api.proofs.PutLaws.{IsAbove, IsAscending}
 use Rattle.std.proofs.Common.{List}
-use Rattle.keys.specs.declared.key.Key.{Key}
+use Rattle.object_keys.specs.declared.key.Key.{Key}
 use Rattle.meta.specs.declared.stored.StoredObject.{StoredObject}
 use Rattle.store.specs.Seen.{members_seen}
 use Rattle.store.specs.Snapshots.{LeavesAfter}

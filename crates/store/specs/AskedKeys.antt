@@ -1,11 +1,11 @@
 -- Where the objects of a view lie in the order of keys.
 use Rattle.std.specs.Prelude.{ℕ, List, [], ◌∷◌, ◌++◌, Option, Some, None, option_map, unwrap_or, if◌then◌else◌}
 use Rattle.std.specs.Ordering.{is_lt}
-use Rattle.definitions.specs.History.{View}
-use Rattle.definitions.specs.Kinds.{kind_after}
-use Rattle.definitions.specs.Keys.{Key, key_cmp}
-use Rattle.definitions.specs.Pages.{Place}
-use Rattle.definitions.specs.declared.kinds.Kind.{Kind}
+use Rattle.spec_api.specs.History.{View}
+use Rattle.spec_api.specs.Kinds.{kind_after}
+use Rattle.spec_api.specs.Keys.{Key, key_cmp}
+use Rattle.spec_api.specs.Pages.{Place}
+use Rattle.spec_api.specs.declared.kinds.Kind.{Kind}
 
 -- the first name of a kind in a namespace
 abbrev pub first_name : Kind → List ℕ → Key

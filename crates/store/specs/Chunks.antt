@@ -1,11 +1,11 @@
 -- What a chunk of a list says.
 use Rattle.std.specs.Prelude.{◌≡◌, ◌≤◌, ◌<◌, ◌==◌, ◌++◌, ℕ, [], length, false, map, Option, option_map}
-use Rattle.definitions.specs.History.{View, Entries}
-use Rattle.definitions.specs.Lists.{is_selective}
-use Rattle.definitions.specs.Pages.{Place, place_of, page_of, remaining}
-use Rattle.keys.specs.Keys.{key_of}
+use Rattle.spec_api.specs.History.{View, Entries}
+use Rattle.spec_api.specs.Lists.{is_selective}
+use Rattle.spec_api.specs.Pages.{Place, place_of, page_of, remaining}
+use Rattle.object_keys.specs.Keys.{key_of}
 use Rattle.meta.specs.Members.{member_of}
-use Rattle.keys.specs.declared.key.Key.{Key}
+use Rattle.object_keys.specs.declared.key.Key.{Key}
 use Rattle.store.specs.declared.chunks.Chunk.{Chunk}
 
 -- the place of a key, where one is given

@@ -3,12 +3,12 @@ use Rattle.std.specs.Prelude.{ℕ, ◌≡◌, ◌≤◌, List, length, map, opti
 use Rattle.std.specs.HashMap.{HashMap, get}
 use Rattle.std.specs.declared.hash.BuildHasherDefault.{BuildHasherDefault}
 use Rattle.std.specs.declared.hash.FoldHasher.{FoldHasher}
-use Rattle.definitions.specs.History.{Entries, found}
-use Rattle.definitions.specs.Revisions.{greatest_revision}
-use Rattle.definitions.specs.Verbs.{most_objects}
-use Rattle.keys.specs.Keys.{key_of}
-use Rattle.keys.specs.contracts.key.KeyPartialEq.TheImpl as key_eq
-use Rattle.keys.specs.declared.key.Key.{Key}
+use Rattle.spec_api.specs.History.{Entries, found}
+use Rattle.spec_api.specs.Revisions.{greatest_revision}
+use Rattle.spec_api.specs.Verbs.{most_objects}
+use Rattle.object_keys.specs.Keys.{key_of}
+use Rattle.object_keys.specs.contracts.key.KeyPartialEq.TheImpl as key_eq
+use Rattle.object_keys.specs.declared.key.Key.{Key}
 use Rattle.meta.specs.declared.stored.StoredObject.{StoredObject}
 
 -- keys and objects as names and data

@@ -1,16 +1,16 @@
 //! Chunks of lists.
 ghost use Rattle.std.specs.Prelude.{◌≡◌, ◌≤◌, ◌<◌, ◌++◌, [], ◌∷◌, ℕ, false, IfOk, IfSome, IfNone, length, map};
-ghost use Rattle.definitions.specs.History.{viewed};
-ghost use Rattle.definitions.specs.Lists.{is_selective};
-ghost use Rattle.definitions.specs.Verbs.{most_objects};
+ghost use Rattle.spec_api.specs.History.{viewed};
+ghost use Rattle.spec_api.specs.Lists.{is_selective};
+ghost use Rattle.spec_api.specs.Verbs.{most_objects};
 ghost use Rattle.meta.specs.Members.{member_of};
 ghost use Rattle.selector.specs.Views.{view_of};
 ghost use Rattle.store.specs.Chunks.{IsFirst, Tells};
 ghost use Rattle.store.specs.Seen.{members_seen};
 
-use keys::Key;
 use meta::lent_members::Member;
 use meta::stored::StoredObject;
+use object_keys::Key;
 use selector::View;
 use shared_map::EntriesLeft;
 use std::alloc::{AllocError, Global};

@@ -1,8 +1,8 @@
 //! Members that are still to be taken.
 use crate::chunks::next_member;
-use keys::Key;
 use meta::lent_members::Member;
 use meta::stored::StoredObject;
+use object_keys::Key;
 use selector::View;
 use shared_map::EntriesLeft;
 use std::marker::Model;
@@ -15,9 +15,9 @@ pub struct MembersLeft<'a> {
 }
 
 impl<'a> Model for MembersLeft<'a> {
-    ghost use Rattle.definitions.specs.History.{Entries, viewed};
+    ghost use Rattle.spec_api.specs.History.{Entries, viewed};
     ghost use Rattle.selector.specs.Views.{view_of};
-    ghost use Rattle.server_state.specs.Codes.{coded_members};
+    ghost use Rattle.spec_server.specs.Codes.{coded_members};
     ghost use Rattle.store.specs.Seen.{members_seen};
 
     ghost Value = { Entries };

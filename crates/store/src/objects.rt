@@ -1,14 +1,14 @@
 //! What a write does to the objects that are there, in their order and in their index.
 ghost use Rattle.std.specs.Prelude.{◌≡◌, ◌+◌, ◌≤◌, ◌&&◌, not, IfOk, OnOk, OnErr, Some, is_some, length, option_map, if◌then◌else◌};
 ghost use Rattle.std.specs.BTreeMap.{insert_entry};
-ghost use Rattle.definitions.specs.History.{after, found};
-ghost use Rattle.keys.specs.Keys.{key_of};
+ghost use Rattle.spec_api.specs.History.{after, found};
+ghost use Rattle.object_keys.specs.Keys.{key_of};
 ghost use Rattle.meta.specs.Writes.{write_of};
 ghost use Rattle.store.specs.Seen.{members_seen, IsIndexOf};
 
-use keys::Key;
 use meta::stored::StoredObject;
 use meta::writes::Write;
+use object_keys::Key;
 use shared_map::SharedMap;
 use std::alloc::AllocError;
 use std::collections::HashMap;

@@ -1,20 +1,20 @@
 //! Where the objects of a view lie in a map.
 ghost use Rattle.std.specs.Prelude.{◌≡◌, [], false, IfOk, option_map, string_bytes};
-ghost use Rattle.definitions.specs.History.{viewed};
-ghost use Rattle.definitions.specs.Kinds.{kind_after};
-ghost use Rattle.definitions.specs.Lists.{is_selective};
-ghost use Rattle.definitions.specs.Pages.{place_of, after_place};
-ghost use Rattle.keys.specs.Keys.{key_of};
+ghost use Rattle.spec_api.specs.History.{viewed};
+ghost use Rattle.spec_api.specs.Kinds.{kind_after};
+ghost use Rattle.spec_api.specs.Lists.{is_selective};
+ghost use Rattle.spec_api.specs.Pages.{place_of, after_place};
+ghost use Rattle.object_keys.specs.Keys.{key_of};
 ghost use Rattle.selector.specs.Views.{view_of};
 ghost use Rattle.store.specs.AskedKeys.{first_name, first_asked, first_past, first_after, start_name, later};
 ghost use Rattle.store.specs.Chunks.{after_key};
 ghost use Rattle.store.specs.Seen.{members_seen};
 
-use definitions::kinds::Kind;
-use keys::Key;
 use meta::stored::StoredObject;
+use object_keys::Key;
 use selector::View;
 use shared_map::{EntriesLeft, SharedMap};
+use spec_api::kinds::Kind;
 use std::alloc::{AllocError, Global};
 
 /// Returns the objects from the first key that a view may ask for to the last, or from the first after a key of the place of

@@ -5,12 +5,12 @@ ghost use Rattle.store.specs.Chunks.{after_key};
 use crate::chunks::first_members;
 use crate::members::MembersLeft;
 use crate::ranges::asked;
-use definitions::kinds::Kind;
-use keys::Key;
 use meta::lent_members::Member;
 use meta::stored::StoredObject;
+use object_keys::Key;
 use selector::View;
 use shared_map::SharedMap;
+use spec_api::kinds::Kind;
 use std::alloc::{AllocError, Global};
 use std::marker::Model;
 
@@ -27,12 +27,12 @@ pub struct ViewSnapshot {
 impl Model for ViewSnapshot {
     ghost use Rattle.std.specs.List.Sorted.{IsStrictlySortedBy};
     ghost use Rattle.std.specs.Map.{keys_of};
-    ghost use Rattle.definitions.specs.History.{Entries, viewed};
-    ghost use Rattle.definitions.specs.Pages.{after_place};
-    ghost use Rattle.keys.specs.contracts.key.KeyOrd.TheImpl as key_ord;
+    ghost use Rattle.spec_api.specs.History.{Entries, viewed};
+    ghost use Rattle.spec_api.specs.Pages.{after_place};
+    ghost use Rattle.object_keys.specs.contracts.key.KeyOrd.TheImpl as key_ord;
     ghost use Rattle.selector.specs.Views.{view_of};
     ghost use Rattle.store.specs.Chunks.{after_key};
-    ghost use Rattle.server_state.specs.Codes.{coded_members};
+    ghost use Rattle.spec_server.specs.Codes.{coded_members};
     ghost use Rattle.store.specs.Seen.{members_seen};
 
     ghost Value = { Entries };
@@ -56,8 +56,8 @@ fn copied(key: Option<&Key>) -> Result<Option<Key>, AllocError>
 
 impl ViewSnapshot {
     ghost use Rattle.std.specs.Prelude.{◌≡◌, ◌==◌, [], IfOk, length, map};
-    ghost use Rattle.definitions.specs.History.{viewed};
-    ghost use Rattle.keys.specs.Keys.{key_of};
+    ghost use Rattle.spec_api.specs.History.{viewed};
+    ghost use Rattle.object_keys.specs.Keys.{key_of};
     ghost use Rattle.meta.specs.Members.{member_of};
     ghost use Rattle.selector.specs.Views.{view_of};
     ghost use Rattle.store.specs.Seen.{members_seen};

@@ -3,16 +3,16 @@ use crate::chunks::{Chunk, first_members, remaining};
 use crate::objects::take;
 use crate::ranges::asked;
 use crate::snapshots::ViewSnapshot;
-use keys::{Fault, Key};
-use limits::{GREATEST_REVISION, MOST_OBJECTS};
 use meta::lent_members::Member;
 use meta::stored::StoredObject;
 use meta::writes::Write;
+use object_keys::{Fault, Key};
 use selector::View;
 use shared_map::SharedMap;
 use std::alloc::{AllocError, Global};
 use std::collections::HashMap;
 use std::marker::Model;
+use store_limits::{GREATEST_REVISION, MOST_OBJECTS};
 
 /// All that is there, with one revision over all kinds: 1 for the empty store, and one more after each write.
 /// It is seen as a snapshot.
@@ -26,8 +26,8 @@ pub struct Store {
 }
 
 impl Model for Store {
-    ghost use Rattle.server_state.specs.Snapshots.{Snapshot};
-    ghost use Rattle.server_state.specs.Codes.{coded_snapshot};
+    ghost use Rattle.spec_server.specs.Snapshots.{Snapshot};
+    ghost use Rattle.spec_server.specs.Codes.{coded_snapshot};
 
     ghost Value = { Snapshot };
 
@@ -42,15 +42,15 @@ impl Model for Store {
 
 impl Store {
     ghost use Rattle.std.specs.Prelude.{◌≡◌, ◌≤◌, ◌⊎◌, true, false, IfOk, OnOk, OnErr, IfErr, length, map, option_map};
-    ghost use Rattle.keys.specs.Keys.{key_of};
+    ghost use Rattle.object_keys.specs.Keys.{key_of};
     ghost use Rattle.meta.specs.Members.{member_of};
     ghost use Rattle.meta.specs.Writes.{write_of};
-    ghost use Rattle.keys.specs.declared.fault.Fault.TheVariants as fault;
+    ghost use Rattle.object_keys.specs.declared.fault.Fault.TheVariants as fault;
     ghost use Rattle.selector.specs.Views.{view_of};
-    ghost use Rattle.definitions.specs.History.{found, viewed};
-    ghost use Rattle.definitions.specs.Revisions.{greatest_revision};
-    ghost use Rattle.server_state.specs.Snapshots.{empty, written};
-    ghost use Rattle.definitions.specs.Verbs.{most_objects, overflows};
+    ghost use Rattle.spec_api.specs.History.{found, viewed};
+    ghost use Rattle.spec_api.specs.Revisions.{greatest_revision};
+    ghost use Rattle.spec_server.specs.Snapshots.{empty, written};
+    ghost use Rattle.spec_api.specs.Verbs.{most_objects, overflows};
     ghost use Rattle.store.specs.Chunks.{IsPage, after_key};
 
     /// Returns the empty store, at revision 1.

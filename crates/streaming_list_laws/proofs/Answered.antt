@@ -2,14 +2,14 @@
 use Rattle.std.proofs.Common.{◌≡◌, ◌≤◌, ◌<◌, ℕ, List, [], Bool, true, false, Option, Some, None, unwrap_or, Ok, Err, refl, sym, ap, ◌∙◌, subst, append-nil}
 use Rattle.std.specs.Prelude.{nat_lt}
 use Rattle.std.proofs.lemmas.Bool.{le-ltb, lt-ltb, ltb-true}
-use Rattle.definitions.specs.History.{History, View, Entries, present, list}
-use Rattle.definitions.specs.Refusals.{Refusal, too_new}
-use Rattle.definitions.specs.Streams.{Line, added_lines, AreEventsWithBookmarks, IsInitialStream}
-use Rattle.definitions.specs.Versions.{once_present}
-use Rattle.definitions.specs.WatchReplies.{Initial, initial_at, initial_from, opening_lines}
-use Rattle.laws.proofs.InitialStreams.{begun}
-use Rattle.laws.proofs.Looks.{none_at}
-use Rattle.stream_laws.specs.ServedStreamLaws.{initial_watch, InitialWatchesAreAnswered, FutureStreamsAreRefused, OnlyTheFutureIsRefused, InitialsAreOfThePresent}
+use Rattle.spec_api.specs.History.{History, View, Entries, present, list}
+use Rattle.spec_api.specs.Refusals.{Refusal, too_new}
+use Rattle.spec_api.specs.Streams.{Line, added_lines, AreEventsWithBookmarks, IsInitialStream}
+use Rattle.spec_api.specs.Versions.{once_present}
+use Rattle.spec_api.specs.WatchReplies.{Initial, initial_at, initial_from, opening_lines}
+use Rattle.spec_laws.proofs.InitialStreams.{begun}
+use Rattle.spec_laws.proofs.Looks.{none_at}
+use Rattle.streaming_list_laws.specs.ServedStreamLaws.{initial_watch, InitialWatchesAreAnswered, FutureStreamsAreRefused, OnlyTheFutureIsRefused, InitialsAreOfThePresent}
 
 -- ---- lines
 

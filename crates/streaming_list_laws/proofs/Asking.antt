@@ -1,13 +1,13 @@
 -- What a reflector asks for after whatever comes.
 use Rattle.std.proofs.Common.{◌≡◌, ◌⊎◌, inl, inr, List, [], ◌∷◌, ◌++◌, ℕ, Bool, true, false, Option, Some, None, refl, ap, ◌∙◌}
 use Rattle.std.specs.List.{AllByRecursion}
-use Rattle.definitions.specs.declared.kinds.Kind.{Kind}
-use Rattle.controllers.specs.declared.reflectors.Phase.{Phase}
-use Rattle.controllers.specs.declared.reflectors.Phase.TheVariants.{Listing, Streaming, Watching}
-use Rattle.controllers.specs.Reflectors as reflectors
-use Rattle.controllers.specs.Reflectors.{Reflector, Listed, list_of, with_list, first_phase, anew, asks, ask_at, fed, fed_in}
+use Rattle.spec_api.specs.declared.kinds.Kind.{Kind}
+use Rattle.spec_client_go.specs.declared.reflectors.Phase.{Phase}
+use Rattle.spec_client_go.specs.declared.reflectors.Phase.TheVariants.{Listing, Streaming, Watching}
+use Rattle.spec_client_go.specs.Reflectors as reflectors
+use Rattle.spec_client_go.specs.Reflectors.{Reflector, Listed, list_of, with_list, first_phase, anew, asks, ask_at, fed, fed_in}
 use Rattle.reflector.specs.Laws.{IsAt}
-use Rattle.stream_laws.specs.StreamingLaws.{Step, list, bytes, cut, expired, refused, after_step, after_steps, IsNoList, OnlyListsEndRefusals, ExpiriesStreamAgain, CutsDropInitialEvents, StepsKeepStreaming}
+use Rattle.streaming_list_laws.specs.StreamingLaws.{Step, list, bytes, cut, expired, refused, after_step, after_steps, IsNoList, OnlyListsEndRefusals, ExpiriesStreamAgain, CutsDropInitialEvents, StepsKeepStreaming}
 
 -- ---- what stays
 

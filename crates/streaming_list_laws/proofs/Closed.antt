@@ -2,13 +2,13 @@
 use Rattle.std.proofs.Common.{◌≡◌, ◌≤◌, ℕ, nat_le, List, [], ◌∷◌, ◌++◌, true, Option, Some, None, is_some, option_map, option_and_then, Ok, refl, sym, ap, ◌∙◌, subst, arith}
 use Rattle.std.proofs.Math.Nat.{max-le}
 use Rattle.serde_json.specs.Data.{Data}
-use Rattle.definitions.specs.declared.kinds.Kind.{Kind}
-use Rattle.definitions.specs.declared.frames.FrameKind.{FrameKind}
-use Rattle.definitions.specs.declared.frames.FrameKind.TheVariants.{Added, Modified, Deleted, Bookmark, Error}
-use Rattle.definitions.specs.Frames.{Frame}
-use Rattle.definitions.specs.History.{Entries}
-use Rattle.controllers.specs.Reflectors.{put_step, remove_step, replace, objects_of, run, is_of, revision, if_reached, marked, Initial, played, under_way, closed, opening, bookmark_opening, opening_by, opening_step, opens_on, open_run, fed_in}
-use Rattle.stream_laws.specs.StreamingLaws.{IsClosing, IsPlayedBy, ArePlayed, ClosingsAreGiven}
+use Rattle.spec_api.specs.declared.kinds.Kind.{Kind}
+use Rattle.spec_api.specs.declared.frames.FrameKind.{FrameKind}
+use Rattle.spec_api.specs.declared.frames.FrameKind.TheVariants.{Added, Modified, Deleted, Bookmark, Error}
+use Rattle.spec_api.specs.Frames.{Frame}
+use Rattle.spec_api.specs.History.{Entries}
+use Rattle.spec_client_go.specs.Reflectors.{put_step, remove_step, replace, objects_of, run, is_of, revision, if_reached, marked, Initial, played, under_way, closed, opening, bookmark_opening, opening_by, opening_step, opens_on, open_run, fed_in}
+use Rattle.streaming_list_laws.specs.StreamingLaws.{IsClosing, IsPlayedBy, ArePlayed, ClosingsAreGiven}
 
 -- ---- one frame
 

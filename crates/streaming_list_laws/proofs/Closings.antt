@@ -1,11 +1,11 @@
 -- Where the bookmark stands that closes initial events.
 use Rattle.std.proofs.Common.{◌≡◌, ℕ, List, [], ◌∷◌, ◌++◌, refl, sym, ap, ◌∙◌, subst}
 use Rattle.serde_json.specs.Data.{Data}
-use Rattle.definitions.specs.Events.{Event, events}
-use Rattle.definitions.specs.History.{Entries, list}
-use Rattle.definitions.specs.Keys.{Key}
-use Rattle.definitions.specs.Streams.{Line, event, bookmark, initial, initial_end, added_lines, AreEventsWithBookmarks}
-use Rattle.stream_laws.specs.ServedStreamLaws.{ClosingsFollowTheList, NoneClosesEarly}
+use Rattle.spec_api.specs.Events.{Event, events}
+use Rattle.spec_api.specs.History.{Entries, list}
+use Rattle.spec_api.specs.Keys.{Key}
+use Rattle.spec_api.specs.Streams.{Line, event, bookmark, initial, initial_end, added_lines, AreEventsWithBookmarks}
+use Rattle.streaming_list_laws.specs.ServedStreamLaws.{ClosingsFollowTheList, NoneClosesEarly}
 
 -- none among changes
 none_closes : (xs later : List Line) (at b c : ℕ) (cs : List Event) → AreEventsWithBookmarks at b cs (xs ++ initial_end c ∷ later) → ⊥

@@ -3,20 +3,20 @@ use Rattle.std.proofs.Common.{◌≡◌, ◌≤◌, ◌<◌, ◌^◌, ℕ, nat_l
 use Rattle.std.specs.List.{AllByRecursion}
 use Rattle.std.proofs.lemmas.Bool.{ltb-false}
 use Rattle.serde_json.specs.Data.{Data}
-use Rattle.definitions.specs.declared.kinds.Kind.{Kind}
-use Rattle.definitions.specs.declared.frames.ChangeKind.{ChangeKind}
-use Rattle.definitions.specs.declared.frames.ChangeKind.TheVariants.{Added, Modified, Deleted}
-use Rattle.definitions.specs.Events.{Event}
-use Rattle.definitions.specs.Frames.{Frame, frame_kind}
-use Rattle.definitions.specs.History.{History, View}
-use Rattle.definitions.specs.Streams.{Line, event, bookmark, initial, initial_end, frame_of, AreEventsWithBookmarks}
-use Rattle.definitions.specs.Versions.{Watched, last_change}
-use Rattle.definitions.specs.WatchReplies.{lines_from}
-use Rattle.controllers.specs.Reflectors.{Shown, shown, if_above, Step, step, run, going_on, or_unreadable, put_step, remove_step, mark_step}
-use Rattle.laws.specs.LookLaws.{Look, AreLooks, last_stand, look_lines}
-use Rattle.laws.specs.SentLaws.{IsTold}
-use Rattle.laws.specs.WatchLaws.{AreBetween}
-use Rattle.laws.proofs.StandingWatches.{given_stands}
+use Rattle.spec_api.specs.declared.kinds.Kind.{Kind}
+use Rattle.spec_api.specs.declared.frames.ChangeKind.{ChangeKind}
+use Rattle.spec_api.specs.declared.frames.ChangeKind.TheVariants.{Added, Modified, Deleted}
+use Rattle.spec_api.specs.Events.{Event}
+use Rattle.spec_api.specs.Frames.{Frame, frame_kind}
+use Rattle.spec_api.specs.History.{History, View}
+use Rattle.spec_api.specs.Streams.{Line, event, bookmark, initial, initial_end, frame_of, AreEventsWithBookmarks}
+use Rattle.spec_api.specs.Versions.{Watched, last_change}
+use Rattle.spec_api.specs.WatchReplies.{lines_from}
+use Rattle.spec_client_go.specs.Reflectors.{Shown, shown, if_above, Step, step, run, going_on, or_unreadable, put_step, remove_step, mark_step}
+use Rattle.spec_laws.specs.LookLaws.{Look, AreLooks, last_stand, look_lines}
+use Rattle.spec_laws.specs.SentLaws.{IsTold}
+use Rattle.spec_laws.specs.WatchLaws.{AreBetween}
+use Rattle.spec_laws.proofs.StandingWatches.{given_stands}
 use Rattle.reflector.proofs.Marks.{bookmark_step}
 
 -- the revision of the last line, or this one

@@ -1,21 +1,21 @@
 -- The lines of an initial stream of what is reached are read back.
 use Rattle.std.proofs.Common.{◌≤◌, ◌<◌, ◌^◌, ℕ, List, [], ◌∷◌, ◌++◌, false, refl, sym, subst, arith}
 use Rattle.std.specs.List.{AllByRecursion}
-use Rattle.definitions.specs.declared.kinds.Kind.{Kind}
-use Rattle.definitions.specs.declared.frames.FrameKind.TheVariants.{Bookmark}
-use Rattle.definitions.specs.Events.{Event, events}
-use Rattle.definitions.specs.Frames.{bookmark_data, frame_kind}
-use Rattle.definitions.specs.History.{History, Entries, list, present}
-use Rattle.definitions.specs.Reached.{IsParsed, IsReached}
-use Rattle.definitions.specs.Reading.{reading}
-use Rattle.definitions.specs.Streams.{Line, event, bookmark, initial, initial_end, added_lines, AreEventsWithBookmarks, IsInitialStream}
-use Rattle.laws.specs.SentLaws.{whole, IsTold}
-use Rattle.laws.proofs.Limited.{limited}
-use Rattle.laws.proofs.SentChanges.{changes_told}
+use Rattle.spec_api.specs.declared.kinds.Kind.{Kind}
+use Rattle.spec_api.specs.declared.frames.FrameKind.TheVariants.{Bookmark}
+use Rattle.spec_api.specs.Events.{Event, events}
+use Rattle.spec_api.specs.Frames.{bookmark_data, frame_kind}
+use Rattle.spec_api.specs.History.{History, Entries, list, present}
+use Rattle.spec_api.specs.Reached.{IsParsed, IsReached}
+use Rattle.spec_api.specs.Reading.{reading}
+use Rattle.spec_api.specs.Streams.{Line, event, bookmark, initial, initial_end, added_lines, AreEventsWithBookmarks, IsInitialStream}
+use Rattle.spec_laws.specs.SentLaws.{whole, IsTold}
+use Rattle.spec_laws.proofs.Limited.{limited}
+use Rattle.spec_laws.proofs.SentChanges.{changes_told}
 use Rattle.reflector.specs.Laws.{IsReadWithin}
 use Rattle.reflector.proofs.Opened.{IsOf, all_listed}
-use Rattle.simulation_laws.proofs.FramesRead.{AreParsedEvents, bookmark_parsed, clean_at, events_parsed, frame_back}
-use Rattle.simulation_laws.proofs.OpeningsRead.{closing_back, object_back}
+use Rattle.sim_cluster_laws.proofs.FramesRead.{AreParsedEvents, bookmark_parsed, clean_at, events_parsed, frame_back}
+use Rattle.sim_cluster_laws.proofs.OpeningsRead.{closing_back, object_back}
 
 -- ---- bookmarks and changes
 

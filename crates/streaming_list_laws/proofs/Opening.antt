@@ -2,20 +2,20 @@
 use Rattle.std.proofs.Common.{◌≡◌, ◌≤◌, ◌⊎◌, inl, inr, ℕ, List, [], ◌∷◌, ◌++◌, Bool, Option, Some, None, option_map, Result, Ok, Err, refl, sym, ap, ◌∙◌, subst}
 use Rattle.std.specs.List.{AllByRecursion}
 use Rattle.serde_json.specs.Data.{Data}
-use Rattle.definitions.specs.declared.kinds.Kind.{Kind}
-use Rattle.definitions.specs.declared.frames.FrameKind.{FrameKind}
-use Rattle.definitions.specs.declared.frames.FrameKind.TheVariants.{Added, Modified, Deleted, Bookmark, Error}
-use Rattle.definitions.specs.Frames.{Frame}
-use Rattle.definitions.specs.History.{Entries}
-use Rattle.controllers.specs.declared.reflectors.End.{End}
-use Rattle.controllers.specs.declared.reflectors.Phase.{Phase}
-use Rattle.controllers.specs.declared.reflectors.Phase.TheVariants.{Streaming}
-use Rattle.controllers.specs.ReadFrames.{reading}
-use Rattle.controllers.specs.Reflectors.{shown_above, Step, Run, run, step, step_by, put_step, remove_step, mark_step, marked, or_unreadable, going_on, first_delta, replace, objects_of, Initial, none_yet, Opening, under_way, closed, opening_step, opens_on, open_run, Course, Reflector, Fed, end_of, phase_after, watched, fed, fed_in, all_fed}
+use Rattle.spec_api.specs.declared.kinds.Kind.{Kind}
+use Rattle.spec_api.specs.declared.frames.FrameKind.{FrameKind}
+use Rattle.spec_api.specs.declared.frames.FrameKind.TheVariants.{Added, Modified, Deleted, Bookmark, Error}
+use Rattle.spec_api.specs.Frames.{Frame}
+use Rattle.spec_api.specs.History.{Entries}
+use Rattle.spec_client_go.specs.declared.reflectors.End.{End}
+use Rattle.spec_client_go.specs.declared.reflectors.Phase.{Phase}
+use Rattle.spec_client_go.specs.declared.reflectors.Phase.TheVariants.{Streaming}
+use Rattle.spec_client_go.specs.ReadFrames.{reading}
+use Rattle.spec_client_go.specs.Reflectors.{shown_above, Step, Run, run, step, step_by, put_step, remove_step, mark_step, marked, or_unreadable, going_on, first_delta, replace, objects_of, Initial, none_yet, Opening, under_way, closed, opening_step, opens_on, open_run, Course, Reflector, Fed, end_of, phase_after, watched, fed, fed_in, all_fed}
 use Rattle.reflector.proofs.Anew.{ends_open_again}
 use Rattle.reflector.proofs.Cutting.{flat, no_cutting_matters}
-use Rattle.stream_laws.specs.StreamingLaws.{IsNoClosing, IsClosing, ArePlayed, IsSmall, Stays, Opens, NothingIsGivenBefore, NothingIsGivenOfPieces, GivenByTheClosing, GivenOfAllFrames}
-use Rattle.stream_laws.proofs.Played.{goes, closes, not_both}
+use Rattle.streaming_list_laws.specs.StreamingLaws.{IsNoClosing, IsClosing, ArePlayed, IsSmall, Stays, Opens, NothingIsGivenBefore, NothingIsGivenOfPieces, GivenByTheClosing, GivenOfAllFrames}
+use Rattle.streaming_list_laws.proofs.Played.{goes, closes, not_both}
 
 -- ---- frames
 

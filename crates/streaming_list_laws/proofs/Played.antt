@@ -2,12 +2,12 @@
 use Rattle.std.proofs.Common.{◌≡◌, ◌≤◌, ℕ, max, nat_le, Bool, true, false, Option, Some, None, is_some, option_map, option_and_then, Ok, refl, ap, subst, arith}
 use Rattle.std.proofs.lemmas.Bool.{leb-true}
 use Rattle.serde_json.specs.Data.{Data}
-use Rattle.definitions.specs.declared.kinds.Kind.{Kind}
-use Rattle.definitions.specs.declared.frames.FrameKind.{FrameKind}
-use Rattle.definitions.specs.declared.frames.FrameKind.TheVariants.{Added, Modified, Deleted, Bookmark, Error}
-use Rattle.definitions.specs.Frames.{Frame}
-use Rattle.controllers.specs.Reflectors.{Shown, shown, Step, put_step, remove_step, is_of, revision, if_reached, marked, is_closing, Initial, played, Opening, under_way, closed, opening, bookmark_opening, opening_by, opening_step}
-use Rattle.stream_laws.specs.StreamingLaws.{IsClosing, IsPlayedBy, IsNoClosing}
+use Rattle.spec_api.specs.declared.kinds.Kind.{Kind}
+use Rattle.spec_api.specs.declared.frames.FrameKind.{FrameKind}
+use Rattle.spec_api.specs.declared.frames.FrameKind.TheVariants.{Added, Modified, Deleted, Bookmark, Error}
+use Rattle.spec_api.specs.Frames.{Frame}
+use Rattle.spec_client_go.specs.Reflectors.{Shown, shown, Step, put_step, remove_step, is_of, revision, if_reached, marked, is_closing, Initial, played, Opening, under_way, closed, opening, bookmark_opening, opening_by, opening_step}
+use Rattle.streaming_list_laws.specs.StreamingLaws.{IsClosing, IsPlayedBy, IsNoClosing}
 
 -- ---- bookmarks
 

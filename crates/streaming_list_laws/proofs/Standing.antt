@@ -1,24 +1,24 @@
 -- Where a reflector stands that took in a whole initial stream.
 use Rattle.std.proofs.Common.{◌≡◌, ◌≤◌, ◌<◌, inl, inr, ℕ, List, [], ◌∷◌, ◌++◌, length, map, Option, Some, None, refl, sym, ap, ◌∙◌, arith, append-nil}
 use Rattle.std.specs.List.{AllByRecursion}
-use Rattle.definitions.specs.declared.kinds.Kind.{Kind}
-use Rattle.definitions.specs.Events.{events}
-use Rattle.definitions.specs.History.{History, Entries, present, list}
-use Rattle.definitions.specs.Reached.{IsReached}
-use Rattle.definitions.specs.Streams.{Line, initial_end, added_lines, frame_of, text_of_lines, IsStream}
-use Rattle.controllers.specs.declared.reflectors.End.{End}
-use Rattle.controllers.specs.ReadFrames.{Read, reading}
-use Rattle.controllers.specs.Reflectors.{Reflector, Course, Fed, none_yet, run, open_run, end_of, held_after, fed_in, all_fed}
-use Rattle.laws.specs.SentLaws.{whole}
-use Rattle.laws.proofs.AppliedEvents.{lie_between}
-use Rattle.laws.proofs.Limited.{limited}
-use Rattle.laws.proofs.SentChanges.{changes_told}
-use Rattle.laws.proofs.Streamed.{list_ascending}
+use Rattle.spec_api.specs.declared.kinds.Kind.{Kind}
+use Rattle.spec_api.specs.Events.{events}
+use Rattle.spec_api.specs.History.{History, Entries, present, list}
+use Rattle.spec_api.specs.Reached.{IsReached}
+use Rattle.spec_api.specs.Streams.{Line, initial_end, added_lines, frame_of, text_of_lines, IsStream}
+use Rattle.spec_client_go.specs.declared.reflectors.End.{End}
+use Rattle.spec_client_go.specs.ReadFrames.{Read, reading}
+use Rattle.spec_client_go.specs.Reflectors.{Reflector, Course, Fed, none_yet, run, open_run, end_of, held_after, fed_in, all_fed}
+use Rattle.spec_laws.specs.SentLaws.{whole}
+use Rattle.spec_laws.proofs.AppliedEvents.{lie_between}
+use Rattle.spec_laws.proofs.Limited.{limited}
+use Rattle.spec_laws.proofs.SentChanges.{changes_told}
+use Rattle.spec_laws.proofs.Streamed.{list_ascending}
 use Rattle.reflector.specs.Laws.{IsAtStart, IsReadWithin}
 use Rattle.reflector.proofs.Cutting.{flat, no_cutting_matters}
 use Rattle.reflector.proofs.Opened.{Plays, plays, all_listed, back}
 use Rattle.reflector.proofs.Streamed.{all_back}
-use Rattle.stream_laws.proofs.LastLines.{last_line, runs_to}
+use Rattle.streaming_list_laws.proofs.LastLines.{last_line, runs_to}
 
 more_lines : (k : Kind) (a : ℕ) (ms : Entries) (ls : List Line) → length ms < length (map (frame_of k) (added_lines ms ++ initial_end a ∷ ls))
 more_lines k a [] ls = omega arith

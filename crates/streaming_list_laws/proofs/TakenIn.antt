@@ -1,26 +1,26 @@
 -- A server's initial events and the looks after them, taken in.
 use Rattle.std.proofs.Common.{◌≡◌, ◌≤◌, ◌⊎◌, ◌<◌, ℕ, List, [], ◌∷◌, ◌++◌, length, true, Option, refl, sym, ap, ◌∙◌, subst, arith, append_assoc}
 use Rattle.std.specs.List.{AllByRecursion}
-use Rattle.definitions.specs.declared.kinds.Kind.{Kind}
-use Rattle.definitions.specs.Frames.{frame_text}
-use Rattle.definitions.specs.History.{History, View, Entries, present, after_all, viewed, list}
-use Rattle.definitions.specs.Streams.{Line, initial_end, added_lines, frame_of, text_of_lines}
-use Rattle.definitions.specs.WatchReplies.{Initial, opening_lines}
-use Rattle.controllers.specs.Reflectors.{Reflector, Fed, apply_deltas, all_fed}
-use Rattle.server_state.specs.Servers.{Server}
-use Rattle.laws.specs.LookLaws.{Look, AreLooks, last_history, last_stand, look_lines}
-use Rattle.laws.specs.SentLaws.{whole}
-use Rattle.laws.proofs.InitialStreams.{initial_streams, openings}
-use Rattle.laws.proofs.Looks.{goes_further, looks_are_one_stream}
-use Rattle.laws.proofs.StandingWatches.{given_stands, writes_past}
+use Rattle.spec_api.specs.declared.kinds.Kind.{Kind}
+use Rattle.spec_api.specs.Frames.{frame_text}
+use Rattle.spec_api.specs.History.{History, View, Entries, present, after_all, viewed, list}
+use Rattle.spec_api.specs.Streams.{Line, initial_end, added_lines, frame_of, text_of_lines}
+use Rattle.spec_api.specs.WatchReplies.{Initial, opening_lines}
+use Rattle.spec_client_go.specs.Reflectors.{Reflector, Fed, apply_deltas, all_fed}
+use Rattle.spec_server.specs.Servers.{Server}
+use Rattle.spec_laws.specs.LookLaws.{Look, AreLooks, last_history, last_stand, look_lines}
+use Rattle.spec_laws.specs.SentLaws.{whole}
+use Rattle.spec_laws.proofs.InitialStreams.{initial_streams, openings}
+use Rattle.spec_laws.proofs.Looks.{goes_further, looks_are_one_stream}
+use Rattle.spec_laws.proofs.StandingWatches.{given_stands, writes_past}
 use Rattle.reflector.specs.Laws.{IsAt, IsAtStart, IsReadWithin, IsServedInitial, Waits, Replaces, whole_lines}
 use Rattle.reflector.proofs.Cutting.{flat}
 use Rattle.reflector.proofs.Opened as opened
-use Rattle.stream_laws.specs.ServedStreamLaws.{IsStreamed, sent_bytes, SentStreamsAreServed, ServedStreamsAreTakenIn, CutServedStreamsAreTakenIn}
-use Rattle.stream_laws.proofs.Answered.{of_the_present}
-use Rattle.stream_laws.proofs.LastLines.{last_look}
-use Rattle.stream_laws.proofs.LinesRead.{initial_lines_back}
-use Rattle.stream_laws.proofs.Standing.{StandsAt, stands}
+use Rattle.streaming_list_laws.specs.ServedStreamLaws.{IsStreamed, sent_bytes, SentStreamsAreServed, ServedStreamsAreTakenIn, CutServedStreamsAreTakenIn}
+use Rattle.streaming_list_laws.proofs.Answered.{of_the_present}
+use Rattle.streaming_list_laws.proofs.LastLines.{last_look}
+use Rattle.streaming_list_laws.proofs.LinesRead.{initial_lines_back}
+use Rattle.streaming_list_laws.proofs.Standing.{StandsAt, stands}
 
 -- looks stand at what has happened
 stand_reached : (size : ℕ) (v : View) (h : History) (a : ℕ) (ls : List Look) → a ≤ present h → AreLooks size v h a ls → last_stand a ls ≤ present (last_history h ls)

@@ -5,32 +5,32 @@ use Rattle.std.specs.List.{AllByRecursion}
 use Rattle.std.specs.Result.{result_map_both}
 use Rattle.std.proofs.lemmas.Bool.{leb-false}
 use Rattle.std.proofs.lemmas.List.{take_all, drop_all}
-use Rattle.definitions.specs.declared.frames.ChangeKind.{ChangeKind}
-use Rattle.definitions.specs.declared.frames.ChangeKind.TheVariants as change
-use Rattle.definitions.specs.declared.frames.FrameKind.TheVariants.{Bookmark}
-use Rattle.definitions.specs.declared.kinds.Kind.{Kind}
-use Rattle.definitions.specs.Events.{Event, events}
-use Rattle.definitions.specs.Frames.{frame_kind}
-use Rattle.definitions.specs.History.{History, View, Entries, write, compaction, present, writes, up_to, list}
-use Rattle.definitions.specs.Reached.{IsReached}
-use Rattle.definitions.specs.Streams.{event, added_lines, IsStream}
-use Rattle.definitions.specs.Versions.{watched, watched_from}
-use Rattle.definitions.specs.WatchReplies.{told_lines}
-use Rattle.definitions.specs.Windows.{changes_after, changes_of, all_but, last_revision, floor, within}
-use Rattle.server_state.specs.Recorded.{above}
-use Rattle.laws.specs.FloorLaws.{NonePassed, IsRemembered}
-use Rattle.laws.specs.Happening.{Follows}
-use Rattle.laws.specs.LookLaws.{Look, AreLooks, last_history, last_stand, look_lines}
-use Rattle.laws.proofs.AppliedEvents.{goes_on}
-use Rattle.laws.proofs.Limited.{happens}
-use Rattle.laws.proofs.Looks.{none_at, goes_further, looks_are_one_stream}
-use Rattle.laws.proofs.Floors.{remembered_served}
-use Rattle.laws.proofs.RecordedChanges.{last_n_above}
-use Rattle.laws.proofs.ServedWindows.{within_is, revisions_served}
-use Rattle.laws.proofs.StandingWatches.{given_stands, changes_past}
-use Rattle.laws.proofs.WatchStarts.{present_empty}
-use Rattle.stream_laws.specs.ServedStreamLaws.{told_looks, IsNoBookmark, UnmarkedStreamsShowChanges, PresentStartsGoOn}
-use Rattle.stream_laws.proofs.Answered.{answered_unmarked}
+use Rattle.spec_api.specs.declared.frames.ChangeKind.{ChangeKind}
+use Rattle.spec_api.specs.declared.frames.ChangeKind.TheVariants as change
+use Rattle.spec_api.specs.declared.frames.FrameKind.TheVariants.{Bookmark}
+use Rattle.spec_api.specs.declared.kinds.Kind.{Kind}
+use Rattle.spec_api.specs.Events.{Event, events}
+use Rattle.spec_api.specs.Frames.{frame_kind}
+use Rattle.spec_api.specs.History.{History, View, Entries, write, compaction, present, writes, up_to, list}
+use Rattle.spec_api.specs.Reached.{IsReached}
+use Rattle.spec_api.specs.Streams.{event, added_lines, IsStream}
+use Rattle.spec_api.specs.Versions.{watched, watched_from}
+use Rattle.spec_api.specs.WatchReplies.{told_lines}
+use Rattle.spec_api.specs.Windows.{changes_after, changes_of, all_but, last_revision, floor, within}
+use Rattle.spec_server.specs.Recorded.{above}
+use Rattle.spec_laws.specs.FloorLaws.{NonePassed, IsRemembered}
+use Rattle.spec_laws.specs.Happening.{Follows}
+use Rattle.spec_laws.specs.LookLaws.{Look, AreLooks, last_history, last_stand, look_lines}
+use Rattle.spec_laws.proofs.AppliedEvents.{goes_on}
+use Rattle.spec_laws.proofs.Limited.{happens}
+use Rattle.spec_laws.proofs.Looks.{none_at, goes_further, looks_are_one_stream}
+use Rattle.spec_laws.proofs.Floors.{remembered_served}
+use Rattle.spec_laws.proofs.RecordedChanges.{last_n_above}
+use Rattle.spec_laws.proofs.ServedWindows.{within_is, revisions_served}
+use Rattle.spec_laws.proofs.StandingWatches.{given_stands, changes_past}
+use Rattle.spec_laws.proofs.WatchStarts.{present_empty}
+use Rattle.streaming_list_laws.specs.ServedStreamLaws.{told_looks, IsNoBookmark, UnmarkedStreamsShowChanges, PresentStartsGoOn}
+use Rattle.streaming_list_laws.proofs.Answered.{answered_unmarked}
 
 -- ---- events of looks
 

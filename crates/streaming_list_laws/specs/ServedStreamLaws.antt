@@ -3,21 +3,21 @@ use Rattle.std.specs.Prelude.{◌≡◌, ◌≢◌, ◌≤◌, ◌<◌, ◌⊎�
 use Rattle.std.specs.List.{AllByRecursion}
 use Rattle.std.specs.Result.{result_map_both}
 use Rattle.serde_json.specs.Data.{Data}
-use Rattle.definitions.specs.declared.frames.FrameKind.TheVariants.{Bookmark}
-use Rattle.definitions.specs.declared.kinds.Kind.{Kind}
-use Rattle.definitions.specs.declared.versions.Start.TheVariants.{After, Streamed, Present}
-use Rattle.definitions.specs.Events.{events}
-use Rattle.definitions.specs.History.{History, View, Entries, present, list}
-use Rattle.definitions.specs.Keys.{Key}
-use Rattle.definitions.specs.Reached.{IsReached}
-use Rattle.definitions.specs.Refusals.{Refusal, too_new}
-use Rattle.definitions.specs.Streams.{Line, event, initial_end, added_lines, frame_of, text_of_lines, IsStream, IsInitialStream}
-use Rattle.definitions.specs.Versions.{watched_from}
-use Rattle.definitions.specs.WatchReplies.{Initial, initial_at, opened_lines, told_lines, watch_lines}
-use Rattle.server_state.specs.Servers.{Server, IsServerAfter, initial_by}
-use Rattle.controllers.specs.Reflectors.{Reflector, apply_deltas, all_fed}
-use Rattle.laws.specs.LookLaws.{Look, AreLooks, last_history, last_stand, look_lines}
-use Rattle.laws.specs.SentLaws.{whole}
+use Rattle.spec_api.specs.declared.frames.FrameKind.TheVariants.{Bookmark}
+use Rattle.spec_api.specs.declared.kinds.Kind.{Kind}
+use Rattle.spec_api.specs.declared.versions.Start.TheVariants.{After, Streamed, Present}
+use Rattle.spec_api.specs.Events.{events}
+use Rattle.spec_api.specs.History.{History, View, Entries, present, list}
+use Rattle.spec_api.specs.Keys.{Key}
+use Rattle.spec_api.specs.Reached.{IsReached}
+use Rattle.spec_api.specs.Refusals.{Refusal, too_new}
+use Rattle.spec_api.specs.Streams.{Line, event, initial_end, added_lines, frame_of, text_of_lines, IsStream, IsInitialStream}
+use Rattle.spec_api.specs.Versions.{watched_from}
+use Rattle.spec_api.specs.WatchReplies.{Initial, initial_at, opened_lines, told_lines, watch_lines}
+use Rattle.spec_server.specs.Servers.{Server, IsServerAfter, initial_by}
+use Rattle.spec_client_go.specs.Reflectors.{Reflector, apply_deltas, all_fed}
+use Rattle.spec_laws.specs.LookLaws.{Look, AreLooks, last_history, last_stand, look_lines}
+use Rattle.spec_laws.specs.SentLaws.{whole}
 use Rattle.reflector.specs.Laws.{IsAt, IsAtStart, IsServedInitial, Waits, Replaces, whole_lines}
 
 -- ---- the answer

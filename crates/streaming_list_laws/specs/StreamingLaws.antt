@@ -2,17 +2,17 @@
 use Rattle.std.specs.Prelude.{◌≡◌, ◌≤◌, ◌⊎◌, ℕ, List, [], ◌∷◌, ◌++◌, flat_map, true, false, is_some, Some, None}
 use Rattle.std.specs.List.{AllByRecursion}
 use Rattle.serde_json.specs.Data.{Data}
-use Rattle.definitions.specs.declared.kinds.Kind.{Kind}
-use Rattle.definitions.specs.declared.frames.FrameKind.{FrameKind}
-use Rattle.definitions.specs.declared.frames.FrameKind.TheVariants.{Added, Modified, Deleted, Bookmark, Error}
-use Rattle.definitions.specs.Frames.{Frame}
-use Rattle.definitions.specs.History.{Entries, put_or_remove}
-use Rattle.controllers.specs.declared.reflectors.Ask.TheVariants as ask
-use Rattle.controllers.specs.declared.reflectors.End.{End}
-use Rattle.controllers.specs.declared.reflectors.Phase.TheVariants.{Listing, Streaming, Watching}
-use Rattle.controllers.specs.ReadFrames.{reading}
-use Rattle.controllers.specs.Reflectors as reflectors
-use Rattle.controllers.specs.Reflectors.{Shown, shown, Listed, list_of, with_list, Delta, replace, name_in, put_in, is_of, revision, run, is_closing, Initial, none_yet, objects_of, Reflector, Fed, asks, fed, all_fed}
+use Rattle.spec_api.specs.declared.kinds.Kind.{Kind}
+use Rattle.spec_api.specs.declared.frames.FrameKind.{FrameKind}
+use Rattle.spec_api.specs.declared.frames.FrameKind.TheVariants.{Added, Modified, Deleted, Bookmark, Error}
+use Rattle.spec_api.specs.Frames.{Frame}
+use Rattle.spec_api.specs.History.{Entries, put_or_remove}
+use Rattle.spec_client_go.specs.declared.reflectors.Ask.TheVariants as ask
+use Rattle.spec_client_go.specs.declared.reflectors.End.{End}
+use Rattle.spec_client_go.specs.declared.reflectors.Phase.TheVariants.{Listing, Streaming, Watching}
+use Rattle.spec_client_go.specs.ReadFrames.{reading}
+use Rattle.spec_client_go.specs.Reflectors as reflectors
+use Rattle.spec_client_go.specs.Reflectors.{Shown, shown, Listed, list_of, with_list, Delta, replace, name_in, put_in, is_of, revision, run, is_closing, Initial, none_yet, objects_of, Reflector, Fed, asks, fed, all_fed}
 use Rattle.reflector.specs.Laws.{IsAt, IsAtStart}
 
 -- ---- before the closing bookmark

@@ -1,6 +1,6 @@
 //! Connections over TCP.
 use crate::time_limits::TimeLimits;
-use remote::Connect;
+use api_client::Connect;
 use std::alloc::Global;
 use std::io;
 use std::io::{BufReader, ErrorKind};

@@ -1,6 +1,6 @@
 //! The clock of the machine.
 use clocks::stopwatch::Stopwatch;
-use following::{Onward, Timer};
+use list_and_watch::{Onward, Timer};
 use std::thread;
 use std::time::{Clock, Duration, Instant};
 

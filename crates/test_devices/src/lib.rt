@@ -4,5 +4,5 @@
 pub mod sink;
 pub mod source;
 
-pub use sink::Sink;
+pub use sink::TestSink;
 pub use source::Source;

@@ -5,14 +5,14 @@ use std::io::{ErrorKind, Write};
 /// Stores what is written, at most 4 bytes a call, and gives an error of this kind at the call `bad` of `write`
 /// or `flush`.
 #[derive(Drop)]
-pub struct Sink {
+pub struct TestSink {
     pub written: Vec<u8>,
     pub bad: u64,
     pub kind: ErrorKind,
     pub calls: u64,
 }
 
-impl Sink {
+impl TestSink {
     /// Answers a call: an error at the bad one.
     fn call(&mut self) -> io::Result<()> {
         let call = self.calls;
@@ -24,7 +24,7 @@ impl Sink {
     }
 }
 
-impl Write for Sink {
+impl Write for TestSink {
     fn write(&mut self, buf: &[u8]) -> io::Result<usize> {
         self.call()?;
         let len = buf.len().min(4);

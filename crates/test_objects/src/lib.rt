@@ -1,10 +1,10 @@
 //! Keys and objects for tests.
 #![tactic(auto)]
 
-use definitions::kinds::Kind;
-use keys::Key;
 use meta::{Object, StoredObject};
+use object_keys::Key;
 use serde_json::Value;
+use spec_api::kinds::Kind;
 use std::alloc::{AllocError, Global};
 use std::test::Fail;
 

@@ -11,10 +11,10 @@ use denote.Param.SendFields.{declared_sync, as_row_sync}
 use Rattle.std.proofs.Crossing as heap
 use Rattle.std.specs.contracts.alloc.Global as Global
 use Rattle.std.specs.contracts.sync.atomic.AtomicU64 as AtomicU64
-use Rattle.shared_desk.specs.contracts.askings.Anything as Anything
-use Rattle.shared_desk.specs.contracts.askings.AnythingAsking.TheImpl as asks
-use Rattle.shared_desk.specs.contracts.desks.Desk as Desk
-use Rattle.shared_desk.proofs.Sent.{desk}
+use Rattle.desk.specs.contracts.askings.Anything as Anything
+use Rattle.desk.specs.contracts.askings.AnythingAsking.TheImpl as asks
+use Rattle.desk.specs.contracts.desks.Desk as Desk
+use Rattle.desk.proofs.Sent.{desk}
 
 counter : IsSync AtomicU64.the_row
 counter = search (heap.crosses, sendable) depth 20

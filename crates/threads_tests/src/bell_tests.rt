@@ -1,9 +1,9 @@
 //! Threads that wait for a bell.
-use bells::Bell;
 use std::sync::Wait;
 use std::thread::Threads;
 use std::time::{Clock, CpuClock, Duration, Instant};
 use std::{io, thread};
+use wakeups::Bell;
 
 /// How many milliseconds a test waits for a ring that comes.
 const LONG_MILLISECONDS: u64 = 60_000;

@@ -1,9 +1,9 @@
 //! Threads that work at one board.
 ghost use Rattle.std.specs.Prelude.{All, IfOk, IfSome};
-ghost use Rattle.shared_board.specs.Desks.{IsNewAt, IsPassAt};
+ghost use Rattle.control_desk.specs.Desks.{IsNewAt, IsPassAt};
 
 use crate::working::work;
-use shared_board::{ControlDesk, WorkPass};
+use control_desk::{ControlDesk, WorkPass};
 use std::alloc::{AllocError, Global};
 use std::sync::Wait;
 use std::sync::atomic::{AtomicU64, Ordering};

@@ -2,7 +2,7 @@
 ghost use Rattle.std.specs.Prelude.{◌≡◌, IfSome, true};
 ghost use Rattle.baton.specs.Batons.{IsFree};
 
-use baton::{Baton, Change, Law};
+use baton::{Baton, EntryMade, Law};
 use std::sync::Wait;
 use std::thread;
 use std::time::{Clock, Duration};
@@ -28,7 +28,7 @@ impl Law<u64> for Counting {
 /// One more.
 struct OneMore;
 
-impl Change<()> for OneMore {
+impl EntryMade<()> for OneMore {
     ghost use Rattle.std.specs.Prelude.{Some};
 
     ghost entry = { Some tt };
@@ -37,7 +37,7 @@ impl Change<()> for OneMore {
 /// The same again.
 struct Unchanged;
 
-impl Change<()> for Unchanged {
+impl EntryMade<()> for Unchanged {
     ghost use Rattle.std.specs.Prelude.{None};
 
     ghost entry = { None };

@@ -1,14 +1,14 @@
 //! Objects that are created at a desk, and found at once.
 ghost use Rattle.std.specs.Prelude.{true};
-ghost use Rattle.shared_desk.specs.Desks.{IsPassAt};
+ghost use Rattle.desk.specs.Desks.{IsPassAt};
 
-use definitions::kinds::Kind;
-use keys::{Fault, Key};
+use desk::{Anything, Desk, StorePass};
+use metadata_values::moments::Moment;
+use object_keys::{Fault, Key};
 use reply::Reply;
-use requests::Request;
+use request_parts::Request;
 use serde_json::Value;
-use shared_desk::{Anything, Desk, StorePass};
-use stamps::moments::Moment;
+use spec_api::kinds::Kind;
 use std::alloc::{AllocError, Global};
 use std::sync::Wait;
 use std::sync::atomic::{AtomicU64, Ordering};

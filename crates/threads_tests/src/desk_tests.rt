@@ -1,15 +1,15 @@
 //! Threads that create ConfigMaps at one desk.
 ghost use Rattle.std.specs.Prelude.{All, IfOk, IfSome};
-ghost use Rattle.shared_desk.specs.Desks.{IsNewAt, IsPassAt};
+ghost use Rattle.desk.specs.Desks.{IsNewAt, IsPassAt};
 
 use crate::creating::create_all;
-use definitions::kinds::Kind;
-use definitions::versions::At;
-use keys::Fault;
-use requests::list_options::ListOptions;
+use desk::{Anything, Desk, StorePass};
+use object_keys::Fault;
+use request_parts::list_options::ListOptions;
 use selector::View;
 use serde_json::Value;
-use shared_desk::{Anything, Desk, StorePass};
+use spec_api::kinds::Kind;
+use spec_api::versions::At;
 use std::alloc::{AllocError, Global};
 use std::sync::Wait;
 use std::sync::atomic::{AtomicU64, Ordering};

@@ -1,7 +1,7 @@
 //! Loops that answer connections side by side, as `kcp serve` runs them.
-use commands::serve;
-use options::ServeOptions;
-use serving::ServeFault;
+use http_listener::ListenFault;
+use kcp_commands::serve;
+use kcp_options::ServeOptions;
 use std::alloc::Global;
 use std::io::{Read, Write};
 use std::net::{Ipv4Addr, Net, TcpListener, TcpStream};
@@ -160,6 +160,6 @@ fn a_taken_port_is_refused_and_nothing_is_said(rt: HostRuntime) -> io::Result<()
     };
     let mut said = Vec::new(rt.alloc());
     let served = serve(&rt, rt.alloc(), asked, &mut said);
-    assert_eq!(rt; (served, said.is_empty()), (Err(ServeFault::Listen), true));
+    assert_eq!(rt; (served, said.is_empty()), (Err(ListenFault::Listen), true));
     Ok(())
 }

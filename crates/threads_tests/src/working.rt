@@ -1,11 +1,11 @@
 //! Keys that threads add to a board, take and give back.
 ghost use Rattle.std.specs.Prelude.{◌≡◌, None};
-ghost use Rattle.shared_board.specs.Desks.{IsPassAt, key_in_hand};
+ghost use Rattle.control_desk.specs.Desks.{IsPassAt, key_in_hand};
 
-use controllers::controller::Controller;
-use definitions::kinds::Kind;
-use keys::Key;
-use shared_board::{ControlDesk, WorkPass};
+use control_desk::{ControlDesk, WorkPass};
+use object_keys::Key;
+use spec_api::kinds::Kind;
+use spec_client_go::controller::Controller;
 use std::alloc::{AllocError, Global};
 use std::sync::Wait;
 use std::sync::atomic::{AtomicU64, Ordering};

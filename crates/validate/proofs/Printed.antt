@@ -6,10 +6,10 @@ use Rattle.std.proofs.lemmas.Slice.Eq.{bytes_eq-Decides}
 use Rattle.std.specs.Int.{from_be_bytes, to_be_bytes, w128, byte_at, bytes_high_first}
 use Rattle.std.specs.List.{All}
 use Rattle.std.specs.Str.{bytes_eq}
-use Rattle.definitions.proofs.Truths.{both_true}
-use Rattle.definitions.specs.Uids.{uid_text, uid_revision}
-use Rattle.definitions.proofs.Uids.{existing}
-use Rattle.stamps.proofs.Hexadecimal.{uid_number, uid-text}
+use Rattle.spec_api.proofs.Truths.{both_true}
+use Rattle.spec_api.specs.Uids.{uid_text, uid_revision}
+use Rattle.spec_api.proofs.Uids.{existing}
+use Rattle.metadata_values.proofs.Hexadecimal.{uid_number, uid-text}
 use Rattle.uuid.specs.Text.{lower, parsed}
 use Rattle.uuid.proofs.OrderLemmas.{from_be_bytes-to_be_bytes_16}
 use Rattle.uuid.proofs.RoundTrips.{parses_hyphenated}

@@ -1,9 +1,9 @@
 //! The checks in their order.
 ghost use Rattle.std.specs.Prelude.{◌≡◌, IfOk, IfErr, None, true};
-ghost use Rattle.definitions.specs.declared.kinds.Kind.TheVariants.{ReplicaSet, Deployment};
-ghost use Rattle.definitions.specs.Checks.{checks, checks_of, create_fault, update_fault, adds_no_finalizer, first_fault, is_selector_kept};
-ghost use Rattle.keys.specs.Keys.{key_of};
-ghost use Rattle.keys.specs.declared.fault.Fault.TheVariants.{NoMemory};
+ghost use Rattle.spec_api.specs.declared.kinds.Kind.TheVariants.{ReplicaSet, Deployment};
+ghost use Rattle.spec_api.specs.Checks.{checks, checks_of, create_fault, update_fault, adds_no_finalizer, first_fault, is_selector_kept};
+ghost use Rattle.object_keys.specs.Keys.{key_of};
+ghost use Rattle.object_keys.specs.declared.fault.Fault.TheVariants.{NoMemory};
 ghost use Rattle.validate.specs.Faults.{RefusesField};
 
 use crate::counts::{are_replicas_valid, is_history_limit_valid, is_status_valid};
@@ -14,10 +14,10 @@ use crate::owners::are_owners_valid;
 use crate::selectors::{is_selector_kept, says_something, selector_of};
 use crate::strategies::is_strategy_valid;
 use crate::templates::is_template;
-use definitions::kinds::Kind;
-use definitions::refusals::Field;
-use keys::{Fault, Key};
 use meta::Object;
+use object_keys::{Fault, Key};
+use spec_api::kinds::Kind;
+use spec_api::refusals::Field;
 use std::alloc::Global;
 
 fn replica_set_fault(alloc: Global, object: &Object, is_kept: bool) -> Result<Option<Field>, Fault>

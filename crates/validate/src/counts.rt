@@ -2,12 +2,12 @@
 ghost use Rattle.std.specs.Prelude.{◌≡◌, Some, option_map};
 ghost use Rattle.std.specs.List.{list_all};
 ghost use Rattle.serde_json.specs.View.{view};
-ghost use Rattle.definitions.specs.Checks.{in_status, is_not_negative, are_replicas_valid, is_history_limit_valid, is_status_valid};
+ghost use Rattle.spec_api.specs.Checks.{in_status, is_not_negative, are_replicas_valid, is_history_limit_valid, is_status_valid};
 
-use definitions::kinds::Kind;
 use meta::Object;
-use readings::{in_spec, in_status};
+use object_fields::{in_spec, in_status};
 use serde_json::Value;
+use spec_api::kinds::Kind;
 
 const REPLICA_SET_COUNTS: [&str; 3] = ["replicas", "readyReplicas", "availableReplicas"];
 

@@ -3,9 +3,9 @@ ghost use Rattle.std.specs.Prelude.{◌≡◌, codes, option_map, option_and_the
 ghost use Rattle.std.specs.Str.{bytes_eq};
 ghost use Rattle.serde_json.specs.Find.{as_array};
 ghost use Rattle.serde_json.specs.View.{view, items_view};
-ghost use Rattle.definitions.specs.Checks.{text_is, has_text, is_finalizer, finalizers, are_finalizers_valid, adds_no_finalizer};
-ghost use Rattle.definitions.specs.Metadata.{metadata};
-ghost use Rattle.definitions.specs.SelectorValues.{all_items};
+ghost use Rattle.spec_api.specs.Checks.{text_is, has_text, is_finalizer, finalizers, are_finalizers_valid, adds_no_finalizer};
+ghost use Rattle.spec_api.specs.Metadata.{metadata};
+ghost use Rattle.spec_api.specs.SelectorValues.{all_items};
 
 use meta::Object;
 use meta::finalizers::has_text;

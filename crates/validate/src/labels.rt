@@ -1,11 +1,11 @@
 //! Labels.
 ghost use Rattle.std.specs.Prelude.{◌≡◌};
 ghost use Rattle.serde_json.specs.View.{view, members_view};
-ghost use Rattle.definitions.specs.Checks.{text_is, are_labels};
-ghost use Rattle.definitions.specs.Labels.{is_label_value};
-ghost use Rattle.requirements.specs.Seen.{labels_in};
+ghost use Rattle.spec_api.specs.Checks.{text_is, are_labels};
+ghost use Rattle.spec_api.specs.Labels.{is_label_value};
+ghost use Rattle.selector_requirements.specs.Seen.{labels_in};
 
-use names::{is_label_key, is_label_value};
+use name_syntax::{is_label_key, is_label_value};
 use serde_json::{Map, Value};
 
 fn is_value(value: &Value) -> bool

@@ -1,10 +1,10 @@
 //! Names, given and made.
 ghost use Rattle.std.specs.Prelude.{◌≡◌};
 ghost use Rattle.std.specs.List.{list_all};
-ghost use Rattle.definitions.specs.Checks.{generates, is_generating_byte, is_generate_name_valid, is_name_valid};
+ghost use Rattle.spec_api.specs.Checks.{generates, is_generating_byte, is_generate_name_valid, is_name_valid};
 
 use meta::Object;
-use names::is_subdomain;
+use name_syntax::is_subdomain;
 
 /// Returns whether the object has a name that objects may have, or asks for one to be made.
 pub(crate) fn is_name_valid(object: &Object) -> bool

@@ -3,11 +3,11 @@ ghost use Rattle.std.specs.Prelude.{◌≡◌, codes, nat_le, option_map, option
 ghost use Rattle.std.specs.List.{list_all};
 ghost use Rattle.serde_json.specs.Find.{as_array};
 ghost use Rattle.serde_json.specs.View.{items_view};
-ghost use Rattle.definitions.specs.Checks.{is_not_empty, is_possible_uid, is_owner, controllers, are_owners_valid};
-ghost use Rattle.definitions.specs.Metadata.{metadata, owners_in};
-ghost use Rattle.definitions.specs.SelectorValues.{is_some_and};
+ghost use Rattle.spec_api.specs.Checks.{is_not_empty, is_possible_uid, is_owner, controllers, are_owners_valid};
+ghost use Rattle.spec_api.specs.Metadata.{metadata, owners_in};
+ghost use Rattle.spec_api.specs.SelectorValues.{is_some_and};
 ghost use Rattle.meta.specs.Owners.{owner_of};
-ghost use Rattle.requirements.specs.Seen.{now};
+ghost use Rattle.selector_requirements.specs.Seen.{now};
 
 use crate::uids::is_of_the_future;
 use meta::Object;

@@ -1,13 +1,13 @@
 //! The selectors of ReplicaSets and Deployments.
 ghost use Rattle.std.specs.Prelude.{◌≡◌, IfOk, IfErr, List, Some, codes, length, nat_lt, string_bytes, option_map};
-ghost use Rattle.definitions.specs.Checks.{in_spec, is_selector_kept, requirements, text_or_empty};
-ghost use Rattle.definitions.specs.SelectorValues.{is_some_and};
-ghost use Rattle.definitions.specs.Selectors.{Requirement};
-ghost use Rattle.keys.specs.declared.fault.Fault.TheVariants.{NoMemory};
+ghost use Rattle.spec_api.specs.Checks.{in_spec, is_selector_kept, requirements, text_or_empty};
+ghost use Rattle.spec_api.specs.SelectorValues.{is_some_and};
+ghost use Rattle.spec_api.specs.Selectors.{Requirement};
+ghost use Rattle.object_keys.specs.declared.fault.Fault.TheVariants.{NoMemory};
 
-use keys::Fault;
 use meta::Object;
-use readings::in_spec;
+use object_fields::in_spec;
+use object_keys::Fault;
 use selector::Selector;
 use std::alloc::{AllocError, Global};
 
@@ -20,9 +20,9 @@ pub(crate) fn selector_of(alloc: Global, object: &Object) -> Result<Option<Selec
     match in_spec(object, "selector") {
         Some(value) => match Selector::of_value(alloc, value) {
             Ok(selector) => Ok(Some(selector)),
-            Err(selector::Fault::Malformed) => Ok(None),
-            Err(selector::Fault::Invalid) => Ok(None),
-            Err(selector::Fault::NoMemory) => Err(Fault::NoMemory),
+            Err(selector::SelectorFault::Malformed) => Ok(None),
+            Err(selector::SelectorFault::Invalid) => Ok(None),
+            Err(selector::SelectorFault::NoMemory) => Err(Fault::NoMemory),
         },
         None => Ok(None),
     }

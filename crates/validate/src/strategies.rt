@@ -2,13 +2,13 @@
 ghost use Rattle.std.specs.Prelude.{◌≡◌, option_and_then};
 ghost use Rattle.serde_json.specs.Find.{get};
 ghost use Rattle.serde_json.specs.View.{view};
-ghost use Rattle.definitions.specs.Checks.{amount, are_amounts, is_at_most_all, is_rolling, is_strategy, is_strategy_of, is_strategy_valid, is_zero};
+ghost use Rattle.spec_api.specs.Checks.{amount, are_amounts, is_at_most_all, is_rolling, is_strategy, is_strategy_of, is_strategy_valid, is_zero};
 
-use amounts::amount;
-use definitions::amounts::Amount;
+use int_or_percent::amount;
 use meta::Object;
-use readings::in_spec;
+use object_fields::in_spec;
 use serde_json::Value;
+use spec_api::amounts::Amount;
 
 fn amount_at(value: &Value, name: &str) -> Option<Amount>
     ensures { result ≡ option_and_then amount (get name.now (view value.now)) }

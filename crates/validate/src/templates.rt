@@ -1,14 +1,14 @@
 //! Templates of Pods.
 ghost use Rattle.std.specs.Prelude.{◌≡◌, List, codes, option_map};
 ghost use Rattle.serde_json.specs.View.{view};
-ghost use Rattle.definitions.specs.Checks.{in_spec, is_selected};
-ghost use Rattle.definitions.specs.Metadata.{metadata};
-ghost use Rattle.definitions.specs.SelectorValues.{is_some_and};
-ghost use Rattle.definitions.specs.Selectors.{Requirement};
+ghost use Rattle.spec_api.specs.Checks.{in_spec, is_selected};
+ghost use Rattle.spec_api.specs.Metadata.{metadata};
+ghost use Rattle.spec_api.specs.SelectorValues.{is_some_and};
+ghost use Rattle.spec_api.specs.Selectors.{Requirement};
 
 use crate::labels::are_labels;
 use meta::Object;
-use readings::in_spec;
+use object_fields::in_spec;
 use selector::Selector;
 use serde_json::Value;
 

@@ -1,8 +1,8 @@
 //! Uids that this server prints.
 ghost use Rattle.std.specs.Prelude.{◌≡◌, ◌<◌, ◌^◌, ◌&&◌, nat_lt, if◌then◌else◌, Some, None};
 ghost use Rattle.std.specs.Str.{bytes_eq};
-ghost use Rattle.definitions.specs.Checks.{is_of_the_future};
-ghost use Rattle.definitions.specs.Uids.{uid_text, uid_revision, cluster_word};
+ghost use Rattle.spec_api.specs.Checks.{is_of_the_future};
+ghost use Rattle.spec_api.specs.Uids.{uid_text, uid_revision, cluster_word};
 
 use uuid::Uuid;
 

@@ -2,23 +2,23 @@
 use Rattle.std.specs.Prelude.{◌≡◌, ◌+◌, ℕ, List, Option, None, Result, Ok, Err, false, is_some, ◌||◌}
 use Rattle.std.proofs.Common.{subst, sym, ap, ◌∙◌, refl, inl, inr}
 use Rattle.serde_json.specs.Data.{Data}
-use Rattle.definitions.specs.declared.kinds.Kind.{Kind}
-use Rattle.definitions.specs.declared.refusals.Field.{Field}
-use Rattle.definitions.specs.Checks.{create_fault}
-use Rattle.definitions.specs.History as history
-use Rattle.definitions.specs.Metadata as metadata
-use Rattle.definitions.specs.Metadata.{is_other}
-use Rattle.definitions.specs.Keys.{Key}
-use Rattle.definitions.specs.Refusals.{invalid}
-use Rattle.definitions.specs.Verbs.{Outcome, refused, refuse_field, new_name}
-use Rattle.definitions.proofs.VerbSteps.{create_read, create_checked, create_as}
-use Rattle.definitions.specs.NewObjects.{created, with_first_status}
-use Rattle.keys.specs.declared.fault.Fault.{Fault}
-use Rattle.keys.specs.declared.fault.Fault.TheVariants as fault
+use Rattle.spec_api.specs.declared.kinds.Kind.{Kind}
+use Rattle.spec_api.specs.declared.refusals.Field.{Field}
+use Rattle.spec_api.specs.Checks.{create_fault}
+use Rattle.spec_api.specs.History as history
+use Rattle.spec_api.specs.Metadata as metadata
+use Rattle.spec_api.specs.Metadata.{is_other}
+use Rattle.spec_api.specs.Keys.{Key}
+use Rattle.spec_api.specs.Refusals.{invalid}
+use Rattle.spec_api.specs.Verbs.{Outcome, refused, refuse_field, new_name}
+use Rattle.spec_api.proofs.VerbSteps.{create_read, create_checked, create_as}
+use Rattle.spec_api.specs.NewObjects.{created, with_first_status}
+use Rattle.object_keys.specs.declared.fault.Fault.{Fault}
+use Rattle.object_keys.specs.declared.fault.Fault.TheVariants as fault
 use Rattle.meta.specs.declared.writes.Write.{Write}
 use Rattle.reply.specs.declared.reply.Reply.{Reply}
 use Rattle.validate.specs.Faults.{RefusesField}
-use Rattle.answers.specs.Serves.{Serves}
+use Rattle.verb_parts.specs.Serves.{Serves}
 
 abbrev Served : Type 0
 Served = Result (Reply × Option Write) Fault

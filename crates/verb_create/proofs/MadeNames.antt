@@ -2,11 +2,11 @@
 use Rattle.std.proofs.Common.{◌≡◌, ℕ, zero, suc, ◌+◌, ◌-◌, ◌<◌, List, [], ◌∷◌, Bool, true, false, cond, ◌&&◌, nat_lt, Some, find, slice_get, unwrap_or, refl, sym, ap, ◌∙◌, arith}
 use Rattle.std.proofs.lemmas.Bool.Decides.{nat_tests}
 use Rattle.std.specs.List.{list_all}
-use Rattle.definitions.proofs.Truths.{both_true}
-use Rattle.definitions.specs.GeneratedNames.{alphabet, made, tried, made_name}
-use Rattle.definitions.specs.History.{Entries}
-use Rattle.definitions.specs.Verbs.{is_free}
-use Rattle.definitions.specs.declared.kinds.Kind.{Kind}
+use Rattle.spec_api.proofs.Truths.{both_true}
+use Rattle.spec_api.specs.GeneratedNames.{alphabet, made, tried, made_name}
+use Rattle.spec_api.specs.History.{Entries}
+use Rattle.spec_api.specs.Verbs.{is_free}
+use Rattle.spec_api.specs.declared.kinds.Kind.{Kind}
 
 -- what is read of ASCII is ASCII
 small_at : (xs : List ℕ) (i : ℕ) → list_all (λ b. nat_lt b 128) xs ≡ true → unwrap_or (slice_get xs i) 0 < 128

@@ -1,33 +1,33 @@
 //! Creates.
 ghost use Rattle.std.specs.Prelude.{◌≡◌, ◌<◌, ◌≤◌, ◌||◌, ◌+◌, ◌^◌, not, true, IfOk, IfErr, OnOk, is_some, string_bytes, option_map};
-ghost use Rattle.definitions.specs.Metadata as metadata;
-ghost use Rattle.definitions.specs.Metadata.{is_other};
-ghost use Rattle.definitions.specs.Verbs.{accept_at, new_name, is_too_large};
-ghost use Rattle.definitions.specs.ObjectRequests.{create_object};
-ghost use Rattle.definitions.proofs.VerbSteps.{create_as, create_read};
-ghost use Rattle.definitions.specs.Revisions.{greatest_revision};
-ghost use Rattle.definitions.specs.Values.{members_of};
-ghost use Rattle.keys.specs.Keys.{key_of};
+ghost use Rattle.spec_api.specs.Metadata as metadata;
+ghost use Rattle.spec_api.specs.Metadata.{is_other};
+ghost use Rattle.spec_api.specs.Verbs.{accept_at, new_name, is_too_large};
+ghost use Rattle.spec_api.specs.ObjectRequests.{create_object};
+ghost use Rattle.spec_api.proofs.VerbSteps.{create_as, create_read};
+ghost use Rattle.spec_api.specs.Revisions.{greatest_revision};
+ghost use Rattle.spec_api.specs.Values.{members_of};
+ghost use Rattle.object_keys.specs.Keys.{key_of};
 ghost use Rattle.serde_json.specs.View.{view};
-ghost use Rattle.answers.specs.Serves.{Serves};
+ghost use Rattle.verb_parts.specs.Serves.{Serves};
 
 use crate::made_names::made_key;
-use answers::limits::is_too_large;
-use answers::names_given::is_other;
-use answers::stored_texts::stored_with_text;
 use defaults::defaults;
-use definitions::kinds::Kind;
-use definitions::refusals::Part;
-use keys::{Fault, Key};
-use limits::{GREATEST_REVISION, MOST_OBJECTS};
 use meta::{Object, Write};
-use new_objects::{created, with_first_status};
+use metadata_values::moments::Moment;
+use object_keys::{Fault, Key};
 use reply::Reply;
 use serde_json::Value;
-use stamps::moments::Moment;
+use spec_api::kinds::Kind;
+use spec_api::refusals::Part;
 use std::alloc::{AllocError, Global};
 use store::Store;
+use store_limits::{GREATEST_REVISION, MOST_OBJECTS};
 use validate::check_create;
+use verb_new_object::{created, with_first_status};
+use verb_parts::limits::is_too_large;
+use verb_parts::names_given::is_other;
+use verb_parts::stored_texts::stored_with_text;
 
 /// Returns a new object of a kind in a namespace, made of a body.
 pub fn create(

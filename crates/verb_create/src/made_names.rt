@@ -1,11 +1,11 @@
 //! The names that the server makes.
 ghost use Rattle.std.specs.Prelude.{◌≡◌, ◌+◌, ◌<◌, ◌%◌, ◌++◌, IfOk, OnOk, string_bytes, slice_get, take, unwrap_or};
 ghost use Rattle.std.specs.Str.Lossy.{utf8_lossy};
-ghost use Rattle.definitions.specs.GeneratedNames.{alphabet, suffix, made_name};
-ghost use Rattle.definitions.specs.Verbs.{is_free};
+ghost use Rattle.spec_api.specs.GeneratedNames.{alphabet, suffix, made_name};
+ghost use Rattle.spec_api.specs.Verbs.{is_free};
 
-use definitions::kinds::Kind;
-use keys::Key;
+use object_keys::Key;
+use spec_api::kinds::Kind;
 use std::alloc::{AllocError, Global};
 use store::Store;
 

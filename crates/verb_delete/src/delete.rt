@@ -1,28 +1,28 @@
 //! Deletes.
 ghost use Rattle.std.specs.Prelude.{◌≡◌, ◌+◌, ◌≤◌, IfOk, string_bytes};
 ghost use Rattle.serde_json.specs.Written.{compact_text};
-ghost use Rattle.definitions.specs.Deletion.{decided, gone, kept_code, removal_of};
-ghost use Rattle.definitions.specs.Revisions.{greatest_revision};
-ghost use Rattle.definitions.specs.Verbs.{accept_at, by_decision, take_out};
-ghost use Rattle.definitions.specs.ObjectRequests.{delete_object};
-ghost use Rattle.definitions.proofs.VerbSteps.{by_fate, put_mark};
+ghost use Rattle.spec_api.specs.Deletion.{decided, gone, kept_code, removal_of};
+ghost use Rattle.spec_api.specs.Revisions.{greatest_revision};
+ghost use Rattle.spec_api.specs.Verbs.{accept_at, by_decision, take_out};
+ghost use Rattle.spec_api.specs.ObjectRequests.{delete_object};
+ghost use Rattle.spec_api.proofs.VerbSteps.{by_fate, put_mark};
 ghost use Rattle.lifecycle.specs.Fates.{fate_seen};
 ghost use Rattle.lifecycle.specs.Options.{options_seen};
-ghost use Rattle.keys.specs.Keys.{key_of};
-ghost use Rattle.answers.specs.Serves.{Serves};
+ghost use Rattle.object_keys.specs.Keys.{key_of};
+ghost use Rattle.verb_parts.specs.Serves.{Serves};
 
-use answers::generations::at_revision;
-use answers::stored_texts::stored_with_text;
-use definitions::kinds::Kind;
-use definitions::policies::Policy;
-use keys::{Fault, Key};
 use lifecycle::{DeleteFault, DeleteOptions, Fate, decide_delete};
 use meta::{Object, Write};
-use placing::is_full;
+use metadata_values::moments::Moment;
+use object_keys::{Fault, Key};
 use reply::{Reply, success_text};
-use stamps::moments::Moment;
+use spec_api::kinds::Kind;
+use spec_api::policies::Policy;
 use std::alloc::{AllocError, Global};
 use store::Store;
+use verb_overwrite::is_full;
+use verb_parts::generations::at_revision;
+use verb_parts::stored_texts::stored_with_text;
 
 /// Returns the object under a key removed or, while finalizers are left, being deleted from this moment on.
 pub fn delete(

@@ -1,17 +1,17 @@
 //! What the server makes of a new object.
 ghost use Rattle.std.specs.Prelude.{◌≡◌, ◌≤◌, ◌+◌, IfOk, OnOk, string_bytes};
-ghost use Rattle.definitions.specs.Metadata as metadata;
-ghost use Rattle.definitions.specs.NewObjects.{new_metadata, with_first_status, with_generation};
-ghost use Rattle.definitions.specs.Revisions.{greatest_revision};
+ghost use Rattle.spec_api.specs.Metadata as metadata;
+ghost use Rattle.spec_api.specs.NewObjects.{new_metadata, with_first_status, with_generation};
+ghost use Rattle.spec_api.specs.Revisions.{greatest_revision};
 
-use answers::first_status::first_status;
-use definitions::kinds::Kind;
-use drafts::Draft;
-use keys::Key;
 use meta::Object;
-use stamps::moments::Moment;
-use stamps::uids::uid_text;
+use metadata_editor::Draft;
+use metadata_values::moments::Moment;
+use metadata_values::uids::uid_text;
+use object_keys::Key;
+use spec_api::kinds::Kind;
 use std::alloc::{AllocError, Global};
+use verb_parts::first_status::first_status;
 
 /// The 48 bits of a uid that say in which cluster it was given.
 const CLUSTER: u64 = 0;

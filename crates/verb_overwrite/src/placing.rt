@@ -1,20 +1,20 @@
 //! Objects in the place of others.
 ghost use Rattle.std.specs.Prelude.{◌≡◌, ◌+◌, ◌≤◌, IfOk, IfSome, is_some, string_bytes, if◌then◌else◌};
 ghost use Rattle.serde_json.specs.Written.{compact_text};
-ghost use Rattle.definitions.specs.Replacements.{is_finalized, says_the_same};
-ghost use Rattle.definitions.specs.Revisions.{greatest_revision};
-ghost use Rattle.definitions.specs.Verbs.{is_past_greatest, put_in_place, take_out};
-ghost use Rattle.keys.specs.Keys.{key_of};
-ghost use Rattle.answers.specs.Serves.{Serves};
+ghost use Rattle.spec_api.specs.Replacements.{is_finalized, says_the_same};
+ghost use Rattle.spec_api.specs.Revisions.{greatest_revision};
+ghost use Rattle.spec_api.specs.Verbs.{is_past_greatest, put_in_place, take_out};
+ghost use Rattle.object_keys.specs.Keys.{key_of};
+ghost use Rattle.verb_parts.specs.Serves.{Serves};
 
-use answers::limits::is_too_large;
-use answers::stored_texts::stored_with_text;
-use keys::{Fault, Key};
 use lifecycle::is_finalized;
-use limits::GREATEST_REVISION;
 use meta::{Object, StoredObject, Write};
+use object_keys::{Fault, Key};
 use reply::Reply;
 use std::alloc::{AllocError, Global};
+use store_limits::GREATEST_REVISION;
+use verb_parts::limits::is_too_large;
+use verb_parts::stored_texts::stored_with_text;
 
 /// Returns the text of the stored object, if another at its version says the same.
 pub fn unchanged(

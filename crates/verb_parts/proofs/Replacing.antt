@@ -2,17 +2,17 @@
 use Rattle.std.proofs.Common.{◌≡◌, Bool, true, false, Option, Some, None, codes, refl, sym, ap, ◌∙◌, if◌then◌else◌}
 use Rattle.serde_json.specs.Data.{Data, object}
 use Rattle.serde_json.proofs.Views.{get_member-put_other}
-use Rattle.definitions.proofs.JsonMembers.{apart, get_member-without_other}
-use Rattle.definitions.specs.declared.refusals.Mismatch.{Mismatch}
-use Rattle.definitions.specs.declared.refusals.Mismatch.TheVariants as why
-use Rattle.definitions.specs.Metadata.{metadata_of, uid, version, differs}
-use Rattle.definitions.specs.Keys.{Key}
-use Rattle.definitions.specs.Refusals.{conflict}
-use Rattle.definitions.specs.Replacements.{as_stored}
-use Rattle.definitions.specs.Values.{members_of, inner_of}
-use Rattle.definitions.specs.Verbs.{Outcome, refused, refuse_if, if_same}
+use Rattle.spec_api.proofs.JsonMembers.{apart, get_member-without_other}
+use Rattle.spec_api.specs.declared.refusals.Mismatch.{Mismatch}
+use Rattle.spec_api.specs.declared.refusals.Mismatch.TheVariants as why
+use Rattle.spec_api.specs.Metadata.{metadata_of, uid, version, differs}
+use Rattle.spec_api.specs.Keys.{Key}
+use Rattle.spec_api.specs.Refusals.{conflict}
+use Rattle.spec_api.specs.Replacements.{as_stored}
+use Rattle.spec_api.specs.Values.{members_of, inner_of}
+use Rattle.spec_api.specs.Verbs.{Outcome, refused, refuse_if, if_same}
 use Rattle.json_values.proofs.PutAndTaken.{get-members_of}
-use Rattle.answers.specs.Naming.{mismatch}
+use Rattle.verb_parts.specs.Naming.{mismatch}
 
 -- what is another is refused
 abbrev or_conflict : Key → Option Mismatch → Outcome → Outcome

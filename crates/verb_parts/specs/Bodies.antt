@@ -1,11 +1,11 @@
 -- What a body is refused by.
 use Rattle.std.specs.Prelude.{◌≡◌, ◌⊎◌, Err}
 use Rattle.serde_json.specs.Data.{Data}
-use Rattle.definitions.specs.declared.kinds.Kind.{Kind}
-use Rattle.definitions.specs.declared.refusals.Part.{Part}
-use Rattle.definitions.specs.Verbs.{object_in}
-use Rattle.keys.specs.declared.fault.Fault.{Fault}
-use Rattle.keys.specs.declared.fault.Fault.TheVariants as fault
+use Rattle.spec_api.specs.declared.kinds.Kind.{Kind}
+use Rattle.spec_api.specs.declared.refusals.Part.{Part}
+use Rattle.spec_api.specs.Verbs.{object_in}
+use Rattle.object_keys.specs.declared.fault.Fault.{Fault}
+use Rattle.object_keys.specs.declared.fault.Fault.TheVariants as fault
 
 -- the fault is running out of memory, or the part of the request for which the body is no object of the kind
 abbrev pub RefusesSaid : Kind → Data → Fault → Type 0

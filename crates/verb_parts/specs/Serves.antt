@@ -1,11 +1,11 @@
 -- Replies and faults as the definitions say them.
 use Rattle.std.specs.Prelude.{◌≡◌, ◌⊎◌, Option, option_map, Result, Ok, Err, string_bytes}
 use Rattle.serde_json.specs.Written.{compact_text}
-use Rattle.definitions.specs.Verbs.{Answer, Outcome, answered, refused}
-use Rattle.keys.specs.Faults.{refusal_of}
+use Rattle.spec_api.specs.Verbs.{Answer, Outcome, answered, refused}
+use Rattle.object_keys.specs.Faults.{refusal_of}
 use Rattle.meta.specs.Writes.{write_of}
-use Rattle.keys.specs.declared.fault.Fault.{Fault}
-use Rattle.keys.specs.declared.fault.Fault.TheVariants as fault
+use Rattle.object_keys.specs.declared.fault.Fault.{Fault}
+use Rattle.object_keys.specs.declared.fault.Fault.TheVariants as fault
 use Rattle.meta.specs.declared.writes.Write.{Write}
 use Rattle.reply.specs.declared.reply.Reply.{Reply}
 

@@ -1,14 +1,14 @@
 //! What bodies say.
 ghost use Rattle.std.specs.Prelude.{◌≡◌, IfOk, IfErr, Ok};
 ghost use Rattle.serde_json.specs.View.{view};
-ghost use Rattle.definitions.specs.Verbs.{object_in};
-ghost use Rattle.answers.specs.Bodies.{RefusesSaid};
+ghost use Rattle.spec_api.specs.Verbs.{object_in};
+ghost use Rattle.verb_parts.specs.Bodies.{RefusesSaid};
 
 use defaults::defaults;
-use definitions::kinds::Kind;
-use keys::Fault;
 use meta::Object;
+use object_keys::Fault;
 use serde_json::Value;
+use spec_api::kinds::Kind;
 use std::alloc::Global;
 
 /// Returns a body read as an object of a kind, with the defaults of its spec. The errors are the

@@ -2,12 +2,12 @@
 ghost use Rattle.std.specs.Prelude.{◌≡◌, IfOk, IfSome, option_map, false};
 ghost use Rattle.serde_json.specs.View.{view};
 ghost use Rattle.serde_json.specs.Written.{has_float};
-ghost use Rattle.definitions.specs.NewObjects.{first_status};
-ghost use Rattle.definitions.specs.Reading.{empty};
+ghost use Rattle.spec_api.specs.NewObjects.{first_status};
+ghost use Rattle.spec_api.specs.Reading.{empty};
 
-use definitions::kinds::Kind;
 use json_values::values::{whole_number, with_member, with_text};
 use serde_json::{Map, Value};
+use spec_api::kinds::Kind;
 use std::alloc::{AllocError, Global};
 
 /// Returns an object without members.

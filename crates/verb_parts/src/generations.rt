@@ -2,14 +2,14 @@
 ghost use Rattle.std.specs.Prelude.{◌≡◌, ◌+◌, ◌≤◌, IfOk, OnOk, codes, decimal, string_bytes};
 ghost use Rattle.serde_json.specs.Data.{string, put};
 ghost use Rattle.serde_json.specs.Find.{get};
-ghost use Rattle.definitions.specs.Checks.{text_or_empty};
-ghost use Rattle.definitions.specs.Metadata.{metadata, metadata_of, at_revision};
-ghost use Rattle.definitions.specs.Replacements.{has_new_spec, has_new_annotations, is_new_generation, next_generation, with_next_generation, updated};
-ghost use Rattle.definitions.specs.Revisions.{greatest_revision};
+ghost use Rattle.spec_api.specs.Checks.{text_or_empty};
+ghost use Rattle.spec_api.specs.Metadata.{metadata, metadata_of, at_revision};
+ghost use Rattle.spec_api.specs.Replacements.{has_new_spec, has_new_annotations, is_new_generation, next_generation, with_next_generation, updated};
+ghost use Rattle.spec_api.specs.Revisions.{greatest_revision};
 
-use definitions::kinds::Kind;
-use drafts::Draft;
 use meta::Object;
+use metadata_editor::Draft;
+use spec_api::kinds::Kind;
 use std::alloc::{AllocError, Global};
 
 /// Returns the text of an object's spec, which is empty where there is none.

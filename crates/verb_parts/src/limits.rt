@@ -1,6 +1,6 @@
 //! How long an object may be.
 ghost use Rattle.std.specs.Prelude.{◌≡◌, length, nat_lt};
-ghost use Rattle.definitions.specs.Verbs.{longest_object};
+ghost use Rattle.spec_api.specs.Verbs.{longest_object};
 
 /// The greatest length of an object's text, in bytes.
 const LONGEST_OBJECT: usize = 1_572_864;

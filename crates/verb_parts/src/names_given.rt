@@ -1,13 +1,13 @@
 //! What requests name, beside what is there.
 ghost use Rattle.std.specs.Prelude.{◌≡◌, option_map};
-ghost use Rattle.definitions.specs.Metadata.{differs, is_other};
-ghost use Rattle.definitions.specs.Verbs.{names_path};
-ghost use Rattle.keys.specs.Keys.{key_of};
-ghost use Rattle.answers.specs.Naming.{mismatch};
+ghost use Rattle.spec_api.specs.Metadata.{differs, is_other};
+ghost use Rattle.spec_api.specs.Verbs.{names_path};
+ghost use Rattle.object_keys.specs.Keys.{key_of};
+ghost use Rattle.verb_parts.specs.Naming.{mismatch};
 
-use definitions::refusals::Mismatch;
-use keys::Key;
 use meta::Object;
+use object_keys::Key;
+use spec_api::refusals::Mismatch;
 
 /// Returns whether a text is named, and is another than this one.
 pub fn is_other(named: Option<&str>, text: &str) -> bool

@@ -1,27 +1,27 @@
 //! Merge patches.
 ghost use Rattle.std.specs.Prelude.{◌≡◌, ◌≤◌, List, ℕ};
 ghost use Rattle.serde_json.specs.View.{view};
-ghost use Rattle.definitions.specs.Revisions.{greatest_revision};
-ghost use Rattle.definitions.specs.Values.{merged};
-ghost use Rattle.definitions.specs.Verbs.{accept_at, object_in};
-ghost use Rattle.definitions.specs.ObjectRequests.{patch_object};
-ghost use Rattle.definitions.proofs.VerbSteps.{patch_read};
-ghost use Rattle.keys.specs.Keys.{key_of};
-ghost use Rattle.answers.specs.Serves.{Serves};
+ghost use Rattle.spec_api.specs.Revisions.{greatest_revision};
+ghost use Rattle.spec_api.specs.Values.{merged};
+ghost use Rattle.spec_api.specs.Verbs.{accept_at, object_in};
+ghost use Rattle.spec_api.specs.ObjectRequests.{patch_object};
+ghost use Rattle.spec_api.proofs.VerbSteps.{patch_read};
+ghost use Rattle.object_keys.specs.Keys.{key_of};
+ghost use Rattle.verb_parts.specs.Serves.{Serves};
 
 use crate::update::replace_existing;
-use answers::bodies::object_in;
-use answers::existing::Existing;
-use answers::names_given::names_path;
-use definitions::refusals::Part;
 use json_values::merge;
-use keys::{Fault, Key};
 use meta::Write;
 use meta::reading::is_body;
+use object_keys::{Fault, Key};
 use reply::Reply;
 use serde_json::Value;
+use spec_api::refusals::Part;
 use std::alloc::Global;
 use store::Store;
+use verb_parts::bodies::object_in;
+use verb_parts::existing::Existing;
+use verb_parts::names_given::names_path;
 
 /// Returns the object under a key as a merge patch (RFC 7396) changes it, in its own place.
 pub fn patch(

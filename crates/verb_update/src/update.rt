@@ -1,30 +1,30 @@
 //! Updates.
 ghost use Rattle.std.specs.Prelude.{◌≡◌, ◌≤◌, List, ℕ, IfOk};
 ghost use Rattle.serde_json.specs.View.{view};
-ghost use Rattle.definitions.specs.Metadata.{metadata_of, with_metadata};
-ghost use Rattle.definitions.specs.Replacements.{in_place, keeping, unchanged_metadata, unchanged_members};
-ghost use Rattle.definitions.specs.Revisions.{greatest_revision};
-ghost use Rattle.definitions.specs.Values.{members_of};
-ghost use Rattle.definitions.specs.Verbs.{accept_at, replace};
-ghost use Rattle.definitions.specs.ObjectRequests.{update_object};
-ghost use Rattle.definitions.proofs.VerbSteps.{replace_with, replace_changed};
-ghost use Rattle.keys.specs.Keys.{key_of};
-ghost use Rattle.answers.specs.Serves.{Serves};
+ghost use Rattle.spec_api.specs.Metadata.{metadata_of, with_metadata};
+ghost use Rattle.spec_api.specs.Replacements.{in_place, keeping, unchanged_metadata, unchanged_members};
+ghost use Rattle.spec_api.specs.Revisions.{greatest_revision};
+ghost use Rattle.spec_api.specs.Values.{members_of};
+ghost use Rattle.spec_api.specs.Verbs.{accept_at, replace};
+ghost use Rattle.spec_api.specs.ObjectRequests.{update_object};
+ghost use Rattle.spec_api.proofs.VerbSteps.{replace_with, replace_changed};
+ghost use Rattle.object_keys.specs.Keys.{key_of};
+ghost use Rattle.verb_parts.specs.Serves.{Serves};
 
-use answers::bodies::object_in;
-use answers::existing::Existing;
-use answers::generations::updated;
-use answers::names_given::{mismatch, names_path};
-use definitions::refusals::Part;
-use drafts::Draft;
-use keys::{Fault, Key};
 use meta::{Object, StoredObject, Write};
-use placing::{replaced, unchanged};
+use metadata_editor::Draft;
+use object_keys::{Fault, Key};
 use reply::Reply;
 use serde_json::Value;
+use spec_api::refusals::Part;
 use std::alloc::{AllocError, Global};
 use store::Store;
 use validate::check_update;
+use verb_overwrite::{replaced, unchanged};
+use verb_parts::bodies::object_in;
+use verb_parts::existing::Existing;
+use verb_parts::generations::updated;
+use verb_parts::names_given::{mismatch, names_path};
 
 /// Returns the object of a body, in the place of the one under a key.
 pub fn update(

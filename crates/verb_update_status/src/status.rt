@@ -3,28 +3,28 @@ ghost use Rattle.std.specs.Prelude.{◌≡◌, ◌≤◌, List, ℕ, IfOk, IfSom
 ghost use Rattle.serde_json.specs.Find.{get};
 ghost use Rattle.serde_json.specs.View.{view};
 ghost use Rattle.serde_json.specs.Written.{has_float};
-ghost use Rattle.definitions.specs.Replacements.{status_in, with_status_in};
-ghost use Rattle.definitions.specs.Revisions.{greatest_revision};
-ghost use Rattle.definitions.specs.Verbs.{accept_at, replace_status};
-ghost use Rattle.definitions.specs.ObjectRequests.{update_status};
-ghost use Rattle.definitions.proofs.VerbSteps.{restate};
-ghost use Rattle.keys.specs.Keys.{key_of};
-ghost use Rattle.answers.specs.Serves.{Serves};
+ghost use Rattle.spec_api.specs.Replacements.{status_in, with_status_in};
+ghost use Rattle.spec_api.specs.Revisions.{greatest_revision};
+ghost use Rattle.spec_api.specs.Verbs.{accept_at, replace_status};
+ghost use Rattle.spec_api.specs.ObjectRequests.{update_status};
+ghost use Rattle.spec_api.proofs.VerbSteps.{restate};
+ghost use Rattle.object_keys.specs.Keys.{key_of};
+ghost use Rattle.verb_parts.specs.Serves.{Serves};
 
-use answers::existing::Existing;
-use answers::first_status::first_status;
-use answers::generations::at_revision;
-use answers::names_given::{mismatch, names_path};
-use definitions::kinds::Kind;
-use definitions::refusals::{Field, Part};
-use keys::{Fault, Key};
 use meta::{Object, Write};
-use placing::{put_in_place, unchanged};
+use object_keys::{Fault, Key};
 use reply::Reply;
 use serde_json::Value;
+use spec_api::kinds::Kind;
+use spec_api::refusals::{Field, Part};
 use std::alloc::{AllocError, Global};
 use store::Store;
 use validate::is_status_valid;
+use verb_overwrite::{put_in_place, unchanged};
+use verb_parts::existing::Existing;
+use verb_parts::first_status::first_status;
+use verb_parts::generations::at_revision;
+use verb_parts::names_given::{mismatch, names_path};
 
 /// Returns the object under a key with the status of a body. Nothing else of the body is taken. Of a
 /// kind that has no status none is found.

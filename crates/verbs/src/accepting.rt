@@ -1,22 +1,22 @@
 //! What is answered.
 ghost use Rattle.std.specs.Prelude.{◌≡◌, List, ℕ};
-ghost use Rattle.definitions.specs.Verbs.{accept_at};
-ghost use Rattle.answers.specs.Serves.{Serves};
-ghost use Rattle.object_requests.specs.Requests.{request_of};
+ghost use Rattle.spec_api.specs.Verbs.{accept_at};
+ghost use Rattle.verb_parts.specs.Serves.{Serves};
+ghost use Rattle.request_types.specs.Requests.{request_of};
 
 use crate::read::{get, list};
-use creates::create::create;
-use deletes::delete::delete;
-use keys::Fault;
 use meta::Write;
-use object_requests::Request;
-use replacements::patch::patch;
-use replacements::update::update;
+use metadata_values::moments::Moment;
+use object_keys::Fault;
 use reply::Reply;
-use stamps::moments::Moment;
-use status_updates::update_status;
+use request_types::Request;
 use std::alloc::Global;
 use store::Store;
+use verb_create::create::create;
+use verb_delete::delete::delete;
+use verb_update::patch::patch;
+use verb_update::update::update;
+use verb_update_status::update_status;
 
 /// Returns the answer to a request over a store at a moment, with what it writes, or the refusal. It changes nothing itself:
 /// the write is the caller's to apply. `Fault::NoMemory` says that memory was wanted and refused.

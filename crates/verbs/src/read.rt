@@ -1,14 +1,14 @@
 //! Gets and lists.
 ghost use Rattle.std.specs.Prelude.{◌≡◌, ℕ, List};
-ghost use Rattle.definitions.specs.Verbs.{accept_at};
-ghost use Rattle.definitions.specs.ObjectRequests.{get_object, list_objects};
-ghost use Rattle.keys.specs.Keys.{key_of};
+ghost use Rattle.spec_api.specs.Verbs.{accept_at};
+ghost use Rattle.spec_api.specs.ObjectRequests.{get_object, list_objects};
+ghost use Rattle.object_keys.specs.Keys.{key_of};
 ghost use Rattle.selector.specs.Views.{view_of};
-ghost use Rattle.answers.specs.Serves.{Serves};
+ghost use Rattle.verb_parts.specs.Serves.{Serves};
 
-use keys::{Fault, Key};
-use list_texts::page_text;
+use list_encoding::page_text;
 use meta::Write;
+use object_keys::{Fault, Key};
 use reply::Reply;
 use selector::View;
 use std::alloc::Global;

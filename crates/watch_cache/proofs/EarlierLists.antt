@@ -4,12 +4,12 @@ use Rattle.std.specs.Ordering.{ordering_reverse}
 use Rattle.std.specs.BTreeMap.{is_at}
 use Rattle.std.specs.Map.{lookup}
 use Rattle.serde_json.specs.Data.{Data}
-use Rattle.definitions.specs.Keys.{Key, key_cmp, is_same_key}
-use Rattle.definitions.specs.History.{View, Entries, found, seen}
-use Rattle.definitions.specs.Pages.{Place, is_after, after_place}
-use Rattle.definitions.specs.Windows.{Change}
-use Rattle.definitions.proofs.PutLaws.{IsAbove, IsAscending, IsAscending-after, IsAscending-filter, IsAscending-put, IsAbove-below, found-after, lookup-insert_entry, none_above, name_cmp_total, same_name}
-use Rattle.server_state.specs.Recorded.{undone}
+use Rattle.spec_api.specs.Keys.{Key, key_cmp, is_same_key}
+use Rattle.spec_api.specs.History.{View, Entries, found, seen}
+use Rattle.spec_api.specs.Pages.{Place, is_after, after_place}
+use Rattle.spec_api.specs.Windows.{Change}
+use Rattle.spec_api.proofs.PutLaws.{IsAbove, IsAscending, IsAscending-after, IsAscending-filter, IsAscending-put, IsAbove-below, found-after, lookup-insert_entry, none_above, name_cmp_total, same_name}
+use Rattle.spec_server.specs.Recorded.{undone}
 use Rattle.watch_cache.specs.Earlier.{Olds, firsts, laid, besides, olds_after}
 
 -- ---- lists in order are equal where the same is found under each key

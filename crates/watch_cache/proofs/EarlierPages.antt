@@ -6,10 +6,10 @@ use Rattle.std.specs.Map.{remove_entry}
 use Rattle.std.proofs.lemmas.Bool.Decides.{nat_tests}
 use Rattle.std.proofs.lemmas.List.{take_all, length-take-le}
 use Rattle.serde_json.specs.Data.{Data}
-use Rattle.definitions.specs.Keys.{Key, key_cmp, is_same_key}
-use Rattle.definitions.specs.History.{View, Entries, found, put_or_remove, seen}
-use Rattle.definitions.specs.Pages.{Place, is_after, after_place, page_of, remaining}
-use Rattle.definitions.proofs.PutLaws.{IsAbove, IsAscending, IsAscending-filter, none_above, name_cmp_total}
+use Rattle.spec_api.specs.Keys.{Key, key_cmp, is_same_key}
+use Rattle.spec_api.specs.History.{View, Entries, found, put_or_remove, seen}
+use Rattle.spec_api.specs.Pages.{Place, is_after, after_place, page_of, remaining}
+use Rattle.spec_api.proofs.PutLaws.{IsAbove, IsAscending, IsAscending-filter, none_above, name_cmp_total}
 use Rattle.watch_cache.specs.Earlier.{Olds, laid, besides, olds_after}
 use Rattle.watch_cache.proofs.EarlierLists.{over, old_of, itself, found-laid, found-filter, laid_after}
 

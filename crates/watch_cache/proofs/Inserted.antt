@@ -6,9 +6,9 @@ use Rattle.std.specs.List.Sorted.{IsStrictlySortedBy}
 use Rattle.std.specs.Map.{keys_of}
 use Rattle.std.specs.Ordering.{ordering_reverse}
 use Rattle.serde_json.specs.Data.{Data}
-use Rattle.definitions.specs.Keys.{Key, key_cmp}
-use Rattle.definitions.specs.History.{Entries}
-use Rattle.definitions.proofs.PutLaws.{name_cmp_total}
+use Rattle.spec_api.specs.Keys.{Key, key_cmp}
+use Rattle.spec_api.specs.History.{Entries}
+use Rattle.spec_api.proofs.PutLaws.{name_cmp_total}
 
 -- members put one after another into what is there
 abbrev pub inserted : Entries → Entries → Entries

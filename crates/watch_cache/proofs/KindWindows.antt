@@ -2,10 +2,10 @@
 use Rattle.std.proofs.Common.{◌≡◌, ◌≢◌, ◌<◌, ◌==◌, List, length, map, set, get_or, Bool, true, false, cond, Some, option_map, unwrap_or, slice_get, refl, sym, ap, ◌∙◌, subst, arith}
 use Rattle.std.proofs.lemmas.Option.{slice_get-map, slice_get-get_or, slice_get_read, slice_get_within, unwrap_or-slice_get}
 use Rattle.std.proofs.lemmas.List.{get_or-set_same, get_or-set_other}
-use Rattle.definitions.specs.declared.kinds.Kind.{Kind}
-use Rattle.definitions.specs.Kinds.{kinds, rank, kinds_at}
-use Rattle.server_state.specs.Codes.{window_at}
-use Rattle.server_state.specs.Recorded.{Window, opened}
+use Rattle.spec_api.specs.declared.kinds.Kind.{Kind}
+use Rattle.spec_api.specs.Kinds.{kinds, rank, kinds_at}
+use Rattle.spec_server.specs.Codes.{window_at}
+use Rattle.spec_server.specs.Recorded.{Window, opened}
 
 pub rank_within : (k : Kind) → rank k < length kinds
 rank_within k = slice_get_within kinds (rank k) k (kinds_at k)

@@ -2,10 +2,10 @@
 use Rattle.std.proofs.Common.{◌≡◌, ◌≤◌, ◌<◌, ℕ, ◌+◌, List, [], ◌∷◌, ◌++◌, map, take, drop, length, length-take-le, Some, refl, ap, ◌∙◌, arith}
 use Rattle.std.specs.Prelude.{option_map, slice_get}
 use Rattle.std.proofs.lemmas.List.{drop-append-le, length-map}
-use Rattle.keys.specs.Keys.{key_of}
-use Rattle.definitions.specs.History.{View, Entries, put_or_remove, seen}
-use Rattle.definitions.specs.Windows.{Change as Kept}
-use Rattle.server_state.specs.Recorded.{undone}
+use Rattle.object_keys.specs.Keys.{key_of}
+use Rattle.spec_api.specs.History.{View, Entries, put_or_remove, seen}
+use Rattle.spec_api.specs.Windows.{Change as Kept}
+use Rattle.spec_server.specs.Recorded.{undone}
 use Rattle.watch_cache.specs.Changes.{change_seen}
 use Rattle.watch_cache.specs.declared.changes.Change.{Change}
 use Rattle.watch_cache.proofs.Rising.{take_at}

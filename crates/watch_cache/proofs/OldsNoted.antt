@@ -5,12 +5,12 @@ use Rattle.std.specs.Option.{option_copied}
 use Rattle.std.specs.BTreeMap.{insert_entry}
 use Rattle.std.proofs.lemmas.List.{drop_all, length-map}
 use Rattle.serde_json.specs.Data.{Data}
-use Rattle.definitions.specs.Keys.{key_cmp}
-use Rattle.keys.specs.Keys.{key_of}
-use Rattle.keys.specs.declared.key.Key.{Key}
+use Rattle.spec_api.specs.Keys.{key_cmp}
+use Rattle.object_keys.specs.Keys.{key_of}
+use Rattle.object_keys.specs.declared.key.Key.{Key}
 use Rattle.meta.specs.declared.stored.StoredObject.{StoredObject}
-use Rattle.keys.proofs.KeyOrder.{key_cmp-name_cmp}
-use Rattle.keys.proofs.MapViews.{map-insert_entry}
+use Rattle.object_keys.proofs.KeyOrder.{key_cmp-name_cmp}
+use Rattle.object_keys.proofs.MapViews.{map-insert_entry}
 use Rattle.revisions.proofs.SeenMaps.{ref_cmp}
 use Rattle.watch_cache.specs.Changes.{change_seen}
 use Rattle.watch_cache.specs.Earlier.{firsts}

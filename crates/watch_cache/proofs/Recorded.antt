@@ -5,7 +5,7 @@ use Rattle.std.specs.Option.{option_to_list}
 use Rattle.std.proofs.lemmas.List.{map-append, drop-map, length-map}
 use Rattle.std.proofs.lemmas.Bool.{ltb-true, ltb-false}
 use Rattle.circular_buffer.specs.Buffer.{keep_last}
-use Rattle.definitions.specs.Windows.{Change as Kept, IsRising, last_n, all_but, last_revision}
+use Rattle.spec_api.specs.Windows.{Change as Kept, IsRising, last_n, all_but, last_revision}
 use Rattle.watch_cache.specs.Changes.{change_seen}
 use Rattle.watch_cache.specs.declared.changes.Change.{Change}
 

@@ -4,8 +4,8 @@ use Rattle.std.specs.Prelude.{nat_lt, slice_get, IfSome}
 use Rattle.std.proofs.lemmas.List.{take-append-drop}
 use Rattle.std.proofs.lemmas.List.Elements.{filter-append}
 use Rattle.std.proofs.lemmas.Bool.{lt-ltb, le-ltb, ltb-true, ltb-false}
-use Rattle.definitions.specs.Windows.{Change as Kept, IsRising}
-use Rattle.server_state.specs.Recorded.{above}
+use Rattle.spec_api.specs.Windows.{Change as Kept, IsRising}
+use Rattle.spec_server.specs.Recorded.{above}
 use Rattle.watch_cache.specs.Changes.{change_seen}
 use Rattle.watch_cache.specs.declared.changes.Change.{Change}
 

@@ -1,7 +1,7 @@
 -- A change as it is recorded.
 use Rattle.std.specs.Prelude.{option_map}
-use Rattle.definitions.specs.Windows.{Change as Kept}
-use Rattle.keys.specs.Keys.{key_of}
+use Rattle.spec_api.specs.Windows.{Change as Kept}
+use Rattle.object_keys.specs.Keys.{key_of}
 use Rattle.watch_cache.specs.declared.changes.Change.{Change}
 
 -- the change, by its key and its objects' data

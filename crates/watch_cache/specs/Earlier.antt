@@ -3,10 +3,10 @@ use Rattle.std.specs.Prelude.{not, List, [], ◌∷◌, filter, Option, is_some}
 use Rattle.std.specs.BTreeMap.{insert_entry, is_at}
 use Rattle.std.specs.Map.{lookup}
 use Rattle.serde_json.specs.Data.{Data}
-use Rattle.definitions.specs.History.{View, Entries, put_or_remove, seen}
-use Rattle.definitions.specs.Keys.{Key, key_cmp}
-use Rattle.definitions.specs.Pages.{Place, is_after}
-use Rattle.definitions.specs.Windows.{Change}
+use Rattle.spec_api.specs.History.{View, Entries, put_or_remove, seen}
+use Rattle.spec_api.specs.Keys.{Key, key_cmp}
+use Rattle.spec_api.specs.Pages.{Place, is_after}
+use Rattle.spec_api.specs.Windows.{Change}
 
 -- keys, each with the object that was under it, if there was one
 abbrev pub Olds : Type 0

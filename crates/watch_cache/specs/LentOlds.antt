@@ -1,8 +1,8 @@
 -- What was there under keys, lent, as the definitions have it.
 use Rattle.std.specs.Prelude.{List, Option, map, option_map}
 use denote.Ref.{Bor}
-use Rattle.keys.specs.Keys.{key_of}
-use Rattle.keys.specs.declared.key.Key.{Key}
+use Rattle.object_keys.specs.Keys.{key_of}
+use Rattle.object_keys.specs.declared.key.Key.{Key}
 use Rattle.meta.specs.declared.stored.StoredObject.{StoredObject}
 use Rattle.watch_cache.specs.Earlier.{Olds}
 

@@ -1,7 +1,7 @@
 //! The cache of one kind.
 ghost use Rattle.std.specs.Prelude.{◌≡◌, ◌≤◌, max, option_map};
 ghost use Rattle.std.specs.Option.{option_to_list};
-ghost use Rattle.definitions.specs.Windows.{last_revision};
+ghost use Rattle.spec_api.specs.Windows.{last_revision};
 ghost use Rattle.watch_cache.specs.Changes.{change_seen};
 
 use crate::changes::Change;
@@ -9,11 +9,11 @@ use crate::earlier::olds_above;
 use crate::searching::{events_above, first_above};
 use crate::undoing::undone_to;
 use circular_buffer::HeapCircularBuffer;
-use definitions::kinds::Kind;
-use keys::{Fault, Key};
 use meta::{Member, StoredObject};
+use object_keys::{Fault, Key};
 use revisions::Event;
 use selector::View;
+use spec_api::kinds::Kind;
 use std::alloc::{AllocError, Global};
 use std::collections::BTreeMap;
 use std::marker::Model;
@@ -28,9 +28,9 @@ pub struct Cache {
 
 impl Model for Cache {
     ghost use Rattle.std.specs.Prelude.{◌≤◌, map};
-    ghost use Rattle.server_state.specs.Recorded.{Window};
-    ghost use Rattle.definitions.specs.Windows.{IsRising};
-    ghost use Rattle.server_state.specs.Codes.{coded_window};
+    ghost use Rattle.spec_server.specs.Recorded.{Window};
+    ghost use Rattle.spec_api.specs.Windows.{IsRising};
+    ghost use Rattle.spec_server.specs.Codes.{coded_window};
     ghost use Rattle.watch_cache.specs.Changes.{change_seen};
 
     ghost Value = { Window };
@@ -46,9 +46,9 @@ impl Cache {
     ghost use Rattle.std.specs.Prelude.{◌≡◌, ◌==◌, ◌≤◌, ◌<◌, IfOk, length, map};
     ghost use Rattle.std.specs.List.Sorted.{IsStrictlySortedBy};
     ghost use Rattle.std.specs.Map.{keys_of};
-    ghost use Rattle.definitions.specs.Keys.{key_cmp};
-    ghost use Rattle.server_state.specs.Recorded.{above, opened, recorded, compacted_to, recorded_since, recorded_list};
-    ghost use Rattle.definitions.specs.Windows.{last_revision, within};
+    ghost use Rattle.spec_api.specs.Keys.{key_cmp};
+    ghost use Rattle.spec_server.specs.Recorded.{above, opened, recorded, compacted_to, recorded_since, recorded_list};
+    ghost use Rattle.spec_api.specs.Windows.{last_revision, within};
     ghost use Rattle.meta.specs.Members.{member_of};
     ghost use Rattle.selector.specs.Views.{view_of};
     ghost use Rattle.revisions.specs.Events.{event_seen};

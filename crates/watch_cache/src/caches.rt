@@ -1,7 +1,7 @@
 //! The caches of all kinds.
 use crate::cache::Cache;
 use crate::changes::Change;
-use definitions::kinds::Kind;
+use spec_api::kinds::Kind;
 use std::alloc::{AllocError, Global};
 use std::marker::Model;
 
@@ -14,10 +14,10 @@ pub struct Caches {
 
 impl Model for Caches {
     ghost use Rattle.std.specs.Prelude.{◌≡◌, length};
-    ghost use Rattle.definitions.specs.declared.kinds.Kind as kind;
-    ghost use Rattle.definitions.specs.Kinds.{kinds};
-    ghost use Rattle.server_state.specs.Codes.{coded_windows, window_at};
-    ghost use Rattle.server_state.specs.Recorded.{Window};
+    ghost use Rattle.spec_api.specs.declared.kinds.Kind as kind;
+    ghost use Rattle.spec_api.specs.Kinds.{kinds};
+    ghost use Rattle.spec_server.specs.Codes.{coded_windows, window_at};
+    ghost use Rattle.spec_server.specs.Recorded.{Window};
 
     ghost Value = { kind.Kind → Window };
 
@@ -30,9 +30,9 @@ impl Model for Caches {
 
 impl Caches {
     ghost use Rattle.std.specs.Prelude.{◌≡◌, ◌≤◌, ◌<◌, ◌==◌, IfOk, if◌then◌else◌};
-    ghost use Rattle.definitions.specs.Kinds.{rank};
-    ghost use Rattle.definitions.specs.Windows.{last_revision};
-    ghost use Rattle.server_state.specs.Recorded.{opened, recorded, compacted_to};
+    ghost use Rattle.spec_api.specs.Kinds.{rank};
+    ghost use Rattle.spec_api.specs.Windows.{last_revision};
+    ghost use Rattle.spec_server.specs.Recorded.{opened, recorded, compacted_to};
     ghost use Rattle.watch_cache.specs.Changes.{change_seen};
 
     /// Returns caches that record the last `window` changes of each kind and have none so far. The error is out of memory.

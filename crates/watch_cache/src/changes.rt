@@ -1,7 +1,7 @@
 //! Changes.
 
-use keys::Key;
 use meta::StoredObject;
+use object_keys::Key;
 
 /// What a write did under its key: its revision, the object before it and the object after it.
 #[derive(Drop)]

@@ -1,10 +1,10 @@
 //! What was there at an earlier revision, under the keys that were written since.
 ghost use Rattle.std.specs.Prelude.{◌≡◌, IfOk, OnOk, map, option_map};
 ghost use Rattle.std.specs.BTreeMap.{insert_entry};
-ghost use Rattle.definitions.specs.Keys.{key_cmp};
-ghost use Rattle.definitions.specs.Windows.{IsRising};
-ghost use Rattle.server_state.specs.Recorded.{above};
-ghost use Rattle.keys.specs.Keys.{key_of};
+ghost use Rattle.spec_api.specs.Keys.{key_cmp};
+ghost use Rattle.spec_api.specs.Windows.{IsRising};
+ghost use Rattle.spec_server.specs.Recorded.{above};
+ghost use Rattle.object_keys.specs.Keys.{key_of};
 ghost use Rattle.watch_cache.specs.Changes.{change_seen};
 ghost use Rattle.watch_cache.specs.Earlier.{firsts};
 ghost use Rattle.watch_cache.specs.LentOlds.{olds_of};
@@ -12,8 +12,8 @@ ghost use Rattle.watch_cache.specs.LentOlds.{olds_of};
 use crate::changes::Change;
 use crate::searching::first_above;
 use circular_buffer::HeapCircularBuffer;
-use keys::Key;
 use meta::StoredObject;
+use object_keys::Key;
 use std::alloc::{AllocError, Global};
 use std::collections::BTreeMap;
 

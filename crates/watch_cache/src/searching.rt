@@ -1,7 +1,7 @@
 //! The recorded changes above a revision, found by halving.
 ghost use Rattle.std.specs.Prelude.{◌≡◌, ◌<◌, ◌≤◌, ◌+◌, ◌++◌, IfOk, OnOk, IfSome, length, map, take, drop, nat_lt, slice_get};
-ghost use Rattle.definitions.specs.Windows.{IsRising};
-ghost use Rattle.server_state.specs.Recorded.{above, event_recorded, events_recorded};
+ghost use Rattle.spec_api.specs.Windows.{IsRising};
+ghost use Rattle.spec_server.specs.Recorded.{above, event_recorded, events_recorded};
 ghost use Rattle.selector.specs.Views.{view_of};
 ghost use Rattle.revisions.specs.Events.{event_seen};
 ghost use Rattle.watch_cache.specs.Changes.{change_seen};

@@ -1,8 +1,8 @@
 //! Events.
 
-use definitions::frames::ChangeKind;
-use keys::Key;
 use meta::stored::StoredObject;
+use object_keys::Key;
+use spec_api::frames::ChangeKind;
 
 /// What a write did to an object that a view asks for.
 #[derive(Drop)]

@@ -1,9 +1,9 @@
 //! What the program is asked.
-use definitions::kinds::Kind;
+use spec_api::kinds::Kind;
 
 /// What the words after the program's name ask.
 #[derive(Drop)]
-pub struct Asked<'a> {
+pub struct Arguments<'a> {
     /// The server's host and port, with a colon between them.
     pub server: &'a str,
     pub kind: Kind,
@@ -23,7 +23,7 @@ fn kind_named(name: &str) -> Option<Kind> {
         .copied()
 }
 
-impl<'a> Asked<'a> {
+impl<'a> Arguments<'a> {
     /// Takes in an option, unless it is none.
     fn take(&mut self, name: &str, value: &'a str) -> Option<()> {
         match name {
@@ -36,14 +36,14 @@ impl<'a> Asked<'a> {
     }
 
     /// Returns what the words ask; none where they are bad arguments.
-    pub fn parse(words: &'a [String]) -> Option<Asked<'a>> {
+    pub fn parse(words: &'a [String]) -> Option<Arguments<'a>> {
         let [option, server, kind, options @ ..] = words else {
             return None;
         };
         if option.as_str() != "--server" {
             return None;
         }
-        let mut asked = Asked {
+        let mut asked = Arguments {
             server: server.as_str(),
             kind: kind_named(kind.as_str())?,
             namespace: None,

@@ -6,24 +6,24 @@
 mod asked;
 mod printing;
 
-use asked::Asked;
+use api_client::Remote;
+use asked::Arguments;
 use collection_texts::{Scope, ScopeFault};
-use following::Follower;
-use informer::PlainInformer;
+use list_and_watch::Follower;
+use plain_informer::PlainInformer;
 use printing::Printer;
-use remote::Remote;
 use std::io::{BufWriter, ErrorKind};
 use std::process::ExitCode;
 use std::{env, io};
 use tcp_client::{TcpConnect, TimeLimits, WallClock};
 
 /// Follows what is asked of the server, and returns whether all lines were written.
-fn run(rt: &HostRuntime, asked: &Asked<'_>, scope: Scope) -> io::Result<bool> {
+fn run(rt: &HostRuntime, asked: &Arguments<'_>, scope: Scope) -> io::Result<bool> {
     let alloc = rt.alloc();
     let connector = TcpConnect::new(rt, alloc, asked.server, TimeLimits::usual());
     let writer = BufWriter::new(alloc, io::writer(rt))?;
     let mut printer = Printer::new(alloc, writer, asked.kind, asked.until);
-    following::follow(
+    list_and_watch::follow(
         alloc,
         asked.kind,
         &mut Follower::streaming(alloc, asked.kind, PlainInformer::new(alloc)),
@@ -35,8 +35,11 @@ fn run(rt: &HostRuntime, asked: &Asked<'_>, scope: Scope) -> io::Result<bool> {
 }
 
 /// Returns what the words ask and the scope of it, if they ask something.
-fn understood<'a>(rt: &HostRuntime, words: &'a [String]) -> io::Result<Option<(Asked<'a>, Scope)>> {
-    let Some(asked) = Asked::parse(words) else {
+fn understood<'a>(
+    rt: &HostRuntime,
+    words: &'a [String],
+) -> io::Result<Option<(Arguments<'a>, Scope)>> {
+    let Some(asked) = Arguments::parse(words) else {
         return Ok(None);
     };
     match Scope::new(rt.alloc(), asked.namespace, asked.selector) {

@@ -1,10 +1,10 @@
 //! What is written of what is published.
 ghost use Rattle.std.specs.Prelude.{⊤};
 
-use definitions::kinds::Kind;
-use following::{Indexed, Onward, Shift, Sink};
-use keys::Key;
+use list_and_watch::{Indexed, Onward, Shift, Sink};
 use meta::Object;
+use object_keys::Key;
+use spec_api::kinds::Kind;
 use std::alloc::{AllocError, Global};
 use std::io;
 use std::io::Write;

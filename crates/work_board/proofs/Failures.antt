@@ -6,9 +6,9 @@ use Rattle.std.specs.FinMap as map
 use Rattle.std.specs.FinMap.{get-insert, get-remove, same_map}
 use Rattle.std.specs.Ordering.{eq_by_cmp, is_eq}
 use Rattle.backoff.specs.Seen.{restored}
-use Rattle.controllers.proofs.WorkKeyOrder.{work_key_total, work_key_tells}
-use Rattle.controllers.specs.Delays.{Failures, failures, failed}
-use Rattle.controllers.specs.WorkQueues.{WorkKey, work_key_cmp}
+use Rattle.spec_client_go.proofs.WorkKeyOrder.{work_key_total, work_key_tells}
+use Rattle.spec_client_go.specs.Delays.{Failures, failures, failed}
+use Rattle.spec_client_go.specs.WorkQueues.{WorkKey, work_key_cmp}
 
 abbrev same : WorkKey → WorkKey → Bool
 same = eq_by_cmp work_key_cmp

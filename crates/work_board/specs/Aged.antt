@@ -1,7 +1,7 @@
 -- Whose expectations aged out, by the board.
 use Rattle.std.specs.Prelude.{◌≡◌, ℕ, List}
-use Rattle.control.specs.Boards.{Board}
-use Rattle.controllers.specs.WorkQueues.{WorkKey}
+use Rattle.spec_work_board.specs.Boards.{Board}
+use Rattle.spec_client_go.specs.WorkQueues.{WorkKey}
 use Rattle.expectations.specs.Aged.{AreAgedOut}
 
 -- these are the keys of those that aged out from a moment until now, the board's time

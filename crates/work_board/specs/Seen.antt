@@ -1,17 +1,17 @@
 -- What the values of the code say, as the definitions have it.
 use Rattle.std.specs.Prelude.{ℕ, string_bytes, refl}
 use Rattle.std.specs.Coded.{Coded, code_by, coded×, coded_ℕ}
-use Rattle.control.specs.Boards as boards
-use Rattle.control.specs.Boards.{Board, creation_observed, deletion_observed}
-use Rattle.controllers.specs.Codes.{coded_work_queue, coded_counts}
-use Rattle.controllers.specs.Delays.{Delays, Failures}
-use Rattle.controllers.specs.Expectations as expectations
-use Rattle.controllers.specs.WorkQueues.{WorkQueue}
+use Rattle.spec_work_board.specs.Boards as boards
+use Rattle.spec_work_board.specs.Boards.{Board, creation_observed, deletion_observed}
+use Rattle.spec_client_go.specs.Codes.{coded_work_queue, coded_counts}
+use Rattle.spec_client_go.specs.Delays.{Delays, Failures}
+use Rattle.spec_client_go.specs.Expectations as expectations
+use Rattle.spec_client_go.specs.WorkQueues.{WorkQueue}
 use Rattle.expectations.specs.Seen.{table_code}
-use Rattle.keys.specs.Keys.{key_of}
-use Rattle.control_desk.specs.declared.observation.Observation.{Observation}
-use Rattle.control_desk.specs.declared.observation.Observation.TheVariants.{CreationObserved, DeletionObserved}
-use Rattle.control_desk.specs.declared.observation.Owner.{Owner}
+use Rattle.object_keys.specs.Keys.{key_of}
+use Rattle.work_board.specs.declared.observation.Observation.{Observation}
+use Rattle.work_board.specs.declared.observation.Observation.TheVariants.{CreationObserved, DeletionObserved}
+use Rattle.work_board.specs.declared.observation.Owner.{Owner}
 
 -- the ReplicaSet of a key and a uid
 abbrev pub owner_of : Owner → expectations.Owner

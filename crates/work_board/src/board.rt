@@ -1,17 +1,17 @@
 //! The board.
 ghost use Rattle.std.specs.Prelude.{◌≡◌, ◌+◌, ◌≤◌, IfOk, OnOk, OnErr, length, map, option_map, string_bytes};
-ghost use Rattle.control.specs.Boards.{begun, taken, finished, requeued, observed, expecting_creations, expecting_deletions, is_satisfied, forgotten, lowered, all_lowered, may_tick, ticked, last_moment};
-ghost use Rattle.controllers.specs.WorkQueues.{handed};
-ghost use Rattle.control_desk.specs.Aged.{HaveAgedOut};
-ghost use Rattle.control_desk.specs.Seen.{owner_of, observation_of};
-ghost use Rattle.keys.specs.Keys.{key_of};
+ghost use Rattle.spec_work_board.specs.Boards.{begun, taken, finished, requeued, observed, expecting_creations, expecting_deletions, is_satisfied, forgotten, lowered, all_lowered, may_tick, ticked, last_moment};
+ghost use Rattle.spec_client_go.specs.WorkQueues.{handed};
+ghost use Rattle.work_board.specs.Aged.{HaveAgedOut};
+ghost use Rattle.work_board.specs.Seen.{owner_of, observation_of};
+ghost use Rattle.object_keys.specs.Keys.{key_of};
 ghost use Rattle.work_keys.specs.WorkKeys.{work_key_of};
 
 use crate::aged_out::AgedOut;
 use crate::observation::{Observation, Owner};
 use backoff::{Backoff, Delayed};
 use expectations::Table;
-use keys::Key;
+use object_keys::Key;
 use std::alloc::{AllocError, Global};
 use std::marker::Model;
 use work_keys::WorkKey;
@@ -33,9 +33,9 @@ pub struct Board {
 
 impl Model for Board {
     ghost use Rattle.std.specs.Prelude.{◌≤◌};
-    ghost use Rattle.control.specs.Boards as boards;
-    ghost use Rattle.control.specs.Boards.{last_moment};
-    ghost use Rattle.control_desk.specs.Seen.{board_code};
+    ghost use Rattle.spec_work_board.specs.Boards as boards;
+    ghost use Rattle.spec_work_board.specs.Boards.{last_moment};
+    ghost use Rattle.work_board.specs.Seen.{board_code};
 
     ghost Value = { boards.Board };
 

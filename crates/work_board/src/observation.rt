@@ -1,5 +1,5 @@
 //! What is expected no longer.
-use keys::Key;
+use object_keys::Key;
 
 /// One ReplicaSet: its key and its uid.
 #[derive(Drop)]

@@ -9,8 +9,8 @@ use Rattle.std.specs.Map.{lookup}
 use Rattle.std.specs.Set as key_set
 use Rattle.std.specs.FinMap as map_of
 use Rattle.std.specs.FinSet as set
-use Rattle.controllers.specs.WorkQueues.{work_key_cmp as task_cmp}
-use Rattle.controllers.proofs.WorkKeyOrder.{work_key_total, work_key_tells}
+use Rattle.spec_client_go.specs.WorkQueues.{work_key_cmp as task_cmp}
+use Rattle.spec_client_go.proofs.WorkKeyOrder.{work_key_total, work_key_tells}
 use Rattle.work_keys.specs.declared.work_key.WorkKey.{WorkKey}
 use Rattle.work_keys.specs.WorkKeys.{work_key_of}
 use Rattle.work_keys.specs.Seen.{work_keys_of, by_work_key}

@@ -1,9 +1,9 @@
 -- The derived order of keys of work is that of what they say.
 use Rattle.std.proofs.Common.{◌≡◌, nat_cmp, rules, Ordering}
-use Rattle.controllers.specs.contracts.controller.ControllerOrd.TheImpl as controller_ord
-use Rattle.controllers.specs.declared.controller.Controller.{Controller}
-use Rattle.controllers.specs.WorkQueues.{work_key_cmp as task_cmp, turn}
-use Rattle.keys.proofs.KeyOrder.{key_cmp-name_cmp}
+use Rattle.spec_client_go.specs.contracts.controller.ControllerOrd.TheImpl as controller_ord
+use Rattle.spec_client_go.specs.declared.controller.Controller.{Controller}
+use Rattle.spec_client_go.specs.WorkQueues.{work_key_cmp as task_cmp, turn}
+use Rattle.object_keys.proofs.KeyOrder.{key_cmp-name_cmp}
 use Rattle.work_keys.specs.contracts.work_key.WorkKeyOrd.TheImpl as work_key_ord
 use Rattle.work_keys.specs.declared.work_key.WorkKey.{WorkKey}
 use Rattle.work_keys.specs.WorkKeys.{work_key_of}

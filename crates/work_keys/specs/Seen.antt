@@ -3,7 +3,7 @@ use Rattle.std.specs.Prelude.{List, map}
 use Rattle.std.specs.declared.cmp.Ordering.{Ordering}
 use Rattle.std.specs.FinMap as map_of
 use Rattle.std.specs.FinSet as set
-use Rattle.controllers.specs.WorkQueues.{WorkKeys, work_key_cmp}
+use Rattle.spec_client_go.specs.WorkQueues.{WorkKeys, work_key_cmp}
 use Rattle.work_keys.specs.declared.work_key.WorkKey.{WorkKey}
 use Rattle.work_keys.specs.WorkKeys.{work_key_of}
 

@@ -2,8 +2,8 @@
 ghost use Rattle.std.specs.Prelude.{◌≡◌, IfOk};
 ghost use Rattle.work_keys.specs.WorkKeys.{work_key_of};
 
-use controllers::controller::Controller;
-use keys::Key;
+use object_keys::Key;
+use spec_client_go::controller::Controller;
 use std::alloc::AllocError;
 
 /// A work key: the controller that is to look, and the object that it is to look at. They are ordered by controller, then key.

@@ -1,6 +1,6 @@
 //! The queue.
 ghost use Rattle.std.specs.Prelude.{◌≡◌, IfOk, OnOk, OnErr, length, map, option_map};
-ghost use Rattle.controllers.specs.WorkQueues.{WorkQueue, idle, added, add, got, handed, done, shut, after_all};
+ghost use Rattle.spec_client_go.specs.WorkQueues.{WorkQueue, idle, added, add, got, handed, done, shut, after_all};
 ghost use Rattle.work_keys.specs.WorkKeys.{work_key_of};
 
 use keyed_queue::KeyedQueue;
@@ -15,8 +15,8 @@ pub struct Queue {
 }
 
 impl Model for Queue {
-    ghost use Rattle.controllers.specs.WorkQueues.{WorkQueue};
-    ghost use Rattle.controllers.specs.Codes.{coded_work_queue};
+    ghost use Rattle.spec_client_go.specs.WorkQueues.{WorkQueue};
+    ghost use Rattle.spec_client_go.specs.Codes.{coded_work_queue};
 
     ghost Value = { WorkQueue };
 

@@ -1,11 +1,11 @@
 -- What workers ask of the server of a world can be read of bytes.
 use Rattle.std.proofs.Common.{◌≡◌, sym, subst, ℕ, IfSome}
-use Rattle.definitions.specs.Reached.{CanBeRead}
-use Rattle.reconciling.specs.ControlPlanes as planes
-use Rattle.reconciling.specs.Managers.{Action, Acted, act}
-use Rattle.control_plane_laws.proofs.Asking.{asks_readable}
-use Rattle.control_plane_laws.proofs.PlaneRuns.{all_well}
-use Rattle.managers.specs.Reached.{client_of, CanBeAsked}
+use Rattle.spec_api.specs.Reached.{CanBeRead}
+use Rattle.spec_sim_control_plane.specs.ControlPlanes as planes
+use Rattle.spec_sim_control_plane.specs.Managers.{Action, Acted, act}
+use Rattle.sim_control_plane_laws.proofs.Asking.{asks_readable}
+use Rattle.sim_control_plane_laws.proofs.PlaneRuns.{all_well}
+use Rattle.sim_manager.specs.Reached.{client_of, CanBeAsked}
 use Rattle.world.proofs.Reaching.{same_client}
 use Rattle.world.specs.StoredStanding.{Stands}
 use Rattle.world.specs.StoredStates.{StoredState}

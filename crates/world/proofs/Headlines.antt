@@ -1,29 +1,29 @@
 -- What holds of every world.
 use Rattle.std.proofs.Common.{◌≡◌, ◌≤◌, ◌+◌, ◌-◌, sym, subst, List, [], take, length, None, Some, Result, Ok, Err, OnOk, OnErr, IfErr, map, ◌<◌, slice_get}
 use Rattle.std.specs.List.{AllByRecursion}
-use Rattle.definitions.specs.declared.kinds.Kind.{Kind}
-use Rattle.server_state.specs.Snapshots.{Snapshot}
-use Rattle.controllers.specs.Commands.{Command}
-use Rattle.controllers.specs.Hands.{Read}
-use Rattle.simulation.specs.Clusters as clusters
-use Rattle.reconciling.specs.ControlPlanes.{Step}
-use Rattle.reconciling.specs.Managers.{Manager, Issued}
-use Rattle.reconciling.specs.Turns.{Turn, Sight, looked, satisfied}
-use Rattle.reconciling_laws.specs.IssuedLaws.{IsNext, IsSeen, WasPublished, WasThere}
-use Rattle.reconciling_laws.specs.LookLaws.{WasIssued}
-use Rattle.reconciling_laws.specs.TurnLaws.{AreApart}
-use Rattle.reconciling_laws.proofs.HandRuns.{apart}
-use Rattle.reconciling_laws.proofs.IssuedRuns.{issued_next}
-use Rattle.reconciling_laws.proofs.Lists.{all_map}
-use Rattle.reconciling_laws.proofs.LookRuns.{under_way, were_issued}
-use Rattle.control_plane_laws.specs.PlaneLaws.{IsServerList}
-use Rattle.control_plane_laws.proofs.PlaneRuns.{followed, look_listed}
-use Rattle.steps.specs.PlaneSteps.{plane_step_of}
-use Rattle.steps.specs.declared.plane_steps.PlaneStep.{PlaneStep}
-use Rattle.traces.specs.Taken.{opening, plane, followed_by_all}
-use Rattle.cluster.specs.Standing as stored
-use Rattle.cluster.specs.declared.stopped.Stopped.{Stopped}
-use Rattle.cluster.proofs.Headlines.{shown}
+use Rattle.spec_api.specs.declared.kinds.Kind.{Kind}
+use Rattle.spec_server.specs.Snapshots.{Snapshot}
+use Rattle.spec_client_go.specs.Commands.{Command}
+use Rattle.spec_client_go.specs.Hands.{Read}
+use Rattle.spec_sim_cluster.specs.Clusters as clusters
+use Rattle.spec_sim_control_plane.specs.ControlPlanes.{Step}
+use Rattle.spec_sim_control_plane.specs.Managers.{Manager, Issued}
+use Rattle.spec_sim_control_plane.specs.Turns.{Turn, Sight, looked, satisfied}
+use Rattle.sim_worker_laws.specs.IssuedLaws.{IsNext, IsSeen, WasPublished, WasThere}
+use Rattle.sim_worker_laws.specs.LookLaws.{WasIssued}
+use Rattle.sim_worker_laws.specs.TurnLaws.{AreApart}
+use Rattle.sim_worker_laws.proofs.HandRuns.{apart}
+use Rattle.sim_worker_laws.proofs.IssuedRuns.{issued_next}
+use Rattle.sim_worker_laws.proofs.Lists.{all_map}
+use Rattle.sim_worker_laws.proofs.LookRuns.{under_way, were_issued}
+use Rattle.sim_control_plane_laws.specs.PlaneLaws.{IsServerList}
+use Rattle.sim_control_plane_laws.proofs.PlaneRuns.{followed, look_listed}
+use Rattle.sim_steps.specs.PlaneSteps.{plane_step_of}
+use Rattle.sim_steps.specs.declared.plane_steps.PlaneStep.{PlaneStep}
+use Rattle.sim_traces.specs.Taken.{opening, plane, followed_by_all}
+use Rattle.sim_cluster.specs.Standing as stored
+use Rattle.sim_cluster.specs.declared.stopped.Stopped.{Stopped}
+use Rattle.sim_cluster.proofs.Headlines.{shown}
 use Rattle.world.proofs.PlaneHeadlines.{replaces, forgets, rises, takes, spares, overshoots}
 use Rattle.world.proofs.Stood.{stood, run_stood, run_traced}
 use Rattle.world.specs.Headline.{Headline, TurnsAreUnderWay}

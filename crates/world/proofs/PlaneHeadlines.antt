@@ -1,30 +1,30 @@
 -- What holds over every list of steps of a control plane.
 use Rattle.std.proofs.Common.{◌≡◌, ◌≤◌, ◌⊎◌, sym, ap, subst, ◌∙◌, ℕ, List, [], ◌∷◌, ◌++◌, Some, IfSome}
 use Rattle.serde_json.specs.Data.{Data}
-use Rattle.definitions.specs.History.{History, Write, write, present, state}
-use Rattle.definitions.specs.Keys.{Key}
-use Rattle.definitions.specs.Metadata.{version}
-use Rattle.definitions.specs.ObjectRequests.{Request}
-use Rattle.definitions.specs.Verbs.{Outcome, accept, history_after, write_of}
-use Rattle.laws.specs.LifecycleLaws.{ReplacesVersion}
-use Rattle.simulation.specs.Clusters.{history, follower, request, compact, moves, restart}
-use Rattle.simulation_laws.specs.ClusterLaws.{NamesVersion}
-use Rattle.reconciling.specs.ControlPlanes.{ControlPlane, Step, in_cluster, handle, works, tick, step}
-use Rattle.reconciling.specs.Managers.{Manager}
-use Rattle.reconciling.specs.Managers as action
-use Rattle.reconciling.specs.Turns.{Turn, begun}
-use Rattle.controllers.specs.WorkQueues.{WorkKey}
-use Rattle.reconciling_laws.specs.TakeLaws.{HasInHand, HasNothing, TakesTheHead}
-use Rattle.reconciling_laws.proofs.IssuedRuns.{run_one}
-use Rattle.reconciling_laws.proofs.Owed.{nothing_forgotten}
-use Rattle.reconciling_laws.proofs.Takes.{only_takes, takes_give}
-use Rattle.control_plane_laws.proofs.PlaneRuns.{run_append}
-use Rattle.control_plane_laws.proofs.Replacing.{replaced, named_replaced}
-use Rattle.control_plane_laws.proofs.Rising.{revisions_rise}
-use Rattle.collector_laws.proofs.Asked.{written_is}
-use Rattle.collector_laws.proofs.Spared.{spared}
-use Rattle.overshoot_laws.proofs.MadePods.{no_overshoot}
-use Rattle.traces.specs.Taken.{Taken, opening}
+use Rattle.spec_api.specs.History.{History, Write, write, present, state}
+use Rattle.spec_api.specs.Keys.{Key}
+use Rattle.spec_api.specs.Metadata.{version}
+use Rattle.spec_api.specs.ObjectRequests.{Request}
+use Rattle.spec_api.specs.Verbs.{Outcome, accept, history_after, write_of}
+use Rattle.spec_laws.specs.LifecycleLaws.{ReplacesVersion}
+use Rattle.spec_sim_cluster.specs.Clusters.{history, follower, request, compact, moves, restart}
+use Rattle.sim_cluster_laws.specs.ClusterLaws.{NamesVersion}
+use Rattle.spec_sim_control_plane.specs.ControlPlanes.{ControlPlane, Step, in_cluster, handle, works, tick, step}
+use Rattle.spec_sim_control_plane.specs.Managers.{Manager}
+use Rattle.spec_sim_control_plane.specs.Managers as action
+use Rattle.spec_sim_control_plane.specs.Turns.{Turn, begun}
+use Rattle.spec_client_go.specs.WorkQueues.{WorkKey}
+use Rattle.sim_worker_laws.specs.TakeLaws.{HasInHand, HasNothing, TakesTheHead}
+use Rattle.sim_worker_laws.proofs.IssuedRuns.{run_one}
+use Rattle.sim_worker_laws.proofs.Owed.{nothing_forgotten}
+use Rattle.sim_worker_laws.proofs.Takes.{only_takes, takes_give}
+use Rattle.sim_control_plane_laws.proofs.PlaneRuns.{run_append}
+use Rattle.sim_control_plane_laws.proofs.Replacing.{replaced, named_replaced}
+use Rattle.sim_control_plane_laws.proofs.Rising.{revisions_rise}
+use Rattle.sim_collector_laws.proofs.Asked.{written_is}
+use Rattle.sim_collector_laws.proofs.Spared.{spared}
+use Rattle.sim_overshoot_laws.proofs.MadePods.{no_overshoot}
+use Rattle.sim_traces.specs.Taken.{Taken, opening}
 use Rattle.world.specs.Headline.{plane_after, IsAskedBy, ReplacesNamedVersions, ForgetsNothing, RevisionsRise, TakesTheHeads, SparesLiveOwners, NeverOvershoots}
 
 -- ---- conditional writes

@@ -1,21 +1,21 @@
 -- What workers reach of a stored cluster is what they reach of the cluster that it stands for.
 use Rattle.std.proofs.Common.{◌≡◌, refl, ap, ◌∙◌, Option, Some, None}
 use Rattle.std.specs.Prelude.{◌&&◌}
-use Rattle.definitions.specs.History.{found, present, state}
-use Rattle.definitions.specs.Keys.{Key}
-use Rattle.definitions.specs.ObjectRequests.{Request}
-use Rattle.laws.proofs.VerbLaws.{found-state}
-use Rattle.server_state.specs.Snapshots.{Snapshot}
-use Rattle.session.proofs.Followed.{same_outcome}
-use Rattle.simulation.specs.Clusters.{Cluster, history}
-use Rattle.reconciling.specs.ControlPlanes as planes
-use Rattle.cluster.proofs.Requests.{stands_after}
-use Rattle.cluster.proofs.Stood.{same_follower}
-use Rattle.cluster.specs.ClusterStates.{ClusterState}
-use Rattle.cluster.specs.Standing.{StandsFor}
-use Rattle.managers.specs.Reached.{client_of, after_request}
-use Rattle.definitions.specs.Verbs.{write_of}
-use Rattle.session.specs.SessionStates.{accepted}
+use Rattle.spec_api.specs.History.{found, present, state}
+use Rattle.spec_api.specs.Keys.{Key}
+use Rattle.spec_api.specs.ObjectRequests.{Request}
+use Rattle.spec_laws.proofs.VerbLaws.{found-state}
+use Rattle.spec_server.specs.Snapshots.{Snapshot}
+use Rattle.line_session.proofs.Followed.{same_outcome}
+use Rattle.spec_sim_cluster.specs.Clusters.{Cluster, history}
+use Rattle.spec_sim_control_plane.specs.ControlPlanes as planes
+use Rattle.sim_cluster.proofs.Requests.{stands_after}
+use Rattle.sim_cluster.proofs.Stood.{same_follower}
+use Rattle.sim_cluster.specs.ClusterStates.{ClusterState}
+use Rattle.sim_cluster.specs.Standing.{StandsFor}
+use Rattle.sim_manager.specs.Reached.{client_of, after_request}
+use Rattle.spec_api.specs.Verbs.{write_of}
+use Rattle.line_session.specs.SessionStates.{accepted}
 
 -- what is there under a key
 same_live : (w : ClusterState) (c : Cluster) → StandsFor w c → (k : Key) → found k w.session.server.snapshot.members ≡ state (history c) (present (history c)) k

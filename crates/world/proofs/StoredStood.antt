@@ -1,28 +1,28 @@
 -- A stored world stands for a control plane, step after step.
 use Rattle.std.proofs.Common.{◌≡◌, refl, sym, ap, subst, ℕ, ◌+◌, List, [], ◌∷◌, ◌++◌, length, drop, Bool, true, false}
 use Rattle.std.specs.Prelude.{if◌then◌else◌}
-use Rattle.definitions.specs.declared.kinds.Kind.{Kind}
-use Rattle.controllers.specs.Informers.{Looks}
-use Rattle.controllers.specs.OwedKeys.{keys_of}
-use Rattle.controllers.specs.WorkQueues.{WorkKey}
-use Rattle.control.specs.Boards.{observed, may_tick, ticked}
-use Rattle.simulation.specs.declared.initial_syncs.InitialSync.{InitialSync}
-use Rattle.simulation.specs.Clusters as clusters
-use Rattle.simulation.specs.Clusters.{Cluster, ClusterStep}
-use Rattle.simulation.specs.Followers.{Follower, Notification}
-use Rattle.reconciling.specs.ControlPlanes as planes
-use Rattle.reconciling.specs.ControlPlanes.{ControlPlane, Step, in_cluster, handle, works, tick, change_of, manager_after, counted, step_in}
-use Rattle.reconciling.specs.Managers.{Manager, Action, Acted, act}
-use Rattle.reconciling.specs.Outcomes.{of_cluster, handled, time}
-use Rattle.reconciling.specs.PodObservations.{observations}
-use Rattle.reconciling_laws.proofs.Counting.{by_counted}
-use Rattle.cluster.specs.Changes.{looks}
-use Rattle.cluster.specs.ClusterStates.{ClusterState, follower}
-use Rattle.cluster.specs.Standing as stored
-use Rattle.cluster.proofs.Stood as cluster
-use Rattle.cluster.proofs.Taking.{run_last}
-use Rattle.cluster.proofs.Stood.{same_follower, with_same, outcomes_same, stands_for_opened}
-use Rattle.managers.specs.Reached.{client_of, after_request}
+use Rattle.spec_api.specs.declared.kinds.Kind.{Kind}
+use Rattle.spec_client_go.specs.Informers.{Looks}
+use Rattle.spec_client_go.specs.OwedKeys.{keys_of}
+use Rattle.spec_client_go.specs.WorkQueues.{WorkKey}
+use Rattle.spec_work_board.specs.Boards.{observed, may_tick, ticked}
+use Rattle.spec_sim_cluster.specs.declared.initial_syncs.InitialSync.{InitialSync}
+use Rattle.spec_sim_cluster.specs.Clusters as clusters
+use Rattle.spec_sim_cluster.specs.Clusters.{Cluster, ClusterStep}
+use Rattle.spec_sim_cluster.specs.Followers.{Follower, Notification}
+use Rattle.spec_sim_control_plane.specs.ControlPlanes as planes
+use Rattle.spec_sim_control_plane.specs.ControlPlanes.{ControlPlane, Step, in_cluster, handle, works, tick, change_of, manager_after, counted, step_in}
+use Rattle.spec_sim_control_plane.specs.Managers.{Manager, Action, Acted, act}
+use Rattle.spec_sim_control_plane.specs.Outcomes.{of_cluster, handled, time}
+use Rattle.spec_sim_control_plane.specs.PodObservations.{observations}
+use Rattle.sim_worker_laws.proofs.Counting.{by_counted}
+use Rattle.sim_cluster.specs.Changes.{looks}
+use Rattle.sim_cluster.specs.ClusterStates.{ClusterState, follower}
+use Rattle.sim_cluster.specs.Standing as stored
+use Rattle.sim_cluster.proofs.Stood as cluster
+use Rattle.sim_cluster.proofs.Taking.{run_last}
+use Rattle.sim_cluster.proofs.Stood.{same_follower, with_same, outcomes_same, stands_for_opened}
+use Rattle.sim_manager.specs.Reached.{client_of, after_request}
 use Rattle.world.proofs.Reaching.{same_client, request_follows}
 use Rattle.world.specs.StoredStanding.{StandsFor, Stands}
 use Rattle.world.specs.StoredStates.{StoredState, Stepped, opened, closed, step_cluster, owed, handle_in, after_action, tick_in, step, run}

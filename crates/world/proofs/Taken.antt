@@ -3,25 +3,25 @@ use Rattle.std.proofs.Common.{◌≡◌, refl, sym, ap, ap₂, subst, ◌∙◌,
 use Rattle.std.specs.List.{slice_get}
 use Rattle.std.specs.Prelude.{if◌then◌else◌}
 use Rattle.std.proofs.lemmas.List.{length-map}
-use Rattle.definitions.specs.declared.kinds.Kind.{Kind}
-use Rattle.controllers.specs.WorkQueues as queues
-use Rattle.control.specs.Boards.{Observation, observed, may_tick, passed, ticked}
-use Rattle.simulation.specs.declared.initial_syncs.InitialSync.{InitialSync}
-use Rattle.simulation.specs.Clusters.{ClusterStep}
-use Rattle.simulation.specs.Followers.{Notification}
-use Rattle.reconciling.specs.ControlPlanes.{in_cluster, handle, works, tick, manager_after}
-use Rattle.reconciling.specs.Managers as managers
-use Rattle.reconciling.specs.Managers.{Manager, Action, Acted, act}
-use Rattle.reconciling.specs.Outcomes as outcomes
-use Rattle.reconciling.specs.Outcomes.{time}
-use Rattle.reconciling.specs.PodObservations.{observations}
-use Rattle.cluster.specs.Changes.{without_oldest}
-use Rattle.cluster.specs.ClusterStates as clusters
-use Rattle.cluster.specs.ClusterStates.{ClusterState, follower}
-use Rattle.managers.specs.Reached.{client_of, after_request}
-use Rattle.steps.specs.Steps.{step_of}
-use Rattle.steps.specs.declared.steps.Step as code
-use Rattle.steps.specs.declared.steps.Step.TheVariants.{Request, Compact, Moves, Restart}
+use Rattle.spec_api.specs.declared.kinds.Kind.{Kind}
+use Rattle.spec_client_go.specs.WorkQueues as queues
+use Rattle.spec_work_board.specs.Boards.{Observation, observed, may_tick, passed, ticked}
+use Rattle.spec_sim_cluster.specs.declared.initial_syncs.InitialSync.{InitialSync}
+use Rattle.spec_sim_cluster.specs.Clusters.{ClusterStep}
+use Rattle.spec_sim_cluster.specs.Followers.{Notification}
+use Rattle.spec_sim_control_plane.specs.ControlPlanes.{in_cluster, handle, works, tick, manager_after}
+use Rattle.spec_sim_control_plane.specs.Managers as managers
+use Rattle.spec_sim_control_plane.specs.Managers.{Manager, Action, Acted, act}
+use Rattle.spec_sim_control_plane.specs.Outcomes as outcomes
+use Rattle.spec_sim_control_plane.specs.Outcomes.{time}
+use Rattle.spec_sim_control_plane.specs.PodObservations.{observations}
+use Rattle.sim_cluster.specs.Changes.{without_oldest}
+use Rattle.sim_cluster.specs.ClusterStates as clusters
+use Rattle.sim_cluster.specs.ClusterStates.{ClusterState, follower}
+use Rattle.sim_manager.specs.Reached.{client_of, after_request}
+use Rattle.sim_steps.specs.Steps.{step_of}
+use Rattle.sim_steps.specs.declared.steps.Step as code
+use Rattle.sim_steps.specs.declared.steps.Step.TheVariants.{Request, Compact, Moves, Restart}
 use Rattle.work_keys.specs.WorkKeys.{work_key_of}
 use Rattle.work_keys.specs.declared.work_key.WorkKey.{WorkKey}
 use Rattle.world.proofs.StoredStood.{stands_opened, stood}

@@ -2,36 +2,36 @@
 -- that was opened, and all steps that were taken since, whichever calls took them.
 use Rattle.std.specs.Prelude.{◌≡◌, ◌≤◌, ◌⊎◌, ℕ, List, [], ◌∷◌, ◌++◌, true, Some, slice_get}
 use Rattle.std.specs.List.{AllByRecursion}
-use Rattle.definitions.specs.declared.kinds.Kind.{Kind}
+use Rattle.spec_api.specs.declared.kinds.Kind.{Kind}
 use Rattle.serde_json.specs.Data.{Data}
-use Rattle.definitions.specs.History as history
-use Rattle.definitions.specs.History.{History, write, present, state}
-use Rattle.definitions.specs.Keys.{Key}
-use Rattle.definitions.specs.Metadata.{version}
-use Rattle.definitions.specs.ObjectRequests.{Request}
-use Rattle.controllers.specs.Commands.{Command}
-use Rattle.controllers.specs.Expectations.{Owner}
-use Rattle.controllers.specs.WorkQueues.{WorkKey}
-use Rattle.simulation.specs.Clusters as clusters
-use Rattle.simulation.specs.Clusters.{follower, request, moves}
-use Rattle.simulation.specs.Followers.{Notification}
-use Rattle.simulation.specs.Moves.{publish}
-use Rattle.simulation_laws.specs.ClusterLaws.{Asks, NamesVersion}
-use Rattle.reconciling.specs.ControlPlanes as planes
-use Rattle.reconciling.specs.ControlPlanes.{ControlPlane, Step, in_cluster, works, client, have_all_listed}
-use Rattle.reconciling.specs.Managers.{Issued, Action, act, take}
-use Rattle.reconciling.specs.Turns.{Turn, begun}
-use Rattle.reconciling_laws.specs.IssuedLaws.{IsNext, WasThere}
-use Rattle.reconciling_laws.specs.LookLaws.{WasPublishedSince, IsUnderWay, WasIssued}
-use Rattle.reconciling_laws.specs.OwedLaws.{IsAmong, NoRestart, IsKept, published}
-use Rattle.reconciling_laws.specs.TakeLaws.{HasInHand, HasNothing, TakesTheHead}
-use Rattle.reconciling_laws.specs.TurnLaws.{AreApart}
-use Rattle.control_plane_laws.specs.PlaneLaws.{IsServerList}
-use Rattle.collector_laws.specs.SparingLaws as collector
-use Rattle.collector_laws.specs.SparingLaws.{IsOfTheCollector}
-use Rattle.overshoot_laws.specs.Overshoot.{LetAlone, NeverMoreThanDeclared}
-use Rattle.traces.specs.Taken.{Taken, opening, plane}
-use Rattle.cluster.specs.Headline.{ShowsLists}
+use Rattle.spec_api.specs.History as history
+use Rattle.spec_api.specs.History.{History, write, present, state}
+use Rattle.spec_api.specs.Keys.{Key}
+use Rattle.spec_api.specs.Metadata.{version}
+use Rattle.spec_api.specs.ObjectRequests.{Request}
+use Rattle.spec_client_go.specs.Commands.{Command}
+use Rattle.spec_client_go.specs.Expectations.{Owner}
+use Rattle.spec_client_go.specs.WorkQueues.{WorkKey}
+use Rattle.spec_sim_cluster.specs.Clusters as clusters
+use Rattle.spec_sim_cluster.specs.Clusters.{follower, request, moves}
+use Rattle.spec_sim_cluster.specs.Followers.{Notification}
+use Rattle.spec_sim_cluster.specs.Moves.{publish}
+use Rattle.sim_cluster_laws.specs.ClusterLaws.{Asks, NamesVersion}
+use Rattle.spec_sim_control_plane.specs.ControlPlanes as planes
+use Rattle.spec_sim_control_plane.specs.ControlPlanes.{ControlPlane, Step, in_cluster, works, client, have_all_listed}
+use Rattle.spec_sim_control_plane.specs.Managers.{Issued, Action, act, take}
+use Rattle.spec_sim_control_plane.specs.Turns.{Turn, begun}
+use Rattle.sim_worker_laws.specs.IssuedLaws.{IsNext, WasThere}
+use Rattle.sim_worker_laws.specs.LookLaws.{WasPublishedSince, IsUnderWay, WasIssued}
+use Rattle.sim_worker_laws.specs.OwedLaws.{IsAmong, NoRestart, IsKept, published}
+use Rattle.sim_worker_laws.specs.TakeLaws.{HasInHand, HasNothing, TakesTheHead}
+use Rattle.sim_worker_laws.specs.TurnLaws.{AreApart}
+use Rattle.sim_control_plane_laws.specs.PlaneLaws.{IsServerList}
+use Rattle.sim_collector_laws.specs.SparingLaws as collector
+use Rattle.sim_collector_laws.specs.SparingLaws.{IsOfTheCollector}
+use Rattle.sim_overshoot_laws.specs.Overshoot.{LetAlone, NeverMoreThanDeclared}
+use Rattle.sim_traces.specs.Taken.{Taken, opening, plane}
+use Rattle.sim_cluster.specs.Headline.{ShowsLists}
 use Rattle.world.specs.Standing.{StandsFor}
 use Rattle.world.specs.WorldStates.{WorldState}
 

@@ -1,6 +1,6 @@
 -- What a world stands for.
-use Rattle.reconciling.specs.ControlPlanes.{ControlPlane}
-use Rattle.traces.specs.Taken.{plane}
+use Rattle.spec_sim_control_plane.specs.ControlPlanes.{ControlPlane}
+use Rattle.sim_traces.specs.Taken.{plane}
 use Rattle.world.specs.StoredStanding as stored
 use Rattle.world.specs.WorldStates.{WorldState}
 

@@ -1,9 +1,9 @@
 -- What a stored world stands for.
 use Rattle.std.specs.Prelude.{◌≡◌, ℕ, List}
-use Rattle.simulation.specs.declared.initial_syncs.InitialSync.{InitialSync}
-use Rattle.reconciling.specs.ControlPlanes as planes
-use Rattle.reconciling.specs.ControlPlanes.{ControlPlane, Step}
-use Rattle.cluster.specs.Standing as cluster
+use Rattle.spec_sim_cluster.specs.declared.initial_syncs.InitialSync.{InitialSync}
+use Rattle.spec_sim_control_plane.specs.ControlPlanes as planes
+use Rattle.spec_sim_control_plane.specs.ControlPlanes.{ControlPlane, Step}
+use Rattle.sim_cluster.specs.Standing as cluster
 use Rattle.world.specs.StoredStates.{StoredState}
 
 -- its cluster stands for that of the control plane, and its manager is the same; it does not count the steps that were taken

@@ -1,23 +1,23 @@
 -- A world as it is stored, and how it goes on: a stored cluster stands in the place of all that has happened.
 use Rattle.std.specs.Prelude.{ℕ, ◌+◌, List, [], ◌∷◌, length, refl, if◌then◌else◌}
 use Rattle.std.specs.Coded.{Coded, code_by, coded×}
-use Rattle.definitions.specs.declared.kinds.Kind.{Kind}
-use Rattle.control.specs.Boards.{observed, may_tick, ticked}
-use Rattle.controllers.specs.OwedKeys.{keys_of}
-use Rattle.controllers.specs.WorkQueues.{WorkKey}
-use Rattle.simulation.specs.declared.initial_syncs.InitialSync.{InitialSync}
-use Rattle.simulation.specs.Clusters.{ClusterStep}
-use Rattle.simulation.specs.Followers.{Notification}
-use Rattle.reconciling.specs.ControlPlanes.{Step, in_cluster, handle, works, tick, change_of, manager_after}
-use Rattle.reconciling.specs.Managers as managers
-use Rattle.reconciling.specs.Managers.{Manager, Acted, act}
-use Rattle.reconciling.specs.Outcomes.{Outcome, of_cluster, handled, time, no_step}
-use Rattle.reconciling.specs.PodObservations.{observations}
-use Rattle.cluster.specs.Changes.{looks, without_oldest}
-use Rattle.cluster.specs.ClusterStates as clusters
-use Rattle.cluster.specs.ClusterStates.{ClusterState, coded_cluster, follower}
-use Rattle.managers.specs.Codes.{coded_manager}
-use Rattle.managers.specs.Reached.{client_of, after_request}
+use Rattle.spec_api.specs.declared.kinds.Kind.{Kind}
+use Rattle.spec_work_board.specs.Boards.{observed, may_tick, ticked}
+use Rattle.spec_client_go.specs.OwedKeys.{keys_of}
+use Rattle.spec_client_go.specs.WorkQueues.{WorkKey}
+use Rattle.spec_sim_cluster.specs.declared.initial_syncs.InitialSync.{InitialSync}
+use Rattle.spec_sim_cluster.specs.Clusters.{ClusterStep}
+use Rattle.spec_sim_cluster.specs.Followers.{Notification}
+use Rattle.spec_sim_control_plane.specs.ControlPlanes.{Step, in_cluster, handle, works, tick, change_of, manager_after}
+use Rattle.spec_sim_control_plane.specs.Managers as managers
+use Rattle.spec_sim_control_plane.specs.Managers.{Manager, Acted, act}
+use Rattle.spec_sim_control_plane.specs.Outcomes.{Outcome, of_cluster, handled, time, no_step}
+use Rattle.spec_sim_control_plane.specs.PodObservations.{observations}
+use Rattle.sim_cluster.specs.Changes.{looks, without_oldest}
+use Rattle.sim_cluster.specs.ClusterStates as clusters
+use Rattle.sim_cluster.specs.ClusterStates.{ClusterState, coded_cluster, follower}
+use Rattle.sim_manager.specs.Codes.{coded_manager}
+use Rattle.sim_manager.specs.Reached.{client_of, after_request}
 
 -- a cluster, and the controller manager
 pub record StoredState : Type 0 where

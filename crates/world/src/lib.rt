@@ -11,4 +11,7 @@ mod stored_worlds;
 pub mod worlds;
 
 pub use outcomes::Outcome;
+pub use sim_cluster::Stopped;
+pub use sim_manager::Issued;
+pub use sim_steps::{Config, Step};
 pub use worlds::World;

@@ -1,6 +1,6 @@
 //! What comes of a step.
-use followers::ClusterOutcome;
-use managers::ToldOutcome;
+use sim_followers::ClusterOutcome;
+use sim_manager::ToldOutcome;
 
 /// What came of a step of a world.
 #[derive(Drop)]

@@ -1,26 +1,26 @@
 //! What is stored of worlds.
 ghost use Rattle.std.specs.Prelude.{◌≡◌, IfOk, map};
-ghost use Rattle.control_desk.specs.Seen.{observation_of};
-ghost use Rattle.followers.specs.Notified.{notification_of};
-ghost use Rattle.reconciling.specs.PodObservations.{observations};
+ghost use Rattle.work_board.specs.Seen.{observation_of};
+ghost use Rattle.sim_followers.specs.Notified.{notification_of};
+ghost use Rattle.spec_sim_control_plane.specs.PodObservations.{observations};
 ghost use Rattle.work_keys.specs.WorkKeys.{work_key_of};
 ghost use Rattle.world.specs.StoredStates.{owed};
 
 use crate::outcomes::Outcome;
-use cluster::Cluster;
-use control_desk::Observation;
-use definitions::kinds::Kind;
-use followers::Notification;
-use informer::keys_of;
-use managers::{Manager, ToldOutcome, WorkOutcome};
+use plain_informer::keys_of;
 use pod_observations::{object_in, observations};
-use recorded_sessions::Entry;
+use sim_cluster::Cluster;
+use sim_followers::Notification;
+use sim_manager::{Manager, ToldOutcome, WorkOutcome};
+use sim_server::JournalEntry;
+use sim_steps::{Action, Config, PlaneStep, Step};
+use sim_worker_slots::{Issued, Slots};
+use spec_api::kinds::Kind;
 use std::alloc::{AllocError, Global};
 use std::marker::Model;
 use std::sync::Arc;
-use steps::{Action, Config, PlaneStep, Step};
+use work_board::Observation;
 use work_keys::WorkKey;
-use worker_slots::{Issued, Slots};
 
 /// A cluster, and the controller manager beside it.
 #[derive(Drop)]
@@ -71,14 +71,14 @@ fn owed(alloc: Global, cluster: &Cluster, change: &Notification) -> Result<Vec<W
 impl StoredWorld {
     ghost use Rattle.std.specs.Prelude.{◌≡◌, IfOk, OnOk, OnErr, map};
     ghost use Rattle.std.specs.Arc.{arc_value};
-    ghost use Rattle.cluster.specs.ClusterStates.{follower};
-    ghost use Rattle.managers.specs.Reached.{client_of};
-    ghost use Rattle.reconciling.specs.Managers.{act};
-    ghost use Rattle.steps.specs.Actions.{action_of};
-    ghost use Rattle.steps.specs.PlaneSteps.{plane_step_of};
-    ghost use Rattle.steps.specs.Steps.{step_of};
-    ghost use Rattle.recorded_sessions.specs.Entries.{entry_of};
-    ghost use Rattle.worker_slots.specs.Seen.{issued_of};
+    ghost use Rattle.sim_cluster.specs.ClusterStates.{follower};
+    ghost use Rattle.sim_manager.specs.Reached.{client_of};
+    ghost use Rattle.spec_sim_control_plane.specs.Managers.{act};
+    ghost use Rattle.sim_steps.specs.Actions.{action_of};
+    ghost use Rattle.sim_steps.specs.PlaneSteps.{plane_step_of};
+    ghost use Rattle.sim_steps.specs.Steps.{step_of};
+    ghost use Rattle.sim_server.specs.Entries.{entry_of};
+    ghost use Rattle.sim_worker_slots.specs.Seen.{issued_of};
     ghost use Rattle.world.specs.Outcomes.{outcome_of};
     ghost use Rattle.world.specs.StoredStates.{opened, step, step_cluster, handle_in, after_action, tick_in};
 
@@ -182,7 +182,7 @@ impl StoredWorld {
     }
 
     /// Returns the journal of all that has happened.
-    pub(crate) fn journal(&self) -> &[Entry]
+    pub(crate) fn journal(&self) -> &[JournalEntry]
         ensures { map entry_of result.now ≡ self.now.cluster.journal }
     {
         self.cluster.journal()

@@ -1,14 +1,14 @@
 //! Worlds.
 use crate::outcomes::Outcome;
 use crate::stored_worlds::StoredWorld;
-use cluster::Stopped;
-use recorded_sessions::Entry;
+use sim_cluster::Stopped;
+use sim_server::JournalEntry;
+use sim_steps::{Config, PlaneStep};
+use sim_traces::Trace;
+use sim_worker_slots::{Issued, Slots};
 use std::alloc::{AllocError, Global};
 use std::marker::Model;
 use std::sync::Arc;
-use steps::{Config, PlaneStep};
-use traces::Trace;
-use worker_slots::{Issued, Slots};
 
 /// A cluster, and the controller manager beside it, with the steps that were taken since it was opened, which only proofs read.
 #[derive(Drop)]
@@ -33,11 +33,11 @@ impl Model for World {
 impl World {
     ghost use Rattle.std.specs.Prelude.{◌≡◌, ◌<◌, IfOk, IfErr, OnOk, OnErr, length, map, take};
     ghost use Rattle.std.specs.Arc.{arc_value};
-    ghost use Rattle.reconciling.specs.ControlPlanes as planes;
-    ghost use Rattle.recorded_sessions.specs.Entries.{entry_of};
-    ghost use Rattle.steps.specs.PlaneSteps.{plane_step_of};
-    ghost use Rattle.traces.specs.Taken.{plane, followed, followed_by_all};
-    ghost use Rattle.worker_slots.specs.Seen.{issued_of};
+    ghost use Rattle.spec_sim_control_plane.specs.ControlPlanes as planes;
+    ghost use Rattle.sim_server.specs.Entries.{entry_of};
+    ghost use Rattle.sim_steps.specs.PlaneSteps.{plane_step_of};
+    ghost use Rattle.sim_traces.specs.Taken.{plane, followed, followed_by_all};
+    ghost use Rattle.sim_worker_slots.specs.Seen.{issued_of};
     ghost use Rattle.world.specs.Headline.{Headline};
     ghost use Rattle.world.specs.Outcomes.{outcome_of};
     ghost use Rattle.world.specs.WorldStates.{opened, step, run};
@@ -141,7 +141,7 @@ impl World {
 
     /// Returns the journal of all that has happened since the world was opened: the writes and the compactions, the oldest first. It takes
     /// no memory.
-    pub fn journal(&self) -> &[Entry]
+    pub fn journal(&self) -> &[JournalEntry]
         ensures journal { map entry_of result.now ≡ self.now.stored.cluster.journal }
         ensures headline { Headline self.now }
     {

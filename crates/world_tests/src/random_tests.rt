@@ -1,15 +1,15 @@
 //! A random run of a simulated cluster.
-use cluster::Cluster;
-use definitions::kinds::Kind;
-use followers::ClusterOutcome;
 use meta::{Member, Write};
-use recorded_sessions::Entry as Happened;
+use reconcile_types::Entry;
 use revisions::Journal;
 use selector::View;
+use sim_cluster::Cluster;
+use sim_followers::ClusterOutcome;
+use sim_server::JournalEntry as Happened;
+use sim_steps::{InitialSync, Move, Step};
+use spec_api::kinds::Kind;
 use std::alloc::{AllocError, Global};
 use std::test::Fail;
-use steps::{InitialSync, Move, Step};
-use turns::Entry;
 
 /// How many steps are taken.
 const STEPS: usize = 10_000;

@@ -1,9 +1,9 @@
 //! Worked examples, each taken at once as one list of steps.
-use definitions::kinds::Kind;
-use recorded_sessions::Entry;
+use reconcile_types::Command;
+use sim_server::JournalEntry;
+use sim_steps::{Action, Config, Delivery, InitialSync, Move, PlaneStep, Step};
+use spec_api::kinds::Kind;
 use std::alloc::{AllocError, Global};
-use steps::{Action, Config, Delivery, InitialSync, Move, PlaneStep, Step};
-use turns::Command;
 use world::World;
 
 /// A ConfigMap.
@@ -89,10 +89,10 @@ fn word_of(command: &Command) -> &'static str {
 
 /// Returns what an entry of a journal says, as a line: the name and the `resourceVersion` of the object that was put, that one was removed, or
 /// up to where was compacted.
-fn line_of(alloc: Global, entry: &Entry) -> Result<String, AllocError> {
+fn line_of(alloc: Global, entry: &JournalEntry) -> Result<String, AllocError> {
     match entry {
-        Entry::Compaction(revision) => format!(in alloc; "compacted {revision}\n"),
-        Entry::Write(write) => match &write.put {
+        JournalEntry::Compaction(revision) => format!(in alloc; "compacted {revision}\n"),
+        JournalEntry::Write(write) => match &write.put {
             None => format!(in alloc; "removed\n"),
             Some(stored) => {
                 let object = stored.open(alloc)?;

@@ -3,19 +3,19 @@ use Rattle.std.specs.Prelude.{ℕ, List, [], Bool, true, not, ◌&&◌, ◌||◌
 use Rattle.std.specs.Str.{bytes_eq}
 use Rattle.serde_json.specs.Data.{Data, string, array, Items, no_items, item, Members, put}
 use Rattle.serde_json.specs.Events.{items_len}
-use Rattle.definitions.specs.declared.kinds.Kind.{Kind}
-use Rattle.definitions.specs.declared.kinds.Kind.TheVariants.{Pod}
-use Rattle.definitions.specs.declared.policies.Policy.{Policy}
-use Rattle.definitions.specs.declared.policies.Policy.TheVariants.{Orphan, Foreground, Background}
-use Rattle.definitions.specs.declared.refusals.Mismatch.{Mismatch}
-use Rattle.definitions.specs.declared.refusals.Mismatch.TheVariants as mismatch
-use Rattle.definitions.specs.Objects.Checks.{finalizers, text_is, has_text}
-use Rattle.definitions.specs.Requests.DeleteOptions.{Options}
-use Rattle.definitions.specs.Texts.Kinds.{has_generation}
-use Rattle.definitions.specs.Objects.Metadata.{metadata_of, with_metadata, at_revision, uid, version, is_being_deleted, differs}
-use Rattle.definitions.specs.Texts.Keys.{Key}
-use Rattle.definitions.specs.Objects.Refusals.{success_body}
-use Rattle.definitions.specs.Objects.Replacements.{with_next_generation}
+use Rattle.spec_api.specs.declared.kinds.Kind.{Kind}
+use Rattle.spec_api.specs.declared.kinds.Kind.TheVariants.{Pod}
+use Rattle.spec_api.specs.declared.policies.Policy.{Policy}
+use Rattle.spec_api.specs.declared.policies.Policy.TheVariants.{Orphan, Foreground, Background}
+use Rattle.spec_api.specs.declared.refusals.Mismatch.{Mismatch}
+use Rattle.spec_api.specs.declared.refusals.Mismatch.TheVariants as mismatch
+use Rattle.spec_api.specs.Objects.Checks.{finalizers, text_is, has_text}
+use Rattle.spec_api.specs.Requests.DeleteOptions.{Options}
+use Rattle.spec_api.specs.Texts.Kinds.{has_generation}
+use Rattle.spec_api.specs.Objects.Metadata.{metadata_of, with_metadata, at_revision, uid, version, is_being_deleted, differs}
+use Rattle.spec_api.specs.Texts.Keys.{Key}
+use Rattle.spec_api.specs.Objects.Refusals.{success_body}
+use Rattle.spec_api.specs.Objects.Replacements.{with_next_generation}
 
 -- ---- finalizers
 

@@ -2,14 +2,14 @@
 use Rattle.std.specs.Prelude.{ℕ, Bool, not, ◌&&◌, ◌==◌, length, Option, Some, None, option_map, Result, Ok, Err, codes, if◌then◌else◌}
 use Rattle.serde_json.specs.Data as json
 use Rattle.serde_json.specs.Data.{Data, string, number, unsigned, member}
-use Rattle.definitions.specs.declared.kinds.Kind.{Kind}
-use Rattle.definitions.specs.State.History.{History, View}
-use Rattle.definitions.specs.Requests.ListQueries.{ListOptions}
-use Rattle.definitions.specs.State.Pages.{Place, Page, page_of, remaining}
-use Rattle.definitions.specs.Requests.PageTokens.{Token, token_text}
-use Rattle.definitions.specs.Objects.Refusals.{Refusal, with_optional}
-use Rattle.definitions.specs.Answers.Verbs.{Outcome, refused, shown, at_version, list_with}
-use Rattle.definitions.specs.Answers.Versions.{Listed, list_for}
+use Rattle.spec_api.specs.declared.kinds.Kind.{Kind}
+use Rattle.spec_api.specs.State.History.{History, View}
+use Rattle.spec_api.specs.Requests.ListQueries.{ListOptions}
+use Rattle.spec_api.specs.State.Pages.{Place, Page, page_of, remaining}
+use Rattle.spec_api.specs.Requests.PageTokens.{Token, token_text}
+use Rattle.spec_api.specs.Objects.Refusals.{Refusal, with_optional}
+use Rattle.spec_api.specs.Answers.Verbs.{Outcome, refused, shown, at_version, list_with}
+use Rattle.spec_api.specs.Answers.Versions.{Listed, list_for}
 
 -- the token that asks for what comes after a place, in the list at revision r
 abbrev pub token_after : ℕ → Place → Token

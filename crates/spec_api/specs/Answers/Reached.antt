@@ -5,10 +5,10 @@ use Rattle.std.specs.declared.cmp.Ordering.TheVariants.{Less}
 use Rattle.std.specs.Cmp.Lexicographic.{slice_cmp}
 use Rattle.std.specs.Str.{IsUtf8}
 use Rattle.serde_json.specs.Data.{Num, unsigned, negative, float, Data, number, string, array, object, Items, no_items, item, Members, no_members, member}
-use Rattle.definitions.specs.State.History.{History, compaction, present}
-use Rattle.definitions.specs.Texts.Keys.{is_namespace}
-use Rattle.definitions.specs.Answers.Verbs.{accept, history_after}
-use Rattle.definitions.specs.Requests.ObjectRequests.{Request, create_object, update_object, update_status, patch_object}
+use Rattle.spec_api.specs.State.History.{History, compaction, present}
+use Rattle.spec_api.specs.Texts.Keys.{is_namespace}
+use Rattle.spec_api.specs.Answers.Verbs.{accept, history_after}
+use Rattle.spec_api.specs.Requests.ObjectRequests.{Request, create_object, update_object, update_status, patch_object}
 
 -- ---- what is asked
 

@@ -4,29 +4,29 @@ use Rattle.std.specs.Result.{result_map_both}
 use Rattle.serde_json.specs.Data.{Data, string, array, object, Members, no_members, member}
 use Rattle.serde_json.specs.View.{items_of}
 use Rattle.serde_json.specs.Written.{compact_text}
-use Rattle.definitions.specs.declared.kinds.Kind.{Kind}
-use Rattle.definitions.specs.declared.refusals.Part.{Part}
-use Rattle.definitions.specs.declared.refusals.Part.TheVariants as part
-use Rattle.definitions.specs.declared.refusals.Mismatch.{Mismatch}
-use Rattle.definitions.specs.declared.refusals.Mismatch.TheVariants as mismatch
-use Rattle.definitions.specs.declared.refusals.Field.{Field}
-use Rattle.definitions.specs.declared.refusals.Field.TheVariants as field
-use Rattle.definitions.specs.Objects.Checks.{generate_name, create_fault, update_fault, is_status_valid}
-use Rattle.definitions.specs.Objects.Defaults.{defaulted}
-use Rattle.definitions.specs.Texts.GeneratedNames.{name_from}
-use Rattle.definitions.specs.Texts.Kinds.{api_version, kind_text, has_status}
-use Rattle.definitions.specs.Texts.Keys.{Key}
-use Rattle.definitions.specs.State.History as history
-use Rattle.definitions.specs.State.History.{History, Write, write, View, viewed, entries_at, found, present}
-use Rattle.definitions.specs.Requests.ObjectRequests.{Request, get_object, list_objects, create_object, update_object, update_status, patch_object, delete_object}
-use Rattle.definitions.specs.Answers.Deletion.{Fate, remove, mark, keep, decided, removal_of, kept_code}
-use Rattle.definitions.specs.Objects.Metadata.{metadata_of, at_revision, name, namespace, uid, version, is_other, differs}
-use Rattle.definitions.specs.Objects.Reading.{is_body, reading}
-use Rattle.definitions.specs.Objects.Refusals.{Refusal, bad_request, not_found, already_exists, conflict, invalid, too_large, storage_full, code, status_body}
-use Rattle.definitions.specs.Objects.NewObjects.{created, with_first_status}
-use Rattle.definitions.specs.Objects.Replacements.{in_place, is_finalized, says_the_same, updated, with_status_in}
-use Rattle.definitions.specs.Texts.Revisions.{greatest_revision}
-use Rattle.definitions.specs.Texts.Values.{members_of, merged, without}
+use Rattle.spec_api.specs.declared.kinds.Kind.{Kind}
+use Rattle.spec_api.specs.declared.refusals.Part.{Part}
+use Rattle.spec_api.specs.declared.refusals.Part.TheVariants as part
+use Rattle.spec_api.specs.declared.refusals.Mismatch.{Mismatch}
+use Rattle.spec_api.specs.declared.refusals.Mismatch.TheVariants as mismatch
+use Rattle.spec_api.specs.declared.refusals.Field.{Field}
+use Rattle.spec_api.specs.declared.refusals.Field.TheVariants as field
+use Rattle.spec_api.specs.Objects.Checks.{generate_name, create_fault, update_fault, is_status_valid}
+use Rattle.spec_api.specs.Objects.Defaults.{defaulted}
+use Rattle.spec_api.specs.Texts.GeneratedNames.{name_from}
+use Rattle.spec_api.specs.Texts.Kinds.{api_version, kind_text, has_status}
+use Rattle.spec_api.specs.Texts.Keys.{Key}
+use Rattle.spec_api.specs.State.History as history
+use Rattle.spec_api.specs.State.History.{History, Write, write, View, viewed, entries_at, found, present}
+use Rattle.spec_api.specs.Requests.ObjectRequests.{Request, get_object, list_objects, create_object, update_object, update_status, patch_object, delete_object}
+use Rattle.spec_api.specs.Answers.Deletion.{Fate, remove, mark, keep, decided, removal_of, kept_code}
+use Rattle.spec_api.specs.Objects.Metadata.{metadata_of, at_revision, name, namespace, uid, version, is_other, differs}
+use Rattle.spec_api.specs.Objects.Reading.{is_body, reading}
+use Rattle.spec_api.specs.Objects.Refusals.{Refusal, bad_request, not_found, already_exists, conflict, invalid, too_large, storage_full, code, status_body}
+use Rattle.spec_api.specs.Objects.NewObjects.{created, with_first_status}
+use Rattle.spec_api.specs.Objects.Replacements.{in_place, is_finalized, says_the_same, updated, with_status_in}
+use Rattle.spec_api.specs.Texts.Revisions.{greatest_revision}
+use Rattle.spec_api.specs.Texts.Values.{members_of, merged, without}
 
 -- ---- outcomes
 

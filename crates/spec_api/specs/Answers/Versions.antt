@@ -1,12 +1,12 @@
 -- Lists at versions, watches a part at a time, and compactions: what is answered, by what has happened.
 use Rattle.std.specs.Prelude.{ℕ, ◌+◌, List, [], ◌∷◌, ◌++◌, take, length, nat_le, nat_lt, Result, Ok, Err, if◌then◌else◌}
 use Rattle.std.specs.Result.{result_map_both}
-use Rattle.definitions.specs.declared.versions.At.{At}
-use Rattle.definitions.specs.declared.versions.At.TheVariants.{Present, NotOlder, Exact}
-use Rattle.definitions.specs.State.History.{History, compaction, View, Entries, present, list}
-use Rattle.definitions.specs.Objects.Refusals.{Refusal, too_new}
-use Rattle.definitions.specs.State.Events.{Event}
-use Rattle.definitions.specs.State.Windows.{since, list_within}
+use Rattle.spec_api.specs.declared.versions.At.{At}
+use Rattle.spec_api.specs.declared.versions.At.TheVariants.{Present, NotOlder, Exact}
+use Rattle.spec_api.specs.State.History.{History, compaction, View, Entries, present, list}
+use Rattle.spec_api.specs.Objects.Refusals.{Refusal, too_new}
+use Rattle.spec_api.specs.State.Events.{Event}
+use Rattle.spec_api.specs.State.Windows.{since, list_within}
 
 -- ---- lists
 

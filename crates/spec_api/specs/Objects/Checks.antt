@@ -5,20 +5,20 @@ use Rattle.std.specs.Option.{option_or}
 use Rattle.std.specs.Result.{result_ok}
 use Rattle.std.specs.Str.{bytes_eq}
 use Rattle.std.specs.Str.Parse.{digits_value}
-use Rattle.definitions.specs.Texts.Values.{Data, Items, no_items, item, Members, no_members, member, get, as_str, as_number, as_i64, compact_text}
-use Rattle.definitions.specs.declared.amounts.Amount.{Amount}
-use Rattle.definitions.specs.declared.amounts.Amount.TheVariants.{Pods, Percent}
-use Rattle.definitions.specs.declared.kinds.Kind.{Kind}
-use Rattle.definitions.specs.declared.kinds.Kind.TheVariants.{ReplicaSet, Deployment}
-use Rattle.definitions.specs.declared.refusals.Field.{Field}
-use Rattle.definitions.specs.declared.refusals.Field.TheVariants as field
-use Rattle.definitions.specs.Texts.Labels.{is_label_key, is_label_value}
-use Rattle.definitions.specs.Objects.Metadata.{labels_of, Owner, metadata, metadata_text, name, is_being_deleted, owners, text_at}
-use Rattle.definitions.specs.Texts.Moments.{is_digit}
-use Rattle.definitions.specs.Texts.Keys.{is_letter_or_digit, is_subdomain}
-use Rattle.definitions.specs.Texts.Selectors.{Requirement, meets_all}
-use Rattle.definitions.specs.Objects.SelectorValues.{all_items, items_in, is_some_and, selector_of_value}
-use Rattle.definitions.specs.Texts.Uids.{uid_text, uid_revision, cluster_word}
+use Rattle.spec_api.specs.Texts.Values.{Data, Items, no_items, item, Members, no_members, member, get, as_str, as_number, as_i64, compact_text}
+use Rattle.spec_api.specs.declared.amounts.Amount.{Amount}
+use Rattle.spec_api.specs.declared.amounts.Amount.TheVariants.{Pods, Percent}
+use Rattle.spec_api.specs.declared.kinds.Kind.{Kind}
+use Rattle.spec_api.specs.declared.kinds.Kind.TheVariants.{ReplicaSet, Deployment}
+use Rattle.spec_api.specs.declared.refusals.Field.{Field}
+use Rattle.spec_api.specs.declared.refusals.Field.TheVariants as field
+use Rattle.spec_api.specs.Texts.Labels.{is_label_key, is_label_value}
+use Rattle.spec_api.specs.Objects.Metadata.{labels_of, Owner, metadata, metadata_text, name, is_being_deleted, owners, text_at}
+use Rattle.spec_api.specs.Texts.Moments.{is_digit}
+use Rattle.spec_api.specs.Texts.Keys.{is_letter_or_digit, is_subdomain}
+use Rattle.spec_api.specs.Texts.Selectors.{Requirement, meets_all}
+use Rattle.spec_api.specs.Objects.SelectorValues.{all_items, items_in, is_some_and, selector_of_value}
+use Rattle.spec_api.specs.Texts.Uids.{uid_text, uid_revision, cluster_word}
 
 -- the test of what is there; what is absent passes none
 abbrev pub passes_if_there : {A : Type 0} → (A → Bool) → Option A → Bool

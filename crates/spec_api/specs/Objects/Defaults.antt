@@ -1,12 +1,12 @@
 -- What is filled in where it is absent, before an object is checked and stored (Kubernetes API reference, ReplicaSetSpec and DeploymentSpec).
 use Rattle.std.specs.Prelude.{ℕ, List, Bool, option_map, unwrap_or, codes, if◌then◌else◌}
 use Rattle.std.specs.Str.{bytes_eq}
-use Rattle.definitions.specs.Texts.Values.{Data, number, unsigned, string, get, with_member, with_default}
-use Rattle.definitions.specs.declared.kinds.Kind.{Kind}
-use Rattle.definitions.specs.declared.kinds.Kind.TheVariants.{ReplicaSet, Deployment}
-use Rattle.definitions.specs.Objects.Metadata.{text_at}
-use Rattle.definitions.specs.Objects.Reading.{empty}
-use Rattle.definitions.specs.Objects.SelectorValues.{is_some_and}
+use Rattle.spec_api.specs.Texts.Values.{Data, number, unsigned, string, get, with_member, with_default}
+use Rattle.spec_api.specs.declared.kinds.Kind.{Kind}
+use Rattle.spec_api.specs.declared.kinds.Kind.TheVariants.{ReplicaSet, Deployment}
+use Rattle.spec_api.specs.Objects.Metadata.{text_at}
+use Rattle.spec_api.specs.Objects.Reading.{empty}
+use Rattle.spec_api.specs.Objects.SelectorValues.{is_some_and}
 
 abbrev pub unsigned_value : ℕ → Data
 unsigned_value n = number (unsigned n)

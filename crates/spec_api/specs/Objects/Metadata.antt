@@ -1,7 +1,7 @@
 -- What an object's metadata says (Kubernetes API Conventions, Metadata).
 use Rattle.std.specs.Prelude.{ℕ, List, [], Bool, true, false, not, Option, Some, None, is_some, option_and_then, unwrap_or, codes, decimal, ◌∷◌}
 use Rattle.std.specs.Str.{bytes_eq}
-use Rattle.definitions.specs.Texts.Values.{Data, string, object, Members, put, Items, no_items, item, get, get_member, as_str, as_bool, as_array, members_of, inner_of}
+use Rattle.spec_api.specs.Texts.Values.{Data, string, object, Members, put, Items, no_items, item, get, get_member, as_str, as_bool, as_array, members_of, inner_of}
 
 -- the members of an object's metadata
 abbrev pub metadata_of : Data → Members

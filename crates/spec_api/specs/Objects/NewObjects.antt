@@ -1,13 +1,13 @@
 -- What a create stores.
 use Rattle.std.specs.Prelude.{ℕ, List, Option, Some, None, codes, if◌then◌else◌}
-use Rattle.definitions.specs.Texts.Values.{Data, string, object, Members, no_members, member, put, members_of, without}
-use Rattle.definitions.specs.declared.kinds.Kind.{Kind}
-use Rattle.definitions.specs.declared.kinds.Kind.TheVariants.{Pod, ReplicaSet}
-use Rattle.definitions.specs.Objects.Defaults.{unsigned_value}
-use Rattle.definitions.specs.Texts.Kinds.{has_generation, has_status}
-use Rattle.definitions.specs.Objects.Metadata.{metadata_of, at_revision}
-use Rattle.definitions.specs.Objects.Reading.{empty}
-use Rattle.definitions.specs.Texts.Uids.{uid_text, cluster_word}
+use Rattle.spec_api.specs.Texts.Values.{Data, string, object, Members, no_members, member, put, members_of, without}
+use Rattle.spec_api.specs.declared.kinds.Kind.{Kind}
+use Rattle.spec_api.specs.declared.kinds.Kind.TheVariants.{Pod, ReplicaSet}
+use Rattle.spec_api.specs.Objects.Defaults.{unsigned_value}
+use Rattle.spec_api.specs.Texts.Kinds.{has_generation, has_status}
+use Rattle.spec_api.specs.Objects.Metadata.{metadata_of, at_revision}
+use Rattle.spec_api.specs.Objects.Reading.{empty}
+use Rattle.spec_api.specs.Texts.Uids.{uid_text, cluster_word}
 
 -- the status of a new object, of a kind that has one: without members, but for these (Kubernetes API Conventions, Spec and Status)
 abbrev pub first_status : Kind → Option Data

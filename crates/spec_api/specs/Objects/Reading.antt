@@ -1,17 +1,17 @@
 -- Reading an object: what it has to be, what is left out of it, and what is filled in.
 use Rattle.std.specs.Prelude.{ℤ, Bool, true, false, not, nat_le, Result, Ok, Err, ◌&&◌, ◌||◌, ◌==◌, length, if◌then◌else◌, bytes_eq, int_le, is_some, option_map, unwrap_or, codes}
-use Rattle.definitions.specs.Texts.Values.{Num, Data, boolean, number, string, array, object, Items, no_items, item, Members, no_members, member, depth, as_object, as_i64, has_float, items_len, members_len, with_default, is_null}
-use Rattle.definitions.specs.declared.kinds.Kind.{Kind}
-use Rattle.definitions.specs.declared.kinds.Kind.TheVariants.{Pod}
-use Rattle.definitions.specs.declared.refusals.Part.{Part}
-use Rattle.definitions.specs.declared.refusals.Part.TheVariants as part
-use Rattle.definitions.specs.declared.schemas.Shape.{Shape}
-use Rattle.definitions.specs.declared.schemas.Shape.TheVariants.{Anything, Text, VersionOf, NameOf, Truth, Whole, TextList, List as ListOf, Object}
-use Rattle.definitions.specs.declared.schemas.Schema.{Schema}
-use Rattle.definitions.specs.declared.schemas.Schema.TheVariants.{Root, Unknown}
-use Rattle.definitions.specs.declared.schemas.Property.{Property}
-use Rattle.definitions.specs.Texts.Kinds.{api_version, kind_text}
-use Rattle.definitions.specs.Objects.Schemas.{property_at}
+use Rattle.spec_api.specs.Texts.Values.{Num, Data, boolean, number, string, array, object, Items, no_items, item, Members, no_members, member, depth, as_object, as_i64, has_float, items_len, members_len, with_default, is_null}
+use Rattle.spec_api.specs.declared.kinds.Kind.{Kind}
+use Rattle.spec_api.specs.declared.kinds.Kind.TheVariants.{Pod}
+use Rattle.spec_api.specs.declared.refusals.Part.{Part}
+use Rattle.spec_api.specs.declared.refusals.Part.TheVariants as part
+use Rattle.spec_api.specs.declared.schemas.Shape.{Shape}
+use Rattle.spec_api.specs.declared.schemas.Shape.TheVariants.{Anything, Text, VersionOf, NameOf, Truth, Whole, TextList, List as ListOf, Object}
+use Rattle.spec_api.specs.declared.schemas.Schema.{Schema}
+use Rattle.spec_api.specs.declared.schemas.Schema.TheVariants.{Root, Unknown}
+use Rattle.spec_api.specs.declared.schemas.Property.{Property}
+use Rattle.spec_api.specs.Texts.Kinds.{api_version, kind_text}
+use Rattle.spec_api.specs.Objects.Schemas.{property_at}
 
 -- from the first number to the second
 abbrev pub is_within : ℤ → ℤ → Num → Bool

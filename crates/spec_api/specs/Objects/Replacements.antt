@@ -2,15 +2,15 @@
 use Rattle.std.specs.Prelude.{ℕ, ◌+◌, List, [], ◌∷◌, Bool, not, ◌&&◌, ◌||◌, Option, Some, None, is_some, codes, nat_lt, option_and_then, unwrap_or, if◌then◌else◌}
 use Rattle.std.specs.Option.{option_or}
 use Rattle.std.specs.Str.{bytes_eq}
-use Rattle.definitions.specs.Texts.Values.{Data, object, Members, put, get, get_member, as_number, as_u64, compact_text, members_of, without}
-use Rattle.definitions.specs.declared.kinds.Kind.{Kind}
-use Rattle.definitions.specs.declared.kinds.Kind.TheVariants.{Deployment}
-use Rattle.definitions.specs.Objects.Checks.{text_or_empty}
-use Rattle.definitions.specs.Objects.Defaults.{unsigned_value}
-use Rattle.definitions.specs.Texts.Kinds.{has_generation, has_status}
-use Rattle.definitions.specs.Objects.Metadata.{metadata, metadata_of, with_metadata, is_being_deleted, at_revision}
-use Rattle.definitions.specs.Objects.NewObjects.{first_status, with_status}
-use Rattle.definitions.specs.Texts.Revisions.{greatest_revision}
+use Rattle.spec_api.specs.Texts.Values.{Data, object, Members, put, get, get_member, as_number, as_u64, compact_text, members_of, without}
+use Rattle.spec_api.specs.declared.kinds.Kind.{Kind}
+use Rattle.spec_api.specs.declared.kinds.Kind.TheVariants.{Deployment}
+use Rattle.spec_api.specs.Objects.Checks.{text_or_empty}
+use Rattle.spec_api.specs.Objects.Defaults.{unsigned_value}
+use Rattle.spec_api.specs.Texts.Kinds.{has_generation, has_status}
+use Rattle.spec_api.specs.Objects.Metadata.{metadata, metadata_of, with_metadata, is_being_deleted, at_revision}
+use Rattle.spec_api.specs.Objects.NewObjects.{first_status, with_status}
+use Rattle.spec_api.specs.Texts.Revisions.{greatest_revision}
 
 abbrev pub as_stored : List ℕ → Option Data → Members → Members
 as_stored k None ms = without k ms

@@ -1,12 +1,12 @@
 -- The schemas: tables of the members of an object, and of the objects in it (Kubernetes API reference).
 use Rattle.std.specs.Prelude.{ℕ, pos, negsuc, List, [], ◌∷◌, ◌++◌, true, false, if◌then◌else◌, bytes_eq, codes}
-use Rattle.definitions.specs.declared.kinds.Kind.{Kind}
-use Rattle.definitions.specs.declared.kinds.Kind.TheVariants.{ConfigMap, Pod, ReplicaSet, Deployment}
-use Rattle.definitions.specs.declared.schemas.Shape.{Shape}
-use Rattle.definitions.specs.declared.schemas.Shape.TheVariants.{Anything, Nothing, Text, VersionOf, NameOf, Truth, Whole, TextList, List as ListOf, Object}
-use Rattle.definitions.specs.declared.schemas.Schema.{Schema}
-use Rattle.definitions.specs.declared.schemas.Schema.TheVariants.{Root, Texts, Metadata, OwnerReference, PodSpec, PodStatus, Condition, ReplicaSetSpec, ReplicaSetStatus, DeploymentSpec, DeploymentStatus, Selector, Expression, Template, TemplateMetadata, Strategy, DeleteOptions, Preconditions, Unknown}
-use Rattle.definitions.specs.declared.schemas.Property.{Property}
+use Rattle.spec_api.specs.declared.kinds.Kind.{Kind}
+use Rattle.spec_api.specs.declared.kinds.Kind.TheVariants.{ConfigMap, Pod, ReplicaSet, Deployment}
+use Rattle.spec_api.specs.declared.schemas.Shape.{Shape}
+use Rattle.spec_api.specs.declared.schemas.Shape.TheVariants.{Anything, Nothing, Text, VersionOf, NameOf, Truth, Whole, TextList, List as ListOf, Object}
+use Rattle.spec_api.specs.declared.schemas.Schema.{Schema}
+use Rattle.spec_api.specs.declared.schemas.Schema.TheVariants.{Root, Texts, Metadata, OwnerReference, PodSpec, PodStatus, Condition, ReplicaSetSpec, ReplicaSetStatus, DeploymentSpec, DeploymentStatus, Selector, Expression, Template, TemplateMetadata, Strategy, DeleteOptions, Preconditions, Unknown}
+use Rattle.spec_api.specs.declared.schemas.Property.{Property}
 
 abbrev pub Table : Type 0
 Table = List (List ℕ × Property)

@@ -5,14 +5,14 @@ use Rattle.std.specs.Str.{bytes_eq}
 use Rattle.serde_json.specs.Data.{Data, Items, no_items, item, Members, no_members, member}
 use Rattle.serde_json.specs.Find.{get, as_str, as_array}
 use Rattle.serde_json.specs.Written.{has_float}
-use Rattle.definitions.specs.declared.schemas.Shape.{Shape}
-use Rattle.definitions.specs.declared.schemas.Shape.TheVariants.{Object}
-use Rattle.definitions.specs.declared.schemas.Schema.TheVariants.{Selector}
-use Rattle.definitions.specs.declared.selectors.Operator.{Operator}
-use Rattle.definitions.specs.declared.selectors.Operator.TheVariants.{In, NotIn, Exists, DoesNotExist}
-use Rattle.definitions.specs.Texts.Selectors.{Requirement, each_read, label_key, label_value, put_first, requiring}
-use Rattle.definitions.specs.Texts.Values.{inner_of}
-use Rattle.definitions.specs.Objects.Reading.{fits, tidied}
+use Rattle.spec_api.specs.declared.schemas.Shape.{Shape}
+use Rattle.spec_api.specs.declared.schemas.Shape.TheVariants.{Object}
+use Rattle.spec_api.specs.declared.schemas.Schema.TheVariants.{Selector}
+use Rattle.spec_api.specs.declared.selectors.Operator.{Operator}
+use Rattle.spec_api.specs.declared.selectors.Operator.TheVariants.{In, NotIn, Exists, DoesNotExist}
+use Rattle.spec_api.specs.Texts.Selectors.{Requirement, each_read, label_key, label_value, put_first, requiring}
+use Rattle.spec_api.specs.Texts.Values.{inner_of}
+use Rattle.spec_api.specs.Objects.Reading.{fits, tidied}
 
 -- why a value selects nothing: a member has a wrong type, or a key, an operator or the values are not valid
 pub data Flaw : Type 0 where

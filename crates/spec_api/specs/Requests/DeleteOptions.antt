@@ -5,16 +5,16 @@ use Rattle.std.specs.Option.{option_map_or}
 use Rattle.std.specs.Str.{bytes_eq}
 use Rattle.serde_json.specs.Data.{Data}
 use Rattle.serde_json.specs.Find.{get}
-use Rattle.definitions.specs.declared.policies.Policy.{Policy}
-use Rattle.definitions.specs.declared.policies.Policy.TheVariants.{Orphan, Foreground, Background}
-use Rattle.definitions.specs.declared.policies.StatedPolicy.{StatedPolicy}
-use Rattle.definitions.specs.declared.policies.StatedPolicy.TheVariants.{Nothing, Named, Unknown}
-use Rattle.definitions.specs.declared.refusals.Part.{Part}
-use Rattle.definitions.specs.declared.refusals.Part.TheVariants as part
-use Rattle.definitions.specs.declared.schemas.Shape.TheVariants.{Object}
-use Rattle.definitions.specs.declared.schemas.Schema.TheVariants as schema
-use Rattle.definitions.specs.Objects.Metadata.{text_at}
-use Rattle.definitions.specs.Objects.Reading.{is_body, fits}
+use Rattle.spec_api.specs.declared.policies.Policy.{Policy}
+use Rattle.spec_api.specs.declared.policies.Policy.TheVariants.{Orphan, Foreground, Background}
+use Rattle.spec_api.specs.declared.policies.StatedPolicy.{StatedPolicy}
+use Rattle.spec_api.specs.declared.policies.StatedPolicy.TheVariants.{Nothing, Named, Unknown}
+use Rattle.spec_api.specs.declared.refusals.Part.{Part}
+use Rattle.spec_api.specs.declared.refusals.Part.TheVariants as part
+use Rattle.spec_api.specs.declared.schemas.Shape.TheVariants.{Object}
+use Rattle.spec_api.specs.declared.schemas.Schema.TheVariants as schema
+use Rattle.spec_api.specs.Objects.Metadata.{text_at}
+use Rattle.spec_api.specs.Objects.Reading.{is_body, fits}
 
 -- the uid and the version that the object has to have, where they are named, and what becomes of its dependents
 pub record Options : Type 0 where

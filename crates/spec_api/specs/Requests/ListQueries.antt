@@ -5,22 +5,22 @@ use Rattle.std.specs.Map.{lookup}
 use Rattle.std.specs.Result.{result_map_both}
 use Rattle.std.specs.Str.{bytes_eq}
 use Rattle.std.specs.Str.Parse.{digits_value}
-use Rattle.definitions.specs.declared.refusals.Part.{Part}
-use Rattle.definitions.specs.declared.refusals.Part.TheVariants as part
-use Rattle.definitions.specs.Texts.Moments.{is_digit}
-use Rattle.definitions.specs.Requests.PageTokens.{Token, token_place, token_of}
-use Rattle.definitions.specs.State.Pages.{Place}
-use Rattle.definitions.specs.Requests.Queries.{Pairs, parameter, has_any, or_empty}
-use Rattle.definitions.specs.Texts.Revisions.{revision_of}
-use Rattle.definitions.specs.Texts.SelectorFields.{FieldRequirement, fields_of_text}
-use Rattle.definitions.specs.Texts.SelectorTexts.{selector_of_text}
-use Rattle.definitions.specs.Texts.Selectors.{Requirement}
-use Rattle.definitions.specs.declared.versions.At.{At}
-use Rattle.definitions.specs.declared.versions.Match.{Match}
-use Rattle.definitions.specs.declared.versions.Match.TheVariants as match
-use Rattle.definitions.specs.declared.versions.At.TheVariants.{Present, NotOlder, Exact}
-use Rattle.definitions.specs.declared.versions.Start.{Start}
-use Rattle.definitions.specs.declared.versions.Start.TheVariants as begins
+use Rattle.spec_api.specs.declared.refusals.Part.{Part}
+use Rattle.spec_api.specs.declared.refusals.Part.TheVariants as part
+use Rattle.spec_api.specs.Texts.Moments.{is_digit}
+use Rattle.spec_api.specs.Requests.PageTokens.{Token, token_place, token_of}
+use Rattle.spec_api.specs.State.Pages.{Place}
+use Rattle.spec_api.specs.Requests.Queries.{Pairs, parameter, has_any, or_empty}
+use Rattle.spec_api.specs.Texts.Revisions.{revision_of}
+use Rattle.spec_api.specs.Texts.SelectorFields.{FieldRequirement, fields_of_text}
+use Rattle.spec_api.specs.Texts.SelectorTexts.{selector_of_text}
+use Rattle.spec_api.specs.Texts.Selectors.{Requirement}
+use Rattle.spec_api.specs.declared.versions.At.{At}
+use Rattle.spec_api.specs.declared.versions.Match.{Match}
+use Rattle.spec_api.specs.declared.versions.Match.TheVariants as match
+use Rattle.spec_api.specs.declared.versions.At.TheVariants.{Present, NotOlder, Exact}
+use Rattle.spec_api.specs.declared.versions.Start.{Start}
+use Rattle.spec_api.specs.declared.versions.Start.TheVariants as begins
 
 -- what is made of a value, if it is understood; else the query is at fault
 abbrev pub understood : {A B : Type 0} → Option A → (A → Result B Part) → Result B Part

@@ -1,10 +1,10 @@
 -- The requests of objects: one for each verb.
 use Rattle.std.specs.Prelude.{ℕ, List}
 use Rattle.serde_json.specs.Data.{Data}
-use Rattle.definitions.specs.declared.kinds.Kind.{Kind}
-use Rattle.definitions.specs.Texts.Keys.{Key}
-use Rattle.definitions.specs.State.History.{View}
-use Rattle.definitions.specs.Requests.DeleteOptions.{Options}
+use Rattle.spec_api.specs.declared.kinds.Kind.{Kind}
+use Rattle.spec_api.specs.Texts.Keys.{Key}
+use Rattle.spec_api.specs.State.History.{View}
+use Rattle.spec_api.specs.Requests.DeleteOptions.{Options}
 
 -- the verbs of the API, each with what it names (Kubernetes API Concepts, API terminology); the body of an object is JSON data, not yet read
 pub data Request : Type 0 where

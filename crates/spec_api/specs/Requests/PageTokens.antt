@@ -6,10 +6,10 @@ use Rattle.base64.specs.Engines.{url_safe_no_pad}
 use Rattle.base64.specs.GeneralPurpose.{encode_of, decode_of}
 use Rattle.serde_json.specs.Data.{Data, string, object, member, no_members}
 use Rattle.serde_json.specs.Written.{compact_text}
-use Rattle.definitions.specs.Objects.Metadata.{text_at}
-use Rattle.definitions.specs.Texts.Values.{data_of}
-use Rattle.definitions.specs.State.Pages.{Place}
-use Rattle.definitions.specs.Texts.Revisions.{greatest_revision, revision_of}
+use Rattle.spec_api.specs.Objects.Metadata.{text_at}
+use Rattle.spec_api.specs.Texts.Values.{data_of}
+use Rattle.spec_api.specs.State.Pages.{Place}
+use Rattle.spec_api.specs.Texts.Revisions.{greatest_revision, revision_of}
 
 -- the last object of a page, and the revision of the list
 pub record Token : Type 0 where

@@ -6,25 +6,25 @@ use Rattle.std.specs.List.{slice_split, list_all, before_first}
 use Rattle.std.specs.Str.{bytes_eq, is_utf8}
 use Rattle.std.specs.Str.Lossy.{utf8_lossy}
 use Rattle.serde_json.specs.Data.{Data}
-use Rattle.definitions.specs.declared.kinds.Group.{Group}
-use Rattle.definitions.specs.declared.kinds.Group.TheVariants.{Core, Apps}
-use Rattle.definitions.specs.declared.kinds.Kind.{Kind}
-use Rattle.definitions.specs.declared.methods.Method.{Method}
-use Rattle.definitions.specs.declared.methods.Method.TheVariants.{Get, Post, Put, Patch, Delete}
-use Rattle.definitions.specs.declared.policies.StatedPolicy.{StatedPolicy}
-use Rattle.definitions.specs.declared.policies.StatedPolicy.TheVariants.{Nothing}
-use Rattle.definitions.specs.declared.refusals.Part.{Part}
-use Rattle.definitions.specs.declared.refusals.Part.TheVariants as part
-use Rattle.definitions.specs.Texts.Kinds.{group, plural, kind_with_plural, has_status}
-use Rattle.definitions.specs.Texts.Keys.{Key, is_namespace}
-use Rattle.definitions.specs.State.History.{View}
-use Rattle.definitions.specs.Requests.DeleteOptions.{Options, options_of, options_with, stated_policy}
-use Rattle.definitions.specs.Requests.ListQueries as collections
-use Rattle.definitions.specs.Requests.ListQueries.{ListOptions, WatchOptions, Collection, Read, everything, collection_of}
-use Rattle.definitions.specs.Requests.Queries.{Pairs, pairs_of, parameter, has_any}
-use Rattle.definitions.specs.Texts.Values.{data_of}
-use Rattle.definitions.specs.Objects.Refusals.{Refusal, bad_request, no_such_path, method_not_allowed, too_large}
-use Rattle.definitions.specs.Requests.ObjectRequests.{Request, get_object, create_object, update_object, update_status, patch_object, delete_object}
+use Rattle.spec_api.specs.declared.kinds.Group.{Group}
+use Rattle.spec_api.specs.declared.kinds.Group.TheVariants.{Core, Apps}
+use Rattle.spec_api.specs.declared.kinds.Kind.{Kind}
+use Rattle.spec_api.specs.declared.methods.Method.{Method}
+use Rattle.spec_api.specs.declared.methods.Method.TheVariants.{Get, Post, Put, Patch, Delete}
+use Rattle.spec_api.specs.declared.policies.StatedPolicy.{StatedPolicy}
+use Rattle.spec_api.specs.declared.policies.StatedPolicy.TheVariants.{Nothing}
+use Rattle.spec_api.specs.declared.refusals.Part.{Part}
+use Rattle.spec_api.specs.declared.refusals.Part.TheVariants as part
+use Rattle.spec_api.specs.Texts.Kinds.{group, plural, kind_with_plural, has_status}
+use Rattle.spec_api.specs.Texts.Keys.{Key, is_namespace}
+use Rattle.spec_api.specs.State.History.{View}
+use Rattle.spec_api.specs.Requests.DeleteOptions.{Options, options_of, options_with, stated_policy}
+use Rattle.spec_api.specs.Requests.ListQueries as collections
+use Rattle.spec_api.specs.Requests.ListQueries.{ListOptions, WatchOptions, Collection, Read, everything, collection_of}
+use Rattle.spec_api.specs.Requests.Queries.{Pairs, pairs_of, parameter, has_any}
+use Rattle.spec_api.specs.Texts.Values.{data_of}
+use Rattle.spec_api.specs.Objects.Refusals.{Refusal, bad_request, no_such_path, method_not_allowed, too_large}
+use Rattle.spec_api.specs.Requests.ObjectRequests.{Request, get_object, create_object, update_object, update_status, patch_object, delete_object}
 
 -- a collection of a kind, in one namespace or in all; an object; the status of an object (Kubernetes API Concepts, Resource URIs)
 pub data Route : Type 0 where

@@ -1,11 +1,11 @@
 -- The events of a view: what each write does to the objects that the view asks for.
 use Rattle.std.specs.Prelude.{ℕ, ◌+◌, ◌-◌, List, [], ◌∷◌, ◌++◌, length, drop, Option, Some, None}
 use Rattle.serde_json.specs.Data.{Data}
-use Rattle.definitions.specs.Texts.Keys.{Key}
-use Rattle.definitions.specs.State.History.{History, Write, View, Entries, up_to, last_of, put_or_remove, seen}
-use Rattle.definitions.specs.Objects.Metadata.{metadata_of, at_revision}
-use Rattle.definitions.specs.declared.frames.ChangeKind.{ChangeKind}
-use Rattle.definitions.specs.declared.frames.ChangeKind.TheVariants.{Added, Modified, Deleted}
+use Rattle.spec_api.specs.Texts.Keys.{Key}
+use Rattle.spec_api.specs.State.History.{History, Write, View, Entries, up_to, last_of, put_or_remove, seen}
+use Rattle.spec_api.specs.Objects.Metadata.{metadata_of, at_revision}
+use Rattle.spec_api.specs.declared.frames.ChangeKind.{ChangeKind}
+use Rattle.spec_api.specs.declared.frames.ChangeKind.TheVariants.{Added, Modified, Deleted}
 
 -- what a view sees of a write: what it did to an object, its revision, the object's key, and the object as it is shown
 pub record Event : Type 0 where

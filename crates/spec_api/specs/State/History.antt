@@ -4,12 +4,12 @@ use Rattle.std.specs.BTreeMap.{insert_entry, is_at}
 use Rattle.std.specs.Map.{remove_entry, lookup}
 use Rattle.std.specs.Str.{bytes_eq}
 use Rattle.serde_json.specs.Data.{Data}
-use Rattle.definitions.specs.declared.kinds.Kind.{Kind}
-use Rattle.definitions.specs.Texts.Kinds.{rank}
-use Rattle.definitions.specs.Objects.Metadata.{labels_of}
-use Rattle.definitions.specs.Texts.Keys.{Key, key_cmp, is_same_key}
-use Rattle.definitions.specs.Texts.SelectorFields.{FieldRequirement, fields_meet}
-use Rattle.definitions.specs.Texts.Selectors.{Requirement, meets_all}
+use Rattle.spec_api.specs.declared.kinds.Kind.{Kind}
+use Rattle.spec_api.specs.Texts.Kinds.{rank}
+use Rattle.spec_api.specs.Objects.Metadata.{labels_of}
+use Rattle.spec_api.specs.Texts.Keys.{Key, key_cmp, is_same_key}
+use Rattle.spec_api.specs.Texts.SelectorFields.{FieldRequirement, fields_meet}
+use Rattle.spec_api.specs.Texts.Selectors.{Requirement, meets_all}
 
 -- an object is put under a key, or the object there is removed
 pub record Write : Type 0 where

@@ -4,8 +4,8 @@ use Rattle.std.specs.List.Sorted.{IsStrictlySortedBy}
 use Rattle.std.specs.Ordering.{nat_cmp, then_cmp, on, is_lt}
 use Rattle.std.specs.Cmp.Lexicographic.{slice_cmp}
 use Rattle.std.specs.declared.cmp.Ordering.{Ordering}
-use Rattle.definitions.specs.Texts.Keys.{Key}
-use Rattle.definitions.specs.State.History.{Entries}
+use Rattle.spec_api.specs.Texts.Keys.{Key}
+use Rattle.spec_api.specs.State.History.{Entries}
 
 -- where a page ends: the namespace and the name of its last object
 pub record Place : Type 0 where

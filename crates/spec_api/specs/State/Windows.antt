@@ -1,12 +1,12 @@
 -- The window of a kind: its last changes, the revision from which it answers, and what it answers.
 use Rattle.std.specs.Prelude.{◌<◌, ℕ, ◌+◌, ◌-◌, ◌==◌, Bool, List, [], ◌∷◌, ◌++◌, length, take, drop, max, nat_lt, Option, None, Result, Ok, Err, if◌then◌else◌}
 use Rattle.serde_json.specs.Data.{Data}
-use Rattle.definitions.specs.declared.kinds.Kind.{Kind}
-use Rattle.definitions.specs.Texts.Kinds.{rank}
-use Rattle.definitions.specs.Texts.Keys.{Key}
-use Rattle.definitions.specs.State.History.{History, Write, write, compaction, View, Entries, writes, present, last_of, list}
-use Rattle.definitions.specs.Objects.Refusals.{Refusal, expired, too_new}
-use Rattle.definitions.specs.State.Events.{Event, events}
+use Rattle.spec_api.specs.declared.kinds.Kind.{Kind}
+use Rattle.spec_api.specs.Texts.Kinds.{rank}
+use Rattle.spec_api.specs.Texts.Keys.{Key}
+use Rattle.spec_api.specs.State.History.{History, Write, write, compaction, View, Entries, writes, present, last_of, list}
+use Rattle.spec_api.specs.Objects.Refusals.{Refusal, expired, too_new}
+use Rattle.spec_api.specs.State.Events.{Event, events}
 
 -- what a write did under its key: its revision, the object before it and the object after it
 pub record Change : Type 0 where

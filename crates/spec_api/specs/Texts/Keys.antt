@@ -4,8 +4,8 @@ use Rattle.std.specs.List.{list_all, slice_split}
 use Rattle.std.specs.Ordering.{nat_cmp, then_cmp, on, is_eq}
 use Rattle.std.specs.Cmp.Lexicographic.{slice_cmp}
 use Rattle.std.specs.declared.cmp.Ordering.{Ordering}
-use Rattle.definitions.specs.declared.kinds.Kind.{Kind}
-use Rattle.definitions.specs.Texts.Kinds.{rank}
+use Rattle.spec_api.specs.declared.kinds.Kind.{Kind}
+use Rattle.spec_api.specs.Texts.Kinds.{rank}
 
 -- one object of a kind at a time has a given name in a namespace (Kubernetes, Object Names and IDs)
 pub record Key : Type 0 where

@@ -1,8 +1,8 @@
 -- The labels of an object: their keys and values.
 use Rattle.std.specs.Prelude.{ℕ, ◌==◌, ◌-◌, ◌&&◌, ◌||◌, List, Bool, length, slice_index, nat_le, nat_lt, if◌then◌else◌, Option, option_and_then}
 use Rattle.std.specs.List.{list_all, list_any, before_first, after_first}
-use Rattle.definitions.specs.Texts.Values.{Members, get_member, as_str}
-use Rattle.definitions.specs.Texts.Keys.{is_letter_or_digit, is_subdomain}
+use Rattle.spec_api.specs.Texts.Values.{Members, get_member, as_str}
+use Rattle.spec_api.specs.Texts.Keys.{is_letter_or_digit, is_subdomain}
 
 -- a letter of either case, or a digit
 abbrev pub is_alphanumeric : ℕ → Bool

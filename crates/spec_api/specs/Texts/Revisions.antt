@@ -2,7 +2,7 @@
 use Rattle.std.specs.Prelude.{ℕ, List, Bool, ◌&&◌, ◌||◌, not, nat_lt, ◌==◌, length, slice_index, Option, Some, None, if◌then◌else◌}
 use Rattle.std.specs.List.{list_all}
 use Rattle.std.specs.Str.Parse.{digits_value}
-use Rattle.definitions.specs.Texts.Moments.{is_digit}
+use Rattle.spec_api.specs.Texts.Moments.{is_digit}
 
 abbrev pub is_revision : List ℕ → Bool
 is_revision t = nat_lt 0 (length t) && list_all is_digit t && ((length t == 1) || not (slice_index t 0 == 48)) && nat_lt (digits_value 10 t) 9007199254740992

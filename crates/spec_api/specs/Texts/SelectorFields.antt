@@ -2,12 +2,12 @@
 use Rattle.std.specs.Prelude.{ℕ, ◌&&◌, List, [], ◌∷◌, Bool, true, false, not, codes, if◌then◌else◌, Option, None, Some, option_map}
 use Rattle.std.specs.List.{list_all, list_any, slice_split}
 use Rattle.std.specs.Str.{bytes_eq}
-use Rattle.definitions.specs.declared.selectors.Operator.{Operator}
-use Rattle.definitions.specs.declared.selectors.Operator.TheVariants.{In}
-use Rattle.definitions.specs.declared.selectors.SelectableField.{SelectableField}
-use Rattle.definitions.specs.declared.selectors.SelectableField.TheVariants.{Name, Namespace}
-use Rattle.definitions.specs.Texts.SelectorTexts.{Comparison, comparison, is_blank, is_comma, is_equals}
-use Rattle.definitions.specs.Texts.Selectors.{each_read, only_if}
+use Rattle.spec_api.specs.declared.selectors.Operator.{Operator}
+use Rattle.spec_api.specs.declared.selectors.Operator.TheVariants.{In}
+use Rattle.spec_api.specs.declared.selectors.SelectableField.{SelectableField}
+use Rattle.spec_api.specs.declared.selectors.SelectableField.TheVariants.{Name, Namespace}
+use Rattle.spec_api.specs.Texts.SelectorTexts.{Comparison, comparison, is_blank, is_comma, is_equals}
+use Rattle.spec_api.specs.Texts.Selectors.{each_read, only_if}
 
 -- one requirement of a field
 pub record FieldRequirement : Type 0 where

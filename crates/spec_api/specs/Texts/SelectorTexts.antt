@@ -2,9 +2,9 @@
 use Rattle.std.specs.Prelude.{ℕ, ◌==◌, ◌-◌, ◌&&◌, ◌||◌, List, [], ◌∷◌, Bool, false, not, length, slice_index, take, reverse, codes, nat_lt, if◌then◌else◌, Option, None, Some, option_and_then}
 use Rattle.std.specs.List.{list_any, before_first, after_first, slice_split, onto_first}
 use Rattle.std.specs.Str.{bytes_eq}
-use Rattle.definitions.specs.declared.selectors.Operator.{Operator}
-use Rattle.definitions.specs.declared.selectors.Operator.TheVariants.{In, NotIn, Exists, DoesNotExist}
-use Rattle.definitions.specs.Texts.Selectors.{Requirement, each_read, label_key, label_value, only_if, requiring}
+use Rattle.spec_api.specs.declared.selectors.Operator.{Operator}
+use Rattle.spec_api.specs.declared.selectors.Operator.TheVariants.{In, NotIn, Exists, DoesNotExist}
+use Rattle.spec_api.specs.Texts.Selectors.{Requirement, each_read, label_key, label_value, only_if, requiring}
 
 abbrev pub is_blank : ℕ → Bool
 is_blank b = (b == 32) || (b == 9)

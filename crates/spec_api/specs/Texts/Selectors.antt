@@ -4,9 +4,9 @@ use Rattle.std.specs.List.{list_all, list_any}
 use Rattle.std.specs.Option.{option_map_or}
 use Rattle.std.specs.Str.{bytes_eq}
 use Rattle.serde_json.specs.Data.{Members}
-use Rattle.definitions.specs.declared.selectors.Operator.{Operator}
-use Rattle.definitions.specs.declared.selectors.Operator.TheVariants.{In, NotIn, Exists, DoesNotExist}
-use Rattle.definitions.specs.Texts.Labels.{is_label_key, is_label_value, label_at}
+use Rattle.spec_api.specs.declared.selectors.Operator.{Operator}
+use Rattle.spec_api.specs.declared.selectors.Operator.TheVariants.{In, NotIn, Exists, DoesNotExist}
+use Rattle.spec_api.specs.Texts.Labels.{is_label_key, is_label_value, label_at}
 
 -- one requirement: a key, and by which operator which values are asked of it
 pub record Requirement : Type 0 where

@@ -3,14 +3,14 @@ use Rattle.std.specs.Prelude.{ℕ, List, [], ◌∷◌, ◌++◌, Bool, true, fa
 use Rattle.std.specs.Str.{bytes_eq}
 use Rattle.serde_json.specs.Data.{Data, string, object, Members, no_members, member}
 use Rattle.serde_json.specs.Written.{compact_text}
-use Rattle.definitions.specs.declared.kinds.Kind.{Kind}
-use Rattle.definitions.specs.declared.frames.ChangeKind.{ChangeKind}
-use Rattle.definitions.specs.declared.frames.ChangeKind.TheVariants as change
-use Rattle.definitions.specs.declared.frames.FrameKind.{FrameKind}
-use Rattle.definitions.specs.declared.frames.FrameKind.TheVariants.{Added, Modified, Deleted, Bookmark, Error}
-use Rattle.definitions.specs.Texts.Kinds as kinds
-use Rattle.definitions.specs.Texts.Kinds.{api_version}
-use Rattle.definitions.specs.Objects.Refusals.{Refusal, status_body}
+use Rattle.spec_api.specs.declared.kinds.Kind.{Kind}
+use Rattle.spec_api.specs.declared.frames.ChangeKind.{ChangeKind}
+use Rattle.spec_api.specs.declared.frames.ChangeKind.TheVariants as change
+use Rattle.spec_api.specs.declared.frames.FrameKind.{FrameKind}
+use Rattle.spec_api.specs.declared.frames.FrameKind.TheVariants.{Added, Modified, Deleted, Bookmark, Error}
+use Rattle.spec_api.specs.Texts.Kinds as kinds
+use Rattle.spec_api.specs.Texts.Kinds.{api_version}
+use Rattle.spec_api.specs.Objects.Refusals.{Refusal, status_body}
 
 -- a frame of a watch (Kubernetes API reference, WatchEvent)
 pub record Frame : Type 0 where

@@ -1,12 +1,12 @@
 -- The streams of a watch: events in order with bookmarks between, and before them, if asked for, the list.
 use Rattle.std.specs.Prelude.{◌≡◌, ◌≤◌, ◌<◌, ℕ, List, [], ◌∷◌, ◌++◌, map, flat_map, Some, true, false}
 use Rattle.serde_json.specs.Data.{Data}
-use Rattle.definitions.specs.declared.kinds.Kind.{Kind}
-use Rattle.definitions.specs.declared.frames.FrameKind.TheVariants.{Added}
-use Rattle.definitions.specs.Texts.Keys.{Key}
-use Rattle.definitions.specs.State.History.{History, View, Entries, list, put_or_remove}
-use Rattle.definitions.specs.Watching.Frames.{Frame, frame_kind, frame_text, bookmark_frame}
-use Rattle.definitions.specs.State.Events.{Event, events, apply}
+use Rattle.spec_api.specs.declared.kinds.Kind.{Kind}
+use Rattle.spec_api.specs.declared.frames.FrameKind.TheVariants.{Added}
+use Rattle.spec_api.specs.Texts.Keys.{Key}
+use Rattle.spec_api.specs.State.History.{History, View, Entries, list, put_or_remove}
+use Rattle.spec_api.specs.Watching.Frames.{Frame, frame_kind, frame_text, bookmark_frame}
+use Rattle.spec_api.specs.State.Events.{Event, events, apply}
 
 -- a line of a stream: an event, a bookmark, an object that was there at the beginning, or the bookmark after the last of these
 pub data Line : Type 0 where

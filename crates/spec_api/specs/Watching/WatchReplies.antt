@@ -1,16 +1,16 @@
 -- What a watch is answered that shows what has happened so far: its lines up to the present revision (Kubernetes API Concepts, Efficient detection of changes).
 use Rattle.std.specs.Prelude.{ℕ, List, [], ◌∷◌, ◌++◌, nat_lt, map, Bool, Option, Some, None, Result, Ok, if◌then◌else◌}
 use Rattle.std.specs.Result.{result_map_both}
-use Rattle.definitions.specs.State.History as history
-use Rattle.definitions.specs.State.History.{History, View, present, list}
-use Rattle.definitions.specs.State.Events.{Event}
-use Rattle.definitions.specs.declared.frames.ChangeKind.TheVariants as change
-use Rattle.definitions.specs.declared.versions.Start.{Start}
-use Rattle.definitions.specs.declared.versions.Start.TheVariants.{After, Listed, Streamed, Present}
-use Rattle.definitions.specs.Requests.ListQueries.{WatchOptions}
-use Rattle.definitions.specs.Objects.Refusals.{Refusal}
-use Rattle.definitions.specs.Watching.Streams.{Line, event, bookmark, initial_end, added_lines}
-use Rattle.definitions.specs.Answers.Versions.{Watched, last_change, once_present, watched_from}
+use Rattle.spec_api.specs.State.History as history
+use Rattle.spec_api.specs.State.History.{History, View, present, list}
+use Rattle.spec_api.specs.State.Events.{Event}
+use Rattle.spec_api.specs.declared.frames.ChangeKind.TheVariants as change
+use Rattle.spec_api.specs.declared.versions.Start.{Start}
+use Rattle.spec_api.specs.declared.versions.Start.TheVariants.{After, Listed, Streamed, Present}
+use Rattle.spec_api.specs.Requests.ListQueries.{WatchOptions}
+use Rattle.spec_api.specs.Objects.Refusals.{Refusal}
+use Rattle.spec_api.specs.Watching.Streams.{Line, event, bookmark, initial_end, added_lines}
+use Rattle.spec_api.specs.Answers.Versions.{Watched, last_change, once_present, watched_from}
 
 -- ---- initial events
 

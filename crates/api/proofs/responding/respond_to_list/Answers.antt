@@ -1,4 +1,4 @@
-use Rattle.requests.specs.Collected.{list_seen}
+use Rattle.request_parts.specs.Collected.{list_seen}
 use Rattle.selector.specs.Views.{view_of}
 use Rattle.api.proofs.Written.{told_then}
 use Rattle.api.specs.Responding.{text_of}

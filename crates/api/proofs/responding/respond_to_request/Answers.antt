@@ -1,4 +1,4 @@
-use Rattle.requests.specs.Requests.{request_of}
+use Rattle.request_parts.specs.Requests.{request_of}
 use Rattle.api.proofs.Written.{told_then}
 use Rattle.api.specs.Responding.{text_of}
 use Rattle.api.proofs.responding.respond_to_request.Goals as goal

@@ -1,6 +1,6 @@
 use Rattle.std.proofs.Common.{inl, Ok, Err}
 use Rattle.chunked.specs.Devices.{device_of}
-use Rattle.received.specs.Receiving.{said}
+use Rattle.http_request_reader.specs.Receiving.{said}
 use Rattle.api.proofs.Delivered.{delivered}
 use Rattle.api.proofs.Done.{asks_said, asked_whole}
 use Rattle.api.proofs.serving.serve_one.Goals as goal

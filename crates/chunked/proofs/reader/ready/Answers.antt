@@ -1,6 +1,6 @@
 use Rattle.std.proofs.Common.{rules, ◌≡◌, [], IfOk, sym, subst}
 use Rattle.chunked.specs.Reading.{Reaches}
-use Rattle.chunked.specs.declared.place.Place.TheVariants as place
+use Rattle.chunked.specs.declared.place.BodyPlace.TheVariants as place
 use Rattle.chunked.proofs.reader.ready.Goals as goal
 
 pub returns-in-Line-clause-place : goal.returns-in-Line-clause-place

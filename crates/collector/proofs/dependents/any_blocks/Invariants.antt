@@ -1,8 +1,8 @@
 use Rattle.std.proofs.Common.{◌≡◌, ◌&&◌, drop}
 use Rattle.std.specs.List.{list_any}
 use Rattle.serde_json.specs.View.{items_view}
-use Rattle.definitions.specs.Metadata.{Owner, owners_in}
-use Rattle.plans.specs.Standings.{is_to}
+use Rattle.spec_api.specs.Metadata.{Owner, owners_in}
+use Rattle.spec_reconcile.specs.Standings.{is_to}
 use Rattle.collector.proofs.dependents.any_blocks.Given as goal
 
 abbrev pub invariant-loop-reference : goal.invariant-loop-reference

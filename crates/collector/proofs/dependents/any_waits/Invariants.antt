@@ -1,7 +1,7 @@
 use Rattle.std.proofs.Common.{◌≡◌, drop, map}
 use Rattle.std.specs.List.{list_any}
-use Rattle.turns.specs.Entries.{entry_of}
-use Rattle.plans.specs.Standings.{waits_for_dependents}
+use Rattle.reconcile_types.specs.Entries.{entry_of}
+use Rattle.spec_reconcile.specs.Standings.{waits_for_dependents}
 use Rattle.collector.proofs.dependents.any_waits.Given as goal
 
 abbrev pub invariant-loop-dependent : goal.invariant-loop-dependent

@@ -1,5 +1,5 @@
 use Rattle.std.proofs.Common.{◌≡◌, ◌++◌, map}
-use Rattle.turns.specs.Entries.{entry_of}
+use Rattle.reconcile_types.specs.Entries.{entry_of}
 use Rattle.collector.proofs.dependents.append.Given as goal
 
 -- those appended and those still to be appended are all

@@ -1,6 +1,6 @@
 use Rattle.std.proofs.Common.{◌≡◌, drop, map}
-use Rattle.turns.specs.Entries.{entry_of}
-use Rattle.plans.specs.GarbageCollection.{is_blocked}
+use Rattle.reconcile_types.specs.Entries.{entry_of}
+use Rattle.spec_reconcile.specs.GarbageCollection.{is_blocked}
 use Rattle.collector.proofs.dependents.is_blocked.Given as goal
 
 abbrev pub invariant-loop-dependent : goal.invariant-loop-dependent

@@ -1,6 +1,6 @@
 use Rattle.std.proofs.Common.{map, refl, ap, ◌∙◌}
 use Rattle.serde_json.specs.View.{view, items_of}
-use Rattle.plans.specs.MetadataEdits.{unblocked}
+use Rattle.spec_reconcile.specs.MetadataEdits.{unblocked}
 use Rattle.collector.proofs.Grown.{grown-end, unblocked-all}
 use Rattle.collector.proofs.edits.all_unblocked.Goals as goal
 

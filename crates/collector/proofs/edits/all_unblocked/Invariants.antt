@@ -1,6 +1,6 @@
 use Rattle.std.proofs.Common.{◌≡◌, ◌++◌, drop, map}
 use Rattle.serde_json.specs.View.{view}
-use Rattle.plans.specs.MetadataEdits.{unblocked}
+use Rattle.spec_reconcile.specs.MetadataEdits.{unblocked}
 use Rattle.collector.proofs.edits.all_unblocked.Given as goal
 
 -- those changed and those still to be changed are all

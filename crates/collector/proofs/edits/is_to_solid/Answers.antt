@@ -1,6 +1,6 @@
 use Rattle.std.proofs.Common.{ap, ◌∙◌}
-use Rattle.turns.specs.Hands.{reads_of}
-use Rattle.plans.specs.Standings.{standing, is_solid}
+use Rattle.reconcile_types.specs.Hands.{reads_of}
+use Rattle.spec_reconcile.specs.Standings.{standing, is_solid}
 use Rattle.collector.proofs.edits.is_to_solid.Goals as goal
 
 pub returns : goal.returns

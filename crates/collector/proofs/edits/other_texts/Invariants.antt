@@ -2,7 +2,7 @@ use Rattle.std.proofs.Common.{◌≡◌, ◌++◌, drop, map, not}
 use Rattle.std.specs.List.{filter}
 use Rattle.serde_json.specs.View.{view}
 use Rattle.std.specs.Str.{bytes_eq}
-use Rattle.definitions.specs.Checks.{text_is}
+use Rattle.spec_api.specs.Checks.{text_is}
 use Rattle.collector.proofs.edits.other_texts.Given as goal
 
 -- those picked and those still to be picked are all that pass

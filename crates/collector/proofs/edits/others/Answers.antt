@@ -1,6 +1,6 @@
 use Rattle.std.proofs.Common.{not}
-use Rattle.definitions.specs.Metadata.{owner}
-use Rattle.plans.specs.Standings.{is_to}
+use Rattle.spec_api.specs.Metadata.{owner}
+use Rattle.spec_reconcile.specs.Standings.{is_to}
 use Rattle.collector.proofs.Grown.{picked-all}
 use Rattle.collector.proofs.edits.others.Goals as goal
 

@@ -1,8 +1,8 @@
 use Rattle.std.proofs.Common.{◌≡◌, ◌++◌, drop, map, not}
 use Rattle.std.specs.List.{filter}
 use Rattle.serde_json.specs.View.{view}
-use Rattle.definitions.specs.Metadata.{owner}
-use Rattle.plans.specs.Standings.{is_to}
+use Rattle.spec_api.specs.Metadata.{owner}
+use Rattle.spec_reconcile.specs.Standings.{is_to}
 use Rattle.collector.proofs.edits.others.Given as goal
 
 -- those picked and those still to be picked are all that pass

@@ -1,6 +1,6 @@
-use Rattle.definitions.specs.Metadata.{owner}
-use Rattle.turns.specs.Hands.{reads_of}
-use Rattle.plans.specs.Standings.{standing, is_solid}
+use Rattle.spec_api.specs.Metadata.{owner}
+use Rattle.reconcile_types.specs.Hands.{reads_of}
+use Rattle.spec_reconcile.specs.Standings.{standing, is_solid}
 use Rattle.collector.proofs.Grown.{picked-all}
 use Rattle.collector.proofs.edits.solid_ones.Goals as goal
 

@@ -1,9 +1,9 @@
 use Rattle.std.proofs.Common.{◌≡◌, ◌++◌, drop, map}
 use Rattle.std.specs.List.{filter}
 use Rattle.serde_json.specs.View.{view}
-use Rattle.definitions.specs.Metadata.{owner}
-use Rattle.turns.specs.Hands.{reads_of}
-use Rattle.plans.specs.Standings.{standing, is_solid}
+use Rattle.spec_api.specs.Metadata.{owner}
+use Rattle.reconcile_types.specs.Hands.{reads_of}
+use Rattle.spec_reconcile.specs.Standings.{standing, is_solid}
 use Rattle.collector.proofs.edits.solid_ones.Given as goal
 
 -- those picked and those still to be picked are all that pass

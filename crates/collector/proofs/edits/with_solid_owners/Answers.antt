@@ -2,10 +2,10 @@ use Rattle.std.proofs.Common.{◌≡◌, IfOk, codes, subst, ap, ◌∙◌}
 use Rattle.serde_json.specs.Data.{Items}
 use Rattle.serde_json.specs.View.{items_view}
 use Rattle.serde_json.specs.Written.{items_have_float}
-use Rattle.definitions.specs.Metadata.{owner}
-use Rattle.turns.specs.Hands.{reads_of}
-use Rattle.plans.specs.Standings.{standing, is_solid}
-use Rattle.plans.specs.MetadataEdits.{with_list, only}
+use Rattle.spec_api.specs.Metadata.{owner}
+use Rattle.reconcile_types.specs.Hands.{reads_of}
+use Rattle.spec_reconcile.specs.Standings.{standing, is_solid}
+use Rattle.spec_reconcile.specs.MetadataEdits.{with_list, only}
 use Rattle.collector.proofs.Grown.{only-no_float}
 use Rattle.collector.proofs.edits.with_solid_owners.Goals as goal
 

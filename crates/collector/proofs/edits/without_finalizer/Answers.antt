@@ -3,8 +3,8 @@ use Rattle.serde_json.specs.Data.{Items}
 use Rattle.serde_json.specs.View.{items_view}
 use Rattle.serde_json.specs.Written.{items_have_float}
 use Rattle.std.specs.Str.{bytes_eq}
-use Rattle.definitions.specs.Checks.{text_is}
-use Rattle.plans.specs.MetadataEdits.{with_list, only}
+use Rattle.spec_api.specs.Checks.{text_is}
+use Rattle.spec_reconcile.specs.MetadataEdits.{with_list, only}
 use Rattle.collector.proofs.Grown.{only-no_float}
 use Rattle.collector.proofs.edits.without_finalizer.Goals as goal
 

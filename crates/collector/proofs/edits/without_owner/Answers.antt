@@ -2,9 +2,9 @@ use Rattle.std.proofs.Common.{◌≡◌, IfOk, codes, not, subst, ap, ◌∙◌}
 use Rattle.serde_json.specs.Data.{Items}
 use Rattle.serde_json.specs.View.{items_view}
 use Rattle.serde_json.specs.Written.{items_have_float}
-use Rattle.definitions.specs.Metadata.{owner}
-use Rattle.plans.specs.Standings.{is_to}
-use Rattle.plans.specs.MetadataEdits.{with_list, only}
+use Rattle.spec_api.specs.Metadata.{owner}
+use Rattle.spec_reconcile.specs.Standings.{is_to}
+use Rattle.spec_reconcile.specs.MetadataEdits.{with_list, only}
 use Rattle.collector.proofs.Grown.{only-no_float}
 use Rattle.collector.proofs.edits.without_owner.Goals as goal
 

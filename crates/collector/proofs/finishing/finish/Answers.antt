@@ -1,14 +1,14 @@
 use Rattle.std.proofs.Common.{◌≡◌, IfOk, List, [], ◌∷◌, ◌++◌, true, false, cond, map, sym, subst, ap, ◌∙◌}
-use Rattle.definitions.specs.Checks.{finalizers, has_text}
-use Rattle.definitions.specs.Deletion.{orphan, foreground}
-use Rattle.controllers.specs.Commands.{Command, update}
-use Rattle.keys.specs.Keys.{key_of}
-use Rattle.turns.specs.Commands.{command_of}
-use Rattle.turns.specs.Entries.{entry_of}
-use Rattle.turns.specs.Hands.{looks_by, members_of}
-use Rattle.plans.specs.GarbageCollection.{orphaned, is_blocked}
-use Rattle.plans.specs.MetadataEdits.{without_finalizer}
-use Rattle.plans.specs.Standings.{dependents}
+use Rattle.spec_api.specs.Checks.{finalizers, has_text}
+use Rattle.spec_api.specs.Deletion.{orphan, foreground}
+use Rattle.spec_client_go.specs.Commands.{Command, update}
+use Rattle.object_keys.specs.Keys.{key_of}
+use Rattle.reconcile_types.specs.Commands.{command_of}
+use Rattle.reconcile_types.specs.Entries.{entry_of}
+use Rattle.reconcile_types.specs.Hands.{looks_by, members_of}
+use Rattle.spec_reconcile.specs.GarbageCollection.{orphaned, is_blocked}
+use Rattle.spec_reconcile.specs.MetadataEdits.{without_finalizer}
+use Rattle.spec_reconcile.specs.Standings.{dependents}
 use Rattle.collector.proofs.ByCases.{waited, neither}
 use Rattle.collector.proofs.finishing.finish.Goals as goal
 

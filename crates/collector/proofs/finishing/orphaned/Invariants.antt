@@ -1,7 +1,7 @@
 use Rattle.std.proofs.Common.{◌≡◌, ◌++◌, drop, map}
-use Rattle.turns.specs.Commands.{command_of}
-use Rattle.turns.specs.Entries.{entry_of}
-use Rattle.plans.specs.GarbageCollection.{orphaned}
+use Rattle.reconcile_types.specs.Commands.{command_of}
+use Rattle.reconcile_types.specs.Entries.{entry_of}
+use Rattle.spec_reconcile.specs.GarbageCollection.{orphaned}
 use Rattle.collector.proofs.finishing.orphaned.Given as goal
 
 -- the dependents that are updated and those that are left are all

@@ -1,12 +1,12 @@
 use Rattle.std.proofs.Common.{◌≡◌, IfOk, List, [], ◌∷◌, true, false, map, sym, subst, ap, ◌∙◌}
 use Rattle.std.specs.List.{list_all, list_any}
-use Rattle.controllers.specs.Commands.{Command, update}
-use Rattle.controllers.specs.OwnerReferences.{namespace_of}
-use Rattle.keys.specs.Keys.{key_of}
-use Rattle.turns.specs.Commands.{command_of}
-use Rattle.turns.specs.Hands.{reads_of, looks_by, members_of}
-use Rattle.plans.specs.MetadataEdits.{keeping_owners}
-use Rattle.plans.specs.Standings.{standing, standings, is_solid, dependents}
+use Rattle.spec_client_go.specs.Commands.{Command, update}
+use Rattle.spec_client_go.specs.OwnerReferences.{namespace_of}
+use Rattle.object_keys.specs.Keys.{key_of}
+use Rattle.reconcile_types.specs.Commands.{command_of}
+use Rattle.reconcile_types.specs.Hands.{reads_of, looks_by, members_of}
+use Rattle.spec_reconcile.specs.MetadataEdits.{keeping_owners}
+use Rattle.spec_reconcile.specs.Standings.{standing, standings, is_solid, dependents}
 use Rattle.collector.specs.Removed.{remove_by}
 use Rattle.collector.proofs.ByCases.{second}
 use Rattle.collector.proofs.planning.collect_by.Goals as goal

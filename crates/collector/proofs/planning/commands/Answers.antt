@@ -1,10 +1,10 @@
 use Rattle.std.proofs.Common.{◌≡◌, IfOk, List, Some, map, option_map, sym, subst, ap, ◌∙◌}
-use Rattle.controllers.specs.Commands.{Command}
-use Rattle.controllers.specs.Hands.{live}
-use Rattle.turns.specs.Commands.{command_of}
-use Rattle.turns.specs.Hands.{hand_of, reads_of}
-use Rattle.plans.specs.GarbageCollection.{collect}
-use Rattle.plans.specs.Standings.{dependents}
+use Rattle.spec_client_go.specs.Commands.{Command}
+use Rattle.spec_client_go.specs.Hands.{live}
+use Rattle.reconcile_types.specs.Commands.{command_of}
+use Rattle.reconcile_types.specs.Hands.{hand_of, reads_of}
+use Rattle.spec_reconcile.specs.GarbageCollection.{collect}
+use Rattle.spec_reconcile.specs.Standings.{dependents}
 use Rattle.collector.proofs.ByCases.{planned}
 use Rattle.collector.proofs.planning.commands.Goals as goal
 

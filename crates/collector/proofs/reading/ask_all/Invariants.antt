@@ -1,6 +1,6 @@
 use Rattle.std.proofs.Common.{◌≡◌, map}
-use Rattle.keys.specs.Keys.{key_of}
-use Rattle.turns.specs.Hands.{reads_of}
+use Rattle.object_keys.specs.Keys.{key_of}
+use Rattle.reconcile_types.specs.Hands.{reads_of}
 use Rattle.collector.specs.Asked.{all_added}
 use Rattle.collector.proofs.reading.ask_all.Given as goal
 

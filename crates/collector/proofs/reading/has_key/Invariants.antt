@@ -1,7 +1,7 @@
 use Rattle.std.proofs.Common.{◌≡◌, drop, map}
 use Rattle.std.specs.List.{list_any}
-use Rattle.definitions.specs.Keys.{is_same_key}
-use Rattle.keys.specs.Keys.{key_of}
+use Rattle.spec_api.specs.Keys.{is_same_key}
+use Rattle.object_keys.specs.Keys.{key_of}
 use Rattle.collector.proofs.reading.has_key.Given as goal
 
 abbrev pub invariant-loop-key : goal.invariant-loop-key

@@ -1,6 +1,6 @@
 use Rattle.std.proofs.Common.{◌≡◌, drop}
 use Rattle.std.specs.List.{list_all}
-use Rattle.plans.specs.Standings.{is_solid}
+use Rattle.spec_reconcile.specs.Standings.{is_solid}
 use Rattle.collector.proofs.standings.all_solid.Given as goal
 
 abbrev pub invariant-loop-standing : goal.invariant-loop-standing

@@ -1,6 +1,6 @@
 use Rattle.std.proofs.Common.{◌≡◌, drop}
 use Rattle.std.specs.List.{list_any}
-use Rattle.plans.specs.Standings.{is_waiting}
+use Rattle.spec_reconcile.specs.Standings.{is_waiting}
 use Rattle.collector.proofs.standings.any_waiting.Given as goal
 
 abbrev pub invariant-loop-standing : goal.invariant-loop-standing

@@ -1,7 +1,7 @@
 use Rattle.std.proofs.Common.{◌≡◌, ◌++◌, drop, map}
 use Rattle.meta.specs.Owners.{owner_of}
-use Rattle.turns.specs.Hands.{reads_of}
-use Rattle.plans.specs.Standings.{standing}
+use Rattle.reconcile_types.specs.Hands.{reads_of}
+use Rattle.spec_reconcile.specs.Standings.{standing}
 use Rattle.collector.proofs.standings.standings.Given as goal
 
 -- those found and those still to be found are all

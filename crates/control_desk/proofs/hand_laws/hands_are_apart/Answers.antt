@@ -1,5 +1,5 @@
-use Rattle.shared_board.proofs.Standing.{hands_apart}
-use Rattle.shared_board.proofs.hand_laws.hands_are_apart.Goals as goal
+use Rattle.control_desk.proofs.Standing.{hands_apart}
+use Rattle.control_desk.proofs.hand_laws.hands_are_apart.Goals as goal
 
 pub returns : goal.returns
 returns c = hands_apart

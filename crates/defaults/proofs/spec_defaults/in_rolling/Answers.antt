@@ -3,7 +3,7 @@ use Rattle.serde_json.specs.Data.{object}
 use Rattle.serde_json.specs.Find.{get}
 use Rattle.serde_json.specs.View.{view, members_view}
 use Rattle.serde_json.specs.declared.value.Value.{Object, the_lemmas}
-use Rattle.definitions.specs.Defaults.{rolling_defaults}
+use Rattle.spec_api.specs.Defaults.{rolling_defaults}
 use Rattle.defaults.proofs.Changed.{put_back}
 use Rattle.defaults.proofs.spec_defaults.in_rolling.Goals as goal
 

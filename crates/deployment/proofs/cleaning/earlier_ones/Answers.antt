@@ -1,7 +1,7 @@
 use Rattle.std.proofs.Common.{◌-◌, length, map, take, sym, ap, ◌∙◌}
 use Rattle.std.proofs.lemmas.List.{take-map, length-map}
-use Rattle.plans.specs.Deployments.{all_but_last}
-use Rattle.turns.specs.Entries.{entry_of}
+use Rattle.spec_reconcile.specs.Deployments.{all_but_last}
+use Rattle.reconcile_types.specs.Entries.{entry_of}
 use Rattle.deployment.proofs.cleaning.earlier_ones.Goals as goal
 
 pub returns : goal.returns

@@ -2,7 +2,7 @@ use Rattle.std.proofs.Common.{ap, ◌∙◌, ◌++◌, take}
 use Rattle.hex.specs.Hex.{encode_lower}
 use Rattle.serde_json.specs.Written.{compact_text}
 use Rattle.sha2.specs.Sha256.{sha256}
-use Rattle.plans.specs.Templates.{collision_digits}
+use Rattle.spec_reconcile.specs.Templates.{collision_digits}
 use Rattle.deployment.proofs.HashDigits.{first_digits}
 use Rattle.deployment.proofs.hashes.template_hash.Goals as goal
 

@@ -1,9 +1,9 @@
 use Rattle.std.proofs.Common.{◌≡◌, ◌++◌, ◌&&◌, ℕ, List, Bool, map, drop, bytes_eq}
 use Rattle.std.specs.Prelude.{filter}
 use Rattle.serde_json.specs.Data.{Data}
-use Rattle.definitions.specs.Keys.{Key}
-use Rattle.controllers.specs.OwnerReferences.{is_controlled_by}
-use Rattle.turns.specs.Entries.{entry_of}
+use Rattle.spec_api.specs.Keys.{Key}
+use Rattle.spec_client_go.specs.OwnerReferences.{is_controlled_by}
+use Rattle.reconcile_types.specs.Entries.{entry_of}
 use Rattle.deployment.proofs.managed.controlled.Given as goal
 
 abbrev here : List ℕ → List ℕ → Key × Data → Bool

@@ -1,8 +1,8 @@
 use Rattle.std.proofs.Common.{◌≡◌, ◌∙◌, IfOk, map, ap, subst, rules}
 use Rattle.std.specs.Prelude.{filter}
-use Rattle.definitions.specs.History.{Entries}
-use Rattle.turns.specs.Entries.{entry_of}
-use Rattle.turns.specs.Hands.{members_of}
+use Rattle.spec_api.specs.History.{Entries}
+use Rattle.reconcile_types.specs.Entries.{entry_of}
+use Rattle.reconcile_types.specs.Hands.{members_of}
 use Rattle.deployment.proofs.Found.{here, managed_here}
 use Rattle.deployment.proofs.managed.managed.Goals as goal
 

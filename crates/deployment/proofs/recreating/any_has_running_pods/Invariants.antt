@@ -1,8 +1,8 @@
 use Rattle.std.proofs.Common.{◌≡◌, map, drop}
 use Rattle.std.specs.List.{list_any}
-use Rattle.plans.specs.Deployments.{has_running_pods}
-use Rattle.turns.specs.Entries.{entry_of}
-use Rattle.turns.specs.Hands.{members_of}
+use Rattle.spec_reconcile.specs.Deployments.{has_running_pods}
+use Rattle.reconcile_types.specs.Entries.{entry_of}
+use Rattle.reconcile_types.specs.Hands.{members_of}
 use Rattle.deployment.proofs.recreating.any_has_running_pods.Given as goal
 
 abbrev pub invariant-loop-set : goal.invariant-loop-set

@@ -1,9 +1,9 @@
 use Rattle.std.proofs.Common.{◌≡◌, map, drop, not}
 use Rattle.std.specs.List.{list_any}
 use Rattle.serde_json.specs.Data.{Data}
-use Rattle.definitions.specs.Keys.{Key}
-use Rattle.plans.specs.Deployments.{is_over}
-use Rattle.turns.specs.Entries.{entry_of}
+use Rattle.spec_api.specs.Keys.{Key}
+use Rattle.spec_reconcile.specs.Deployments.{is_over}
+use Rattle.reconcile_types.specs.Entries.{entry_of}
 use Rattle.deployment.proofs.recreating.any_runs.Given as goal
 
 abbrev pub invariant-loop-pod : goal.invariant-loop-pod

@@ -1,15 +1,15 @@
 use Rattle.std.proofs.Common.{◌≡◌, IfOk, List, map, length, sym, ap, ◌∙◌, subst}
-use Rattle.controllers.specs.Commands.{Command}
-use Rattle.turns.specs.Commands.{command_of}
+use Rattle.spec_client_go.specs.Commands.{Command}
+use Rattle.reconcile_types.specs.Commands.{command_of}
 use Rattle.deployment.proofs.Cases.{first_case, later_case}
 use Rattle.deployment.specs.Sets.{rollout_seen}
 use Rattle.serde_json.specs.Data.{Data}
-use Rattle.definitions.specs.Keys.{Key}
-use Rattle.plans.specs.Deployments.{scale_each}
+use Rattle.spec_api.specs.Keys.{Key}
+use Rattle.spec_reconcile.specs.Deployments.{scale_each}
 use Rattle.deployment.specs.Steps.{wait_or_start}
-use Rattle.turns.specs.Hands.{members_of}
-use Rattle.turns.specs.Entries.{entry_of}
-use Rattle.turns.specs.declared.entries.Entry.{Entry}
+use Rattle.reconcile_types.specs.Hands.{members_of}
+use Rattle.reconcile_types.specs.Entries.{entry_of}
+use Rattle.reconcile_types.specs.declared.entries.Entry.{Entry}
 use Rattle.deployment.proofs.recreating.recreate.Goals as goal
 
 abbrev stops : List Entry → List Command

@@ -1,9 +1,9 @@
 use Rattle.std.proofs.Common.{◌≡◌, IfOk, List, map, length, sym, ap, ◌∙◌, subst}
-use Rattle.controllers.specs.Commands.{Command}
-use Rattle.turns.specs.Commands.{command_of}
+use Rattle.spec_client_go.specs.Commands.{Command}
+use Rattle.reconcile_types.specs.Commands.{command_of}
 use Rattle.deployment.proofs.Cases.{first_case, later_case}
 use Rattle.deployment.specs.Sets.{rollout_seen}
-use Rattle.plans.specs.Deployments.{clean_up, renew_whole}
+use Rattle.spec_reconcile.specs.Deployments.{clean_up, renew_whole}
 use Rattle.deployment.proofs.recreating.start_new.Goals as goal
 
 pub returns-then-as_slice-ne0 : goal.returns-then-as_slice-ne0

@@ -1,7 +1,7 @@
 use Rattle.std.proofs.Common.{◌≡◌, ◌++◌, map, drop}
 use Rattle.serde_json.specs.Data.{Data}
-use Rattle.definitions.specs.Keys.{Key}
-use Rattle.turns.specs.Entries.{entry_of}
+use Rattle.spec_api.specs.Keys.{Key}
+use Rattle.reconcile_types.specs.Entries.{entry_of}
 use Rattle.deployment.proofs.recreating.zeros.Given as goal
 
 abbrev pub invariant-loop-set : goal.invariant-loop-set

@@ -1,13 +1,13 @@
 use Rattle.std.proofs.Common.{◌≡◌, IfOk, List, map, length, sym, ap, ◌∙◌, subst}
-use Rattle.controllers.specs.Commands.{Command}
-use Rattle.turns.specs.Commands.{command_of}
+use Rattle.spec_client_go.specs.Commands.{Command}
+use Rattle.reconcile_types.specs.Commands.{command_of}
 use Rattle.deployment.proofs.Cases.{first_case, later_case}
 use Rattle.deployment.specs.Sets.{rollout_seen}
-use Rattle.turns.specs.Entries.{entry_of}
+use Rattle.reconcile_types.specs.Entries.{entry_of}
 use Rattle.std.proofs.Common.{◌∷◌}
-use Rattle.plans.specs.Counts.{replicas}
-use Rattle.plans.specs.Deployments.{asked_by, clean_up, due, first_of, renew, scale_each, tally}
-use Rattle.plans.specs.Rollouts.{resized, shrunk}
+use Rattle.spec_reconcile.specs.Counts.{replicas}
+use Rattle.spec_reconcile.specs.Deployments.{asked_by, clean_up, due, first_of, renew, scale_each, tally}
+use Rattle.spec_reconcile.specs.Rollouts.{resized, shrunk}
 use Rattle.deployment.proofs.rolling.roll_on.Goals as goal
 
 pub returns-then-as_slice-ne0 : goal.returns-then-as_slice-ne0

@@ -1,11 +1,11 @@
 use Rattle.std.proofs.Common.{◌≡◌, IfOk, List, map, length, sym, ap, ◌∙◌, subst}
-use Rattle.controllers.specs.Commands.{Command}
-use Rattle.turns.specs.Commands.{command_of}
+use Rattle.spec_client_go.specs.Commands.{Command}
+use Rattle.reconcile_types.specs.Commands.{command_of}
 use Rattle.deployment.proofs.Cases.{first_case, later_case}
 use Rattle.deployment.specs.Sets.{rollout_seen}
-use Rattle.turns.specs.Entries.{entry_of}
-use Rattle.plans.specs.Deployments.{clean_up, scale_each, tally}
-use Rattle.plans.specs.Rollouts.{shrunk}
+use Rattle.reconcile_types.specs.Entries.{entry_of}
+use Rattle.spec_reconcile.specs.Deployments.{clean_up, scale_each, tally}
+use Rattle.spec_reconcile.specs.Rollouts.{shrunk}
 use Rattle.deployment.proofs.rolling.shrink_or_clean.Goals as goal
 
 pub returns-then-as_slice-ne0 : goal.returns-then-as_slice-ne0

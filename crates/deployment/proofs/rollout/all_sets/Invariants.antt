@@ -1,7 +1,7 @@
 use Rattle.std.proofs.Common.{◌≡◌, ◌++◌, map, drop}
-use Rattle.plans.specs.Deployments.{sets}
+use Rattle.spec_reconcile.specs.Deployments.{sets}
 use Rattle.deployment.specs.Sets.{rollout_seen}
-use Rattle.turns.specs.Entries.{entry_of}
+use Rattle.reconcile_types.specs.Entries.{entry_of}
 use Rattle.deployment.proofs.rollout.all_sets.Given as goal
 
 abbrev pub invariant-loop-set : goal.invariant-loop-set

@@ -1,8 +1,8 @@
 use Rattle.std.proofs.Common.{◌≡◌, ◌<◌, ◌^◌, map, drop, max}
 use Rattle.serde_json.specs.Data.{Data}
-use Rattle.definitions.specs.Keys.{Key}
-use Rattle.plans.specs.Revisions.{greatest, revision}
-use Rattle.turns.specs.Entries.{entry_of}
+use Rattle.spec_api.specs.Keys.{Key}
+use Rattle.spec_reconcile.specs.Revisions.{greatest, revision}
+use Rattle.reconcile_types.specs.Entries.{entry_of}
 use Rattle.deployment.proofs.rollout.greatest_revision.Given as goal
 
 abbrev pub invariant-loop-set : goal.invariant-loop-set

@@ -1,7 +1,7 @@
 use Rattle.std.proofs.Common.{◌≡◌, ◌++◌, map, drop, option_map}
-use Rattle.plans.specs.Deployments.{has_its_template, new_set, old_sets}
+use Rattle.spec_reconcile.specs.Deployments.{has_its_template, new_set, old_sets}
 use Rattle.deployment.proofs.Picked.{first_or, left_of}
-use Rattle.turns.specs.Entries.{entry_of}
+use Rattle.reconcile_types.specs.Entries.{entry_of}
 use Rattle.deployment.proofs.rollout.rollout_of.Given as goal
 
 -- the first so far, or the first of what is to come; and the others so far, with those to come

@@ -1,6 +1,6 @@
 use Rattle.std.proofs.Common.{◌≡◌, ◌++◌, map, drop}
-use Rattle.plans.specs.Deployments.{tally}
-use Rattle.turns.specs.Entries.{entry_of}
+use Rattle.spec_reconcile.specs.Deployments.{tally}
+use Rattle.reconcile_types.specs.Entries.{entry_of}
 use Rattle.deployment.proofs.rollout.tallies.Given as goal
 
 abbrev pub invariant-loop-set : goal.invariant-loop-set

@@ -1,5 +1,5 @@
 use Rattle.std.proofs.Common.{◌≡◌, ◌+◌, ◌*◌, ◌≤◌, drop}
-use Rattle.plans.specs.Rollouts.{total, asked}
+use Rattle.spec_reconcile.specs.Rollouts.{total, asked}
 use Rattle.deployment.proofs.rollouts.total_asked.Given as goal
 
 abbrev pub invariant-loop-set : goal.invariant-loop-set

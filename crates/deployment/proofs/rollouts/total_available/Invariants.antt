@@ -1,5 +1,5 @@
 use Rattle.std.proofs.Common.{◌≡◌, ◌+◌, ◌*◌, ◌≤◌, drop}
-use Rattle.plans.specs.Rollouts.{available}
+use Rattle.spec_reconcile.specs.Rollouts.{available}
 use Rattle.deployment.proofs.rollouts.total_available.Given as goal
 
 abbrev pub invariant-loop-set : goal.invariant-loop-set

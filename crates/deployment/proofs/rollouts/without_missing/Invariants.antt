@@ -1,5 +1,5 @@
 use Rattle.std.proofs.Common.{◌≡◌, ◌++◌, drop}
-use Rattle.plans.specs.Rollouts.{without_missing}
+use Rattle.spec_reconcile.specs.Rollouts.{without_missing}
 use Rattle.deployment.proofs.rollouts.without_missing.Given as goal
 
 abbrev pub invariant-loop-set : goal.invariant-loop-set

@@ -1,5 +1,5 @@
 use Rattle.std.proofs.Common.{◌≡◌, ◌++◌, drop}
-use Rattle.plans.specs.Rollouts.{without_spare}
+use Rattle.spec_reconcile.specs.Rollouts.{without_spare}
 use Rattle.deployment.proofs.rollouts.without_spare.Given as goal
 
 abbrev pub invariant-loop-replicas : goal.invariant-loop-replicas

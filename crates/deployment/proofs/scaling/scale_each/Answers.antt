@@ -1,7 +1,7 @@
 use Rattle.std.proofs.Common.{◌≡◌, ◌⊎◌, inl, inr, length, map}
-use Rattle.plans.specs.Deployments.{scale_each}
-use Rattle.turns.specs.Commands.{command_of}
-use Rattle.turns.specs.Entries.{entry_of}
+use Rattle.spec_reconcile.specs.Deployments.{scale_each}
+use Rattle.reconcile_types.specs.Commands.{command_of}
+use Rattle.reconcile_types.specs.Entries.{entry_of}
 use Rattle.deployment.proofs.Ended.{ended}
 use Rattle.deployment.proofs.scaling.scale_each.Goals as goal
 

@@ -1,6 +1,6 @@
 use Rattle.std.proofs.Common.{◌≡◌, ◌+◌, ◌*◌, ◌≤◌, map, drop}
-use Rattle.plans.specs.Deployments.{sum_of}
-use Rattle.turns.specs.Entries.{entry_of}
+use Rattle.spec_reconcile.specs.Deployments.{sum_of}
+use Rattle.reconcile_types.specs.Entries.{entry_of}
 use Rattle.deployment.proofs.statuses.sum_of.Given as goal
 
 abbrev pub invariant-loop-set : goal.invariant-loop-set

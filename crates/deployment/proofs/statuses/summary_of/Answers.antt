@@ -1,5 +1,5 @@
 use Rattle.std.proofs.Common.{◌≡◌, ◌-◌, ◌∙◌, codes, ap}
-use Rattle.plans.specs.Deployments.{asked_by, sets, sum_of}
+use Rattle.spec_reconcile.specs.Deployments.{asked_by, sets, sum_of}
 use Rattle.deployment.specs.Sets.{rollout_seen}
 use Rattle.deployment.proofs.statuses.summary_of.Goals as goal
 

@@ -2,7 +2,7 @@ use Rattle.std.proofs.Common.{ap, ◌∙◌}
 use Rattle.serde_json.specs.View.{view, members_view}
 use Rattle.serde_json.specs.Written.{members_have_float}
 use Rattle.json_values.proofs.NoFloats.{members_have_float-without, members_of-no_float}
-use Rattle.plans.specs.Templates.{hash_label}
+use Rattle.spec_reconcile.specs.Templates.{hash_label}
 use Rattle.deployment.proofs.templates.bare_labels.Goals as goal
 
 pub returns-clause-no_float : goal.returns-clause-no_float

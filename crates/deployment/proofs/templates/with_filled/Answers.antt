@@ -2,7 +2,7 @@ use Rattle.std.proofs.Common.{◌≡◌, IfOk, sym, ap, ◌∙◌, subst}
 use Rattle.serde_json.specs.Data.{Members, object, put}
 use Rattle.serde_json.specs.View.{members_view}
 use Rattle.serde_json.proofs.Views.{members_len-members_view, view-Object}
-use Rattle.definitions.specs.Values.{members_of}
+use Rattle.spec_api.specs.Values.{members_of}
 use Rattle.deployment.proofs.Filled.{filled}
 use Rattle.deployment.proofs.templates.with_filled.Goals as goal
 

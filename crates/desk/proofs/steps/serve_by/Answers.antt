@@ -1,7 +1,7 @@
-use Rattle.definitions.specs.Verbs.{accept_at, write_of}
-use Rattle.requests.specs.Requests.{request_of}
-use Rattle.shared_desk.proofs.Wrote.{wrote_so}
-use Rattle.shared_desk.proofs.steps.serve_by.Goals as goal
+use Rattle.spec_api.specs.Verbs.{accept_at, write_of}
+use Rattle.request_parts.specs.Requests.{request_of}
+use Rattle.desk.proofs.Wrote.{wrote_so}
+use Rattle.desk.proofs.steps.serve_by.Goals as goal
 
 pub returns-in-Ok-clause-reply : goal.returns-in-Ok-clause-reply
 returns-in-Ok-clause-reply c =

@@ -1,5 +1,5 @@
-use Rattle.shared_desk.proofs.Coming.{read_reached}
-use Rattle.shared_desk.proofs.store_laws.read_histories_are_reached.Goals as goal
+use Rattle.desk.proofs.Coming.{read_reached}
+use Rattle.desk.proofs.store_laws.read_histories_are_reached.Goals as goal
 
 pub returns : goal.returns
 returns c = read_reached

@@ -1,5 +1,5 @@
 use Rattle.std.proofs.Common.{subst, ap, ◌∙◌, arith}
-use Rattle.controllers.specs.ReadFrames.{reading, onto, line_read}
+use Rattle.spec_client_go.specs.ReadFrames.{reading, onto, line_read}
 use Rattle.framing.specs.Decoders.{events_of, event_of}
 use Rattle.framing.specs.Scans.{IsRead}
 use Rattle.framing.proofs.OneLine.{reads_fault, reads_frame, reads_short, reads_long, end_after, events_of-push}

@@ -1,6 +1,6 @@
 use Rattle.std.proofs.Common.{◌≡◌, ◌≤◌, ◌-◌, length, take, drop}
 use Rattle.framing.specs.Lines.{IsPartial}
-use Rattle.controllers.specs.ReadFrames.{reading, onto}
+use Rattle.spec_client_go.specs.ReadFrames.{reading, onto}
 use Rattle.framing.specs.Decoders.{events_of}
 use Rattle.framing.proofs.lines.read_lines.Given as goal
 

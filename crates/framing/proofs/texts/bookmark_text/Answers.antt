@@ -1,8 +1,8 @@
 use Rattle.std.proofs.Common.{subst}
 use Rattle.std.specs.Prelude.{string_bytes}
-use Rattle.definitions.specs.Frames.{Frame}
+use Rattle.spec_api.specs.Frames.{Frame}
 use Rattle.framing.specs.Texts.{IsWithin, ReadsAs}
-use Rattle.definitions.specs.declared.frames.FrameKind.TheVariants.{Bookmark}
+use Rattle.spec_api.specs.declared.frames.FrameKind.TheVariants.{Bookmark}
 use Rattle.framing.proofs.Bookmarks.{IsWithin-bookmark}
 use Rattle.framing.proofs.texts.bookmark_text.Goals as goal
 

@@ -1,9 +1,9 @@
 use Rattle.std.proofs.Common.{ap, ◌∙◌, subst}
 use Rattle.std.specs.Prelude.{string_bytes}
 use Rattle.serde_json.specs.Written.{has_float}
-use Rattle.keys.specs.Faults.{refusal_of}
-use Rattle.definitions.specs.Frames.{Frame, frame_text}
-use Rattle.definitions.specs.declared.frames.FrameKind.TheVariants.{Error}
+use Rattle.object_keys.specs.Faults.{refusal_of}
+use Rattle.spec_api.specs.Frames.{Frame, frame_text}
+use Rattle.spec_api.specs.declared.frames.FrameKind.TheVariants.{Error}
 use Rattle.framing.specs.Texts.{IsWithin, ReadsAs}
 use Rattle.framing.proofs.Statuses.{status_clean}
 use Rattle.framing.proofs.texts.error_text.Goals as goal

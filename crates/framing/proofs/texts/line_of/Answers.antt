@@ -2,7 +2,7 @@ use Rattle.std.specs.Str.{IsUtf8}
 use Rattle.std.proofs.Common.{subst, ap, ◌∙◌, refl}
 use Rattle.std.specs.Prelude.{string_bytes}
 use Rattle.serde_json.specs.View.{view}
-use Rattle.definitions.specs.Frames.{kind_text}
+use Rattle.spec_api.specs.Frames.{kind_text}
 use Rattle.framing.specs.Texts.{framed_text}
 use Rattle.framing.proofs.FrameTexts.{line_is, line_reads}
 use Rattle.framing.proofs.texts.line_of.Goals as goal

@@ -1,7 +1,7 @@
 use Rattle.std.proofs.Common.{◌≡◌, ◌≤◌, ◌-◌, length, false}
 use Rattle.std.specs.Io.KnownBytes.{Consumes}
 use Rattle.chunked.specs.Devices.{device_of, has_failed}
-use Rattle.client.proofs.body.read_body.Given as goal
+use Rattle.http_client.proofs.body.read_body.Given as goal
 
 -- what was read so far is the body, and is no longer than it
 abbrev pub invariant-loop-body : goal.invariant-loop-body

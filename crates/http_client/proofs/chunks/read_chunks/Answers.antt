@@ -1,10 +1,10 @@
 use Rattle.std.proofs.Common.{rules, ◌≡◌, [], false, sym, subst}
 use Rattle.chunked.specs.Reading.{Reaches, place_of, left_of}
-use Rattle.chunked.specs.declared.place.Place.{Place}
-use Rattle.chunked.specs.declared.place.Place.TheVariants as place
+use Rattle.chunked.specs.declared.place.BodyPlace.{BodyPlace}
+use Rattle.chunked.specs.declared.place.BodyPlace.TheVariants as place
 use Rattle.chunked.proofs.Passing.{reaches_stay}
-use Rattle.client.proofs.WholeBodies.{reaches_more, stopped, longer_there}
-use Rattle.client.proofs.chunks.read_chunks.Goals as goal
+use Rattle.http_client.proofs.WholeBodies.{reaches_more, stopped, longer_there}
+use Rattle.http_client.proofs.chunks.read_chunks.Goals as goal
 
 pub loop-init : goal.loop-init
 loop-init g c =
@@ -20,7 +20,7 @@ returns-in-Ok-false-clause-read g c =
     let more = c.in-Ok-false.ensures.read in
     let none : c.in-Ok-false.field-0 ≡ false = search rules in
     let ended : place_of c.read_piece.new.chunks ≡ place.Ended = c.in-Ok-false.ensures.end none in
-    subst (λ (p : Place). Reaches place.Line first c.read_piece.new.body.items p last) ended
+    subst (λ (p : BodyPlace). Reaches place.Line first c.read_piece.new.body.items p last) ended
     (reaches_more first mid last place.Line (place_of c.loop.chunks) (place_of c.read_piece.new.chunks) c.loop.body.items more.0 c.read_piece.new.body.items c.loop.invariant.0 more.2 more.1)
 
 pub returns-in-Err-clause-none : goal.returns-in-Err-clause-none

@@ -1,7 +1,7 @@
 use Rattle.std.proofs.Common.{◌≡◌, None}
 use Rattle.chunked.specs.Reading.{Reaches, place_of, answered_fault, left_of}
-use Rattle.chunked.specs.declared.place.Place.TheVariants as place
-use Rattle.client.proofs.chunks.read_chunks.Given as goal
+use Rattle.chunked.specs.declared.place.BodyPlace.TheVariants as place
+use Rattle.http_client.proofs.chunks.read_chunks.Given as goal
 
 -- what was read so far is bytes of the chunks, and there is no fault
 abbrev pub invariant-loop : goal.invariant-loop

@@ -1,7 +1,7 @@
 use Rattle.std.proofs.Common.{rules, ◌≡◌, map}
-use Rattle.request_heads.specs.Fields.{field_seen}
-use Rattle.client.proofs.Framings.{by_chunks}
-use Rattle.client.proofs.framing.framing_of.Goals as goal
+use Rattle.http_request_head.specs.Fields.{field_seen}
+use Rattle.http_client.proofs.Framings.{by_chunks}
+use Rattle.http_client.proofs.framing.framing_of.Goals as goal
 
 pub returns-then-eq_ignore_ascii_case : goal.returns-then-eq_ignore_ascii_case
 returns-then-eq_ignore_ascii_case c =

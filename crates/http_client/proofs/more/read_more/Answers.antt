@@ -1,6 +1,6 @@
 use Rattle.std.proofs.Common.{rules, ◌≡◌}
-use Rattle.client.proofs.Watches.{ended_there}
-use Rattle.client.proofs.more.read_more.Goals as goal
+use Rattle.http_client.proofs.Watches.{ended_there}
+use Rattle.http_client.proofs.more.read_more.Goals as goal
 
 pub returns-in-Ok-eq0-clause-more : goal.returns-in-Ok-eq0-clause-more
 returns-in-Ok-eq0-clause-more g c =

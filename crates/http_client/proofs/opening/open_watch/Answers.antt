@@ -1,7 +1,7 @@
 use Rattle.std.proofs.Common.{rules}
 use Rattle.chunked.specs.Devices.{device_of}
-use Rattle.client.proofs.Replies.{opening_short, opening_refused, opening_other, head_longer}
-use Rattle.client.proofs.opening.open_watch.Goals as goal
+use Rattle.http_client.proofs.Replies.{opening_short, opening_refused, opening_other, head_longer}
+use Rattle.http_client.proofs.opening.open_watch.Goals as goal
 
 pub returns-in-Err-read_body-clause-none : goal.returns-in-Err-read_body-clause-none
 returns-in-Err-read_body-clause-none g c = λ is.

@@ -1,7 +1,7 @@
 use Rattle.std.proofs.Common.{refl, arith}
 use Rattle.chunked.specs.Devices.{device_of}
-use Rattle.client.proofs.Replies.{reply_whole, reply_short, reply_in_chunks, reply_other, head_longer, stated_within}
-use Rattle.client.proofs.reply.read_reply.Goals as goal
+use Rattle.http_client.proofs.Replies.{reply_whole, reply_short, reply_in_chunks, reply_other, head_longer, stated_within}
+use Rattle.http_client.proofs.reply.read_reply.Goals as goal
 
 pub returns-in-Ok-read_body-clause-read : goal.returns-in-Ok-read_body-clause-read
 returns-in-Ok-read_body-clause-read g c =

@@ -1,7 +1,7 @@
 use Rattle.std.proofs.Common.{refl}
 use Rattle.chunked.specs.Devices.{device_of}
-use Rattle.client.proofs.Replies.{whole_says, bodiless_says, longer_says, head_within}
-use Rattle.client.proofs.whole.read_whole.Goals as goal
+use Rattle.http_client.proofs.Replies.{whole_says, bodiless_says, longer_says, head_within}
+use Rattle.http_client.proofs.whole.read_whole.Goals as goal
 
 pub returns-in-Ok-body_framed-clause-says : goal.returns-in-Ok-body_framed-clause-says
 returns-in-Ok-body_framed-clause-says g c =

@@ -1,5 +1,5 @@
 use Rattle.std.proofs.Common.{sym, subst}
-use Rattle.asked.specs.Asked.{asked_seen}
+use Rattle.request_decoding.specs.Asked.{asked_seen}
 use Rattle.http_connection.proofs.Standing.{answer_stands}
 use Rattle.http_connection.specs.Phases.{Stands}
 use Rattle.http_connection.proofs.answering.answer.Goals as goal

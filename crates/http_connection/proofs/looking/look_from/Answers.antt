@@ -1,5 +1,5 @@
 use Rattle.std.proofs.Common.{rules, ◌<◌}
-use Rattle.watch_service.specs.Watches.{most_idle}
+use Rattle.http_watch.specs.Watches.{most_idle}
 use Rattle.http_connection.proofs.Looked.{shows_nothing}
 use Rattle.http_connection.proofs.looking.look_from.Goals as goal
 

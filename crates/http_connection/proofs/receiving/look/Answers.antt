@@ -1,8 +1,8 @@
 use Rattle.std.proofs.Common.{Some, Err, inl, inr, refl, ap, sym, subst, ◌∙◌}
-use Rattle.connections.specs.Connections.{Asks}
-use Rattle.keys.specs.Faults.{refusal_of}
-use Rattle.received.specs.Arriving.{AsksSoFar, WaitsFor}
-use Rattle.received.specs.declared.arrived.Arrived.TheVariants as arrived
+use Rattle.spec_http_server.specs.Connections.{Asks}
+use Rattle.object_keys.specs.Faults.{refusal_of}
+use Rattle.http_request_reader.specs.Arriving.{AsksSoFar, WaitsFor}
+use Rattle.http_request_reader.specs.declared.arrived.Arrived.TheVariants as arrived
 use Rattle.http_connection.proofs.receiving.look.Goals as goal
 
 pub awaited_after-awaited-requires : goal.awaited_after-awaited-requires

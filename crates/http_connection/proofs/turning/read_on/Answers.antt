@@ -5,7 +5,7 @@ use Rattle.api.specs.declared.served.Served.TheVariants as served
 use Rattle.http_connection.proofs.Reading.{ReadsTo, reads_piece}
 use Rattle.http_connection.specs.Arriving.{Arrives}
 use Rattle.http_connection.specs.declared.arriving.Arriving.{Arriving}
-use Rattle.http_connection.specs.declared.phase.Phase.TheVariants as phase
+use Rattle.http_connection.specs.declared.phase.ConnectionPhase.TheVariants as phase
 use Rattle.http_connection.proofs.turning.read_on.Goals.{in-Ok+in-Reading, in-Err+in-Interrupted}
 use Rattle.http_connection.proofs.turning.read_on.Goals as goal
 

@@ -2,7 +2,7 @@ use Rattle.std.proofs.Common.{[], sym, subst}
 use Rattle.std.proofs.KnownBytes.{Appends-nil}
 use Rattle.http_connection.proofs.Standing.{replies_stand, watches_stand, nothing_read, nothing_done, request_read}
 use Rattle.http_connection.specs.Phases.{Stands, Turns}
-use Rattle.http_connection.specs.declared.phase.Phase.TheVariants as phase
+use Rattle.http_connection.specs.declared.phase.ConnectionPhase.TheVariants as phase
 use Rattle.http_connection.proofs.turning.turn.Goals as goal
 
 pub returns-in-Replying-read_on : goal.returns-in-Replying-read_on

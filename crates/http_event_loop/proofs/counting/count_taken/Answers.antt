@@ -1,7 +1,7 @@
 use Rattle.std.proofs.Common.{ap, ◌∙◌, arith}
-use Rattle.http_loop.specs.Counted.{taken_over}
-use Rattle.http_loop.proofs.Counts.{one_more}
-use Rattle.http_loop.proofs.counting.count_taken.Goals as goal
+use Rattle.http_event_loop.specs.Counted.{taken_over}
+use Rattle.http_event_loop.proofs.Counts.{one_more}
+use Rattle.http_event_loop.proofs.counting.count_taken.Goals as goal
 
 pub loop-next-init : goal.loop-next-init
 loop-next-init g c =

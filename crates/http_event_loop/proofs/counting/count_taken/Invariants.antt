@@ -1,6 +1,6 @@
 use Rattle.std.proofs.Common.{◌≡◌, ◌+◌, length}
-use Rattle.http_loop.specs.Counted.{taken_over}
-use Rattle.http_loop.proofs.counting.count_taken.Given as goal
+use Rattle.http_event_loop.specs.Counted.{taken_over}
+use Rattle.http_event_loop.proofs.counting.count_taken.Given as goal
 
 -- those that are left, and those that were counted, are all
 abbrev pub invariant-loop-next : goal.invariant-loop-next

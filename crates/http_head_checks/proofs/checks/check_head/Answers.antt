@@ -1,10 +1,10 @@
 use Rattle.std.proofs.Common.{rules, ◌≡◌}
-use Rattle.connections.specs.Heads.{stated_length}
-use Rattle.request_heads.specs.Fields.{IsLength}
-use Rattle.request_heads.specs.RequestHeads.{head_seen}
-use Rattle.request_heads.specs.declared.body_length.BodyLength.TheVariants as kind
-use Rattle.head_checks.proofs.Checked.{from_path}
-use Rattle.head_checks.proofs.checks.check_head.Goals as goal
+use Rattle.spec_http_server.specs.Heads.{stated_length}
+use Rattle.http_request_head.specs.Fields.{IsLength}
+use Rattle.http_request_head.specs.RequestHeads.{head_seen}
+use Rattle.http_request_head.specs.declared.body_length.BodyLength.TheVariants as kind
+use Rattle.http_head_checks.proofs.Checked.{from_path}
+use Rattle.http_head_checks.proofs.checks.check_head.Goals as goal
 
 pub returns-in_default : goal.returns-in_default
 returns-in_default c =

@@ -1,15 +1,15 @@
 use Rattle.std.proofs.Common.{rules, ◌≡◌, ◌∙◌, Some, None, Ok, Err, inr, ap, sym, subst}
 use Rattle.std.specs.Prelude.{unwrap_or}
-use Rattle.definitions.specs.declared.methods.Method.TheVariants.{Get}
-use Rattle.definitions.specs.Targets.{route, path_of}
-use Rattle.connections.specs.Heads.{method_named}
-use Rattle.request_heads.specs.RequestHeads.{head_seen}
-use Rattle.requests.specs.Checked.{checked_at}
-use Rattle.requests.specs.Seen.{check_refusal}
-use Rattle.routes.specs.Seen.{route_seen}
-use Rattle.head_checks.specs.Openings.{Opens}
-use Rattle.head_checks.proofs.Checked.{path_refused, no_method, path_passed}
-use Rattle.head_checks.proofs.checks.check_path.Goals as goal
+use Rattle.spec_api.specs.declared.methods.Method.TheVariants.{Get}
+use Rattle.spec_api.specs.Targets.{route, path_of}
+use Rattle.spec_http_server.specs.Heads.{method_named}
+use Rattle.http_request_head.specs.RequestHeads.{head_seen}
+use Rattle.request_parts.specs.Checked.{checked_at}
+use Rattle.request_parts.specs.Seen.{check_refusal}
+use Rattle.request_routing.specs.Seen.{route_seen}
+use Rattle.http_head_checks.specs.Openings.{Opens}
+use Rattle.http_head_checks.proofs.Checked.{path_refused, no_method, path_passed}
+use Rattle.http_head_checks.proofs.checks.check_path.Goals as goal
 
 pub returns-in-Err : goal.returns-in-Err
 returns-in-Err c =

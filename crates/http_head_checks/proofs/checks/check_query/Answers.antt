@@ -1,10 +1,10 @@
 use Rattle.std.proofs.Common.{◌∙◌, ap, refl, inr}
-use Rattle.definitions.specs.Targets.{query_for}
-use Rattle.connections.specs.Checks.{query_checked}
-use Rattle.request_heads.specs.RequestHeads.{head_seen}
-use Rattle.routes.specs.Seen.{route_seen}
-use Rattle.head_checks.proofs.Checked.{body_opens}
-use Rattle.head_checks.proofs.checks.check_query.Goals as goal
+use Rattle.spec_api.specs.Targets.{query_for}
+use Rattle.spec_http_server.specs.Checks.{query_checked}
+use Rattle.http_request_head.specs.RequestHeads.{head_seen}
+use Rattle.request_routing.specs.Seen.{route_seen}
+use Rattle.http_head_checks.proofs.Checked.{body_opens}
+use Rattle.http_head_checks.proofs.checks.check_query.Goals as goal
 
 pub returns-in-Ok-check_body : goal.returns-in-Ok-check_body
 returns-in-Ok-check_body c =

@@ -1,7 +1,7 @@
 use Rattle.std.proofs.Common.{◌≡◌, drop}
 use Rattle.std.specs.Char.{is_ascii_digit}
 use Rattle.std.specs.List.{list_all}
-use Rattle.request_heads.proofs.body_length.is_number.Given as goal
+use Rattle.http_request_head.proofs.body_length.is_number.Given as goal
 
 -- the bytes so far are digits
 abbrev pub invariant-loop-byte : goal.invariant-loop-byte

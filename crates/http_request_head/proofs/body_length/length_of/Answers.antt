@@ -1,8 +1,8 @@
 use Rattle.std.proofs.Common.{rules, ◌≡◌, ◌<◌, true, refl, Some}
 use Rattle.std.specs.Str.Parse.{digits_value}
-use Rattle.definitions.specs.Targets.{longest_body}
-use Rattle.connections.specs.Heads.{is_number, one_number}
-use Rattle.request_heads.proofs.body_length.length_of.Goals as goal
+use Rattle.spec_api.specs.Targets.{longest_body}
+use Rattle.spec_http_server.specs.Heads.{is_number, one_number}
+use Rattle.http_request_head.proofs.body_length.length_of.Goals as goal
 
 pub returns-in-None : goal.returns-in-None
 returns-in-None c =

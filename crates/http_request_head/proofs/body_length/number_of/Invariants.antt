@@ -2,7 +2,7 @@ use Rattle.std.proofs.Common.{◌≡◌, ◌≤◌, ◌+◌, ◌*◌, drop, IsTr
 use Rattle.std.specs.Char.{is_ascii_digit}
 use Rattle.std.specs.List.{list_all}
 use Rattle.std.specs.Str.Parse.{digits_value, digits_value_after}
-use Rattle.request_heads.proofs.body_length.number_of.Given as goal
+use Rattle.http_request_head.proofs.body_length.number_of.Given as goal
 
 -- the number so far, and the digits that are left, make the number
 abbrev pub invariant-loop-byte : goal.invariant-loop-byte

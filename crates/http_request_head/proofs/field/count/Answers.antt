@@ -1,7 +1,7 @@
 use Rattle.std.proofs.Common.{rules, ap, length, arith}
-use Rattle.request_heads.proofs.Values.{one_found, none_found}
-use Rattle.request_heads.proofs.field.count.Goals.{then-has_name, else-has_name}
-use Rattle.request_heads.proofs.field.count.Goals as goal
+use Rattle.http_request_head.proofs.Values.{one_found, none_found}
+use Rattle.http_request_head.proofs.field.count.Goals.{then-has_name, else-has_name}
+use Rattle.http_request_head.proofs.field.count.Goals as goal
 
 pub loop-field-preserved : goal.loop-field-preserved
 loop-field-preserved c =

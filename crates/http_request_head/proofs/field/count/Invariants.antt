@@ -1,7 +1,7 @@
 use Rattle.std.proofs.Common.{◌≡◌, ◌≤◌, ◌+◌, length, drop, map}
-use Rattle.connections.specs.Heads.{values_of}
-use Rattle.request_heads.specs.Fields.{field_seen}
-use Rattle.request_heads.proofs.field.count.Given as goal
+use Rattle.spec_http_server.specs.Heads.{values_of}
+use Rattle.http_request_head.specs.Fields.{field_seen}
+use Rattle.http_request_head.proofs.field.count.Given as goal
 
 -- those so far, and those of the fields that are left, are all
 abbrev pub invariant-loop-field : goal.invariant-loop-field

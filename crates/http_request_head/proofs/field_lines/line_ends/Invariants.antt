@@ -1,6 +1,6 @@
 use Rattle.std.proofs.Common.{◌≡◌, ◌≤◌, ◌+◌, drop, false}
-use Rattle.request_heads.specs.FieldLines.{line_ends}
-use Rattle.request_heads.proofs.field_lines.line_ends.Given as goal
+use Rattle.http_request_head.specs.FieldLines.{line_ends}
+use Rattle.http_request_head.proofs.field_lines.line_ends.Given as goal
 
 -- the lines that ended so far and those that will are all
 abbrev pub invariant-loop-byte : goal.invariant-loop-byte

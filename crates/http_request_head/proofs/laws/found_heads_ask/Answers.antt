@@ -1,5 +1,5 @@
-use Rattle.request_heads.proofs.Wholes.{found_asks}
-use Rattle.request_heads.proofs.laws.found_heads_ask.Goals as goal
+use Rattle.http_request_head.proofs.Wholes.{found_asks}
+use Rattle.http_request_head.proofs.laws.found_heads_ask.Goals as goal
 
 pub returns : goal.returns
 returns c = found_asks

@@ -1,6 +1,6 @@
 use Rattle.std.proofs.Common.{◌≡◌, ◌+◌, ◌==◌, drop}
 use Rattle.std.specs.List.{position_or_len}
-use Rattle.request_heads.proofs.media_type.before_semicolon.Given as goal
+use Rattle.http_request_head.proofs.media_type.before_semicolon.Given as goal
 
 -- there is no semicolon so far
 abbrev pub invariant-loop-byte : goal.invariant-loop-byte

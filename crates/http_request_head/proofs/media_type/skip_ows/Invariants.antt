@@ -1,6 +1,6 @@
 use Rattle.std.proofs.Common.{◌≡◌, ◌+◌, length}
 use Rattle.httparse.specs.Grammar.{skip_ows}
-use Rattle.request_heads.proofs.media_type.skip_ows.Given as goal
+use Rattle.http_request_head.proofs.media_type.skip_ows.Given as goal
 
 -- white space alone was left out
 abbrev pub invariant-loop : goal.invariant-loop

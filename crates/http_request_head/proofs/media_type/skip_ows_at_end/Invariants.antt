@@ -1,6 +1,6 @@
 use Rattle.std.proofs.Common.{◌≡◌, ◌+◌, length, reverse}
 use Rattle.httparse.specs.Grammar.{skip_ows}
-use Rattle.request_heads.proofs.media_type.skip_ows_at_end.Given as goal
+use Rattle.http_request_head.proofs.media_type.skip_ows_at_end.Given as goal
 
 -- white space alone was left out
 abbrev pub invariant-loop : goal.invariant-loop

@@ -1,6 +1,6 @@
 use Rattle.std.proofs.Common.{rules}
 use Rattle.httparse.specs.Grammar.{trim_ows}
-use Rattle.request_heads.proofs.media_type.without_parameters.Goals as goal
+use Rattle.http_request_head.proofs.media_type.without_parameters.Goals as goal
 
 pub returns : goal.returns
 unfolding trim_ows

@@ -1,7 +1,7 @@
 use Rattle.std.proofs.Common.{rules, ◌≤◌, length}
-use Rattle.connections.specs.Connections.{longest_head}
-use Rattle.request_heads.proofs.Wholes.{too_long}
-use Rattle.request_heads.proofs.reading.find_head.Goals as goal
+use Rattle.spec_http_server.specs.Connections.{longest_head}
+use Rattle.http_request_head.proofs.Wholes.{too_long}
+use Rattle.http_request_head.proofs.reading.find_head.Goals as goal
 
 pub returns-then-bytes-lt-LONGEST_HEAD : goal.returns-then-bytes-lt-LONGEST_HEAD
 returns-then-bytes-lt-LONGEST_HEAD c = c.look_at_end.ensures c.look.new.fields

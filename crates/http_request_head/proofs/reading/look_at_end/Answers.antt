@@ -1,8 +1,8 @@
 use Rattle.std.proofs.Common.{rules, ◌≤◌, ◌<◌, ◌+◌, false}
-use Rattle.connections.specs.Connections.{most_fields}
-use Rattle.request_heads.specs.FieldLines.{line_ends}
-use Rattle.request_heads.proofs.Cuts.{is_too_large, is_half}
-use Rattle.request_heads.proofs.reading.look_at_end.Goals as goal
+use Rattle.spec_http_server.specs.Connections.{most_fields}
+use Rattle.http_request_head.specs.FieldLines.{line_ends}
+use Rattle.http_request_head.proofs.Cuts.{is_too_large, is_half}
+use Rattle.http_request_head.proofs.reading.look_at_end.Goals as goal
 
 pub returns-then-line_ends : goal.returns-then-line_ends
 returns-then-line_ends c =

@@ -1,9 +1,9 @@
 use Rattle.std.proofs.Common.{rules, ◌≡◌, ◌≤◌, length, false, sym, ◌∙◌, subst}
 use Rattle.httparse.specs.Grammar.{MayBecomeRequest, HasNoRequest}
-use Rattle.connections.specs.Connections.{longest_head}
-use Rattle.request_heads.specs.Reading.{IsFound}
-use Rattle.request_heads.proofs.Wholes.{too_long, reads_on}
-use Rattle.request_heads.proofs.reading.read_head.Goals as goal
+use Rattle.spec_http_server.specs.Connections.{longest_head}
+use Rattle.http_request_head.specs.Reading.{IsFound}
+use Rattle.http_request_head.proofs.Wholes.{too_long, reads_on}
+use Rattle.http_request_head.proofs.reading.read_head.Goals as goal
 
 pub look_at_end-requires-clause-unfinished : goal.look_at_end-requires-clause-unfinished
 look_at_end-requires-clause-unfinished g c =

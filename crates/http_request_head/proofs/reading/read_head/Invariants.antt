@@ -1,7 +1,7 @@
 use Rattle.std.proofs.Common.{◌≡◌, ◌≤◌, ◌-◌, length, false}
-use Rattle.connections.specs.Connections.{longest_head, most_fields}
-use Rattle.request_heads.specs.Reading.{Reads}
-use Rattle.request_heads.proofs.reading.read_head.Given as goal
+use Rattle.spec_http_server.specs.Connections.{longest_head, most_fields}
+use Rattle.http_request_head.specs.Reading.{Reads}
+use Rattle.http_request_head.proofs.reading.read_head.Given as goal
 
 -- what was read so far, within the limit, from a reader that has not failed
 abbrev pub invariant-loop-bytes : goal.invariant-loop-bytes

@@ -1,6 +1,6 @@
 use Rattle.std.proofs.Common.{rules, ◌≤◌, length, sym, take_all}
-use Rattle.connections.specs.Connections.{longest_head}
-use Rattle.received.proofs.arriving.front_of.Goals as goal
+use Rattle.spec_http_server.specs.Connections.{longest_head}
+use Rattle.http_request_reader.proofs.arriving.front_of.Goals as goal
 
 pub returns-else-bytes-gt-LONGEST_HEAD : goal.returns-else-bytes-gt-LONGEST_HEAD
 returns-else-bytes-gt-LONGEST_HEAD c =

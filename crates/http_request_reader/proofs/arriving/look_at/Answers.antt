@@ -1,6 +1,6 @@
 use Rattle.std.proofs.Common.{length, refl}
-use Rattle.received.proofs.SoFar.{front_fits, by_head, ill_formed, too_large_head, half_a_head}
-use Rattle.received.proofs.arriving.look_at.Goals as goal
+use Rattle.http_request_reader.proofs.SoFar.{front_fits, by_head, ill_formed, too_large_head, half_a_head}
+use Rattle.http_request_reader.proofs.arriving.look_at.Goals as goal
 
 pub find_head-requires-clause-limit : goal.find_head-requires-clause-limit
 find_head-requires-clause-limit c = front_fits c.args.bytes.now c.front_of-front.result.now c.front_of-front.ensures

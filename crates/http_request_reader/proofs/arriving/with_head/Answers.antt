@@ -1,5 +1,5 @@
-use Rattle.received.proofs.SoFar.{place_fits}
-use Rattle.received.proofs.arriving.with_head.Goals as goal
+use Rattle.http_request_reader.proofs.SoFar.{place_fits}
+use Rattle.http_request_reader.proofs.arriving.with_head.Goals as goal
 
 pub with_opening-requires : goal.with_opening-requires
 with_opening-requires c = record {

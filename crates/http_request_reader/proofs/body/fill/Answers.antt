@@ -1,7 +1,7 @@
 use Rattle.std.proofs.Common.{◌≡◌, ◌-◌, ◌∙◌, length, take, drop, refl, arith, length-drop, length-take-le}
 use Rattle.chunked.specs.Devices.{device_of}
-use Rattle.received.proofs.Filling.{filled_at_first, filled_more, same_length}
-use Rattle.received.proofs.body.fill.Goals as goal
+use Rattle.http_request_reader.proofs.Filling.{filled_at_first, filled_more, same_length}
+use Rattle.http_request_reader.proofs.body.fill.Goals as goal
 
 pub loop-filled-init : goal.loop-filled-init
 loop-filled-init g c = (filled_at_first c.args.body.now c.args.front (g.R.Read.remaining (device_of c.args.reader.now)) c.requires.front, refl, c.requires.sound)

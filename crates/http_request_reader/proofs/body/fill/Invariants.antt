@@ -1,7 +1,7 @@
 use Rattle.std.proofs.Common.{◌≡◌, ◌-◌, length, take, false}
 use Rattle.chunked.specs.Devices.{device_of, has_failed}
-use Rattle.received.proofs.Filling.{IsFilled}
-use Rattle.received.proofs.body.fill.Given as goal
+use Rattle.http_request_reader.proofs.Filling.{IsFilled}
+use Rattle.http_request_reader.proofs.body.fill.Given as goal
 
 -- what was read so far stands after the front, from a reader that has not failed
 abbrev pub invariant-loop-filled : goal.invariant-loop-filled

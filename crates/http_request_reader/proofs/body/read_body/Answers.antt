@@ -1,7 +1,7 @@
 use Rattle.std.proofs.Common.{rules, ◌≡◌, ◌++◌, ◌∙◌, length, take, ap}
 use Rattle.chunked.specs.Devices.{device_of}
-use Rattle.received.proofs.Filling.{fault_reads, begins_with}
-use Rattle.received.proofs.body.read_body.Goals as goal
+use Rattle.http_request_reader.proofs.Filling.{fault_reads, begins_with}
+use Rattle.http_request_reader.proofs.body.read_body.Goals as goal
 
 pub returns-in-Err-clause-read : goal.returns-in-Err-clause-read
 returns-in-Err-clause-read g c =

@@ -1,11 +1,11 @@
 use Rattle.std.proofs.Common.{◌≡◌, ◌-◌, length, take, drop, Ok, Err, arith, length-drop, take_all, sym, ap, ◌∙◌, subst}
 use Rattle.chunked.specs.Devices.{device_of}
-use Rattle.connections.specs.Heads.{head_of}
-use Rattle.connections.specs.Checks.{checked}
-use Rattle.head_checks.specs.Openings.{Opens, opening_seen}
-use Rattle.received.specs.Receiving.{Tells}
-use Rattle.received.proofs.ReadHeads.{refused_tells, result_tells}
-use Rattle.received.proofs.reading.after_head.Goals as goal
+use Rattle.spec_http_server.specs.Heads.{head_of}
+use Rattle.spec_http_server.specs.Checks.{checked}
+use Rattle.http_head_checks.specs.Openings.{Opens, opening_seen}
+use Rattle.http_request_reader.specs.Receiving.{Tells}
+use Rattle.http_request_reader.proofs.ReadHeads.{refused_tells, result_tells}
+use Rattle.http_request_reader.proofs.reading.after_head.Goals as goal
 
 pub returns-in_err-head-clause-tells : goal.returns-in_err-head-clause-tells
 returns-in_err-head-clause-tells g c = λ h at.

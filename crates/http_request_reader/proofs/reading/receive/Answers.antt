@@ -1,15 +1,15 @@
 use Rattle.std.proofs.Common.{◌≡◌, ◌≤◌, length, [], ap, sym, ◌∙◌, subst, arith}
 use Rattle.chunked.specs.Devices.{device_of, has_failed}
-use Rattle.connections.specs.Connections.{longest_head}
-use Rattle.definitions.specs.declared.refusals.Part.TheVariants as part
-use Rattle.keys.specs.declared.fault.Fault.TheVariants as refusal
-use Rattle.request_heads.proofs.Wholes.{found_asks}
-use Rattle.request_heads.specs.Reading.{IsFound, Reads}
-use Rattle.request_heads.specs.declared.found.Found.TheVariants as found
-use Rattle.received.specs.declared.received.Received.TheVariants as received
-use Rattle.received.proofs.Needed.{head_needs, fault_needs}
-use Rattle.received.proofs.Told.{whole_asks, known_asks, cut_asks, from_first}
-use Rattle.received.proofs.reading.receive.Goals as goal
+use Rattle.spec_http_server.specs.Connections.{longest_head}
+use Rattle.spec_api.specs.declared.refusals.Part.TheVariants as part
+use Rattle.object_keys.specs.declared.fault.Fault.TheVariants as refusal
+use Rattle.http_request_head.proofs.Wholes.{found_asks}
+use Rattle.http_request_head.specs.Reading.{IsFound, Reads}
+use Rattle.http_request_head.specs.declared.found.FoundHead.TheVariants as found
+use Rattle.http_request_reader.specs.declared.received.Received.TheVariants as received
+use Rattle.http_request_reader.proofs.Needed.{head_needs, fault_needs}
+use Rattle.http_request_reader.proofs.Told.{whole_asks, known_asks, cut_asks, from_first}
+use Rattle.http_request_reader.proofs.reading.receive.Goals as goal
 
 pub returns-in-Ok-Whole-clause-asks : goal.returns-in-Ok-Whole-clause-asks
 returns-in-Ok-Whole-clause-asks g c =

@@ -1,6 +1,6 @@
 use Rattle.std.proofs.Common.{refl}
-use Rattle.connections.proofs.OnLiterals.{http_on_literals}
-use Rattle.responses.proofs.constants.out_of_memory.Goals as goal
+use Rattle.spec_http_server.proofs.OnLiterals.{http_on_literals}
+use Rattle.http_response.proofs.constants.out_of_memory.Goals as goal
 
 pub returns : goal.returns
 unfolding http_on_literals

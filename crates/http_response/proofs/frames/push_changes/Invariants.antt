@@ -1,7 +1,7 @@
 use Rattle.std.proofs.Common.{◌≡◌, ◌++◌, map, drop}
-use Rattle.responses.specs.Frames.{change_frames}
+use Rattle.http_response.specs.Frames.{change_frames}
 use Rattle.revisions.specs.Events.{event_seen}
-use Rattle.responses.proofs.frames.push_changes.Given as goal
+use Rattle.http_response.proofs.frames.push_changes.Given as goal
 
 -- the frames so far and those that are left are all
 abbrev pub invariant-loop-event : goal.invariant-loop-event

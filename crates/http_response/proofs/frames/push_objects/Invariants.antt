@@ -1,6 +1,6 @@
 use Rattle.std.proofs.Common.{◌≡◌, ◌++◌, map, drop}
-use Rattle.responses.specs.Frames.{object_frames}
-use Rattle.responses.proofs.frames.push_objects.Given as goal
+use Rattle.http_response.specs.Frames.{object_frames}
+use Rattle.http_response.proofs.frames.push_objects.Given as goal
 
 -- the frames so far and those that are left are all
 abbrev pub invariant-loop-object : goal.invariant-loop-object

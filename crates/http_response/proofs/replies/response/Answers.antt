@@ -1,6 +1,6 @@
 use Rattle.std.proofs.Common.{◌++◌, ap₂, ◌∙◌}
-use Rattle.connections.specs.Replies.{head_text}
-use Rattle.responses.proofs.replies.response.Goals as goal
+use Rattle.spec_http_server.specs.Replies.{head_text}
+use Rattle.http_response.proofs.replies.response.Goals as goal
 
 pub returns : goal.returns
 returns c =

@@ -1,7 +1,7 @@
 use Rattle.std.proofs.Common.{◌++◌, Ok, Err, refl}
-use Rattle.responses.proofs.HeadParts.{status, length_field, close, head, head_parts, head_ends}
-use Rattle.responses.proofs.InTurn.{in_turn, at_first}
-use Rattle.responses.proofs.sending.send_head.Goals as goal
+use Rattle.http_response.proofs.HeadParts.{status, length_field, close, head, head_parts, head_ends}
+use Rattle.http_response.proofs.InTurn.{in_turn, at_first}
+use Rattle.http_response.proofs.sending.send_head.Goals as goal
 
 pub returns-in-Err : goal.returns-in-Err
 returns-in-Err g c =

@@ -1,7 +1,7 @@
 use Rattle.std.proofs.Common.{◌++◌, codes, decimal, length, Err, refl, sym, ap}
-use Rattle.connections.specs.Replies.{head_text, response_text}
-use Rattle.responses.proofs.InTurn.{in_turn, at_first}
-use Rattle.responses.proofs.sending.send_in_parts.Goals as goal
+use Rattle.spec_http_server.specs.Replies.{head_text, response_text}
+use Rattle.http_response.proofs.InTurn.{in_turn, at_first}
+use Rattle.http_response.proofs.sending.send_in_parts.Goals as goal
 
 pub returns-in-Err : goal.returns-in-Err
 returns-in-Err g c =

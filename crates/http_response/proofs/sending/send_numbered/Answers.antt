@@ -1,6 +1,6 @@
 use Rattle.std.proofs.Common.{◌++◌, decimal, Err, sym, ap, ap₂, ◌∙◌}
-use Rattle.responses.proofs.InTurn.{in_turn, at_first}
-use Rattle.responses.proofs.sending.send_numbered.Goals as goal
+use Rattle.http_response.proofs.InTurn.{in_turn, at_first}
+use Rattle.http_response.proofs.sending.send_numbered.Goals as goal
 
 pub returns-in-Err : goal.returns-in-Err
 returns-in-Err g c =

@@ -1,8 +1,8 @@
 use Rattle.std.proofs.Common.{◌++◌, codes, Ok, Err, refl, sym, ap, ◌∙◌}
-use Rattle.connections.specs.Replies.{phrase}
-use Rattle.responses.proofs.HeadParts.{numbered, blanked, status, status_parts, status_ends}
-use Rattle.responses.proofs.InTurn.{in_turn, at_first}
-use Rattle.responses.proofs.sending.send_status.Goals as goal
+use Rattle.spec_http_server.specs.Replies.{phrase}
+use Rattle.http_response.proofs.HeadParts.{numbered, blanked, status, status_parts, status_ends}
+use Rattle.http_response.proofs.InTurn.{in_turn, at_first}
+use Rattle.http_response.proofs.sending.send_status.Goals as goal
 
 pub returns-in-Err : goal.returns-in-Err
 returns-in-Err g c =

@@ -1,8 +1,8 @@
 use Rattle.std.proofs.Common.{rules, arith, ◌≡◌, ◌<◌, length, true, is_some, subst}
 use Rattle.meta.specs.Members.{member_of}
-use Rattle.keys.specs.Keys.{key_of}
-use Rattle.watch_service.proofs.Pieces.{ArePushed, with_next, next_taken, next_some, one_pushed, stops_at}
-use Rattle.watch_service.proofs.first_frames.push_some.Goals as goal
+use Rattle.object_keys.specs.Keys.{key_of}
+use Rattle.http_watch.proofs.Pieces.{ArePushed, with_next, next_taken, next_some, one_pushed, stops_at}
+use Rattle.http_watch.proofs.first_frames.push_some.Goals as goal
 
 pub returns-then-len-ge-MOST_AHEAD-clause-some : goal.returns-then-len-ge-MOST_AHEAD-clause-some
 returns-then-len-ge-MOST_AHEAD-clause-some c =

@@ -1,6 +1,6 @@
 use Rattle.std.proofs.Common.{length}
-use Rattle.watch_service.proofs.Pieces.{ArePushed, with_next}
-use Rattle.watch_service.proofs.first_frames.push_some.Given as goal
+use Rattle.http_watch.proofs.Pieces.{ArePushed, with_next}
+use Rattle.http_watch.proofs.first_frames.push_some.Given as goal
 
 -- the frames so far and those that are left are all
 abbrev pub invariant-loop-next : goal.invariant-loop-next

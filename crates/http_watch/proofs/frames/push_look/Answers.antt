@@ -1,8 +1,8 @@
 use Rattle.std.proofs.Common.{◌++◌, map, ap, ◌∙◌}
-use Rattle.responses.specs.Frames.{change_frames}
+use Rattle.http_response.specs.Frames.{change_frames}
 use Rattle.revisions.specs.Events.{event_seen}
-use Rattle.watch_service.proofs.LineFrames.{look_none, look_some}
-use Rattle.watch_service.proofs.frames.push_look.Goals as goal
+use Rattle.http_watch.proofs.LineFrames.{look_none, look_some}
+use Rattle.http_watch.proofs.frames.push_look.Goals as goal
 
 pub returns-in-None : goal.returns-in-None
 returns-in-None c =

@@ -1,9 +1,9 @@
 use Rattle.std.proofs.Common.{Ok, inr, refl, sym, ◌∙◌, append-nil}
-use Rattle.connections.specs.Replies.{watch_head}
-use Rattle.watch_service.proofs.LineFrames.{made_is}
-use Rattle.watch_service.specs.Given.{begun_as}
-use Rattle.watch_service.specs.Watches.{opening_after}
-use Rattle.watch_service.proofs.opening.open_after.Goals as goal
+use Rattle.spec_http_server.specs.Replies.{watch_head}
+use Rattle.http_watch.proofs.LineFrames.{made_is}
+use Rattle.http_watch.specs.Given.{begun_as}
+use Rattle.http_watch.specs.Watches.{opening_after}
+use Rattle.http_watch.proofs.opening.open_after.Goals as goal
 
 pub returns-in-Ok-head_text : goal.returns-in-Ok-head_text
 returns-in-Ok-head_text g c =

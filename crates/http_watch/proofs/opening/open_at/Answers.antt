@@ -1,9 +1,9 @@
 use Rattle.std.proofs.Common.{◌++◌, Ok, inr, refl, sym, ap, ◌∙◌}
-use Rattle.connections.specs.Replies.{watch_head, frames_text}
+use Rattle.spec_http_server.specs.Replies.{watch_head, frames_text}
 use Rattle.revisions.specs.Watches.{watched_of}
-use Rattle.watch_service.proofs.LineFrames.{made_is}
-use Rattle.watch_service.specs.Watches.{opening_at, idle_after}
-use Rattle.watch_service.proofs.opening.open_at.Goals as goal
+use Rattle.http_watch.proofs.LineFrames.{made_is}
+use Rattle.http_watch.specs.Watches.{opening_at, idle_after}
+use Rattle.http_watch.proofs.opening.open_at.Goals as goal
 
 pub returns-in-Ok-first_text : goal.returns-in-Ok-first_text
 returns-in-Ok-first_text g c =

@@ -1,10 +1,10 @@
 use Rattle.std.proofs.Common.{Ok, inr, refl}
-use Rattle.connections.specs.Replies.{watch_head}
-use Rattle.watch_service.proofs.LineFrames.{listing_is}
-use Rattle.watch_service.specs.Given.{begun_as}
-use Rattle.watch_service.specs.Opened.{opening_of}
-use Rattle.watch_service.specs.Watches.{opening_with}
-use Rattle.watch_service.proofs.opening.open_with.Goals as goal
+use Rattle.spec_http_server.specs.Replies.{watch_head}
+use Rattle.http_watch.proofs.LineFrames.{listing_is}
+use Rattle.http_watch.specs.Given.{begun_as}
+use Rattle.http_watch.specs.Opened.{opening_of}
+use Rattle.http_watch.specs.Watches.{opening_with}
+use Rattle.http_watch.proofs.opening.open_with.Goals as goal
 
 pub returns-in-Ok-opened_with : goal.returns-in-Ok-opened_with
 returns-in-Ok-opened_with g c =

@@ -1,8 +1,8 @@
 use Rattle.std.proofs.Common.{rules, ◌≤◌, ◌<◌, Ok, Err}
 use Rattle.selector.specs.Views.{view_of}
-use Rattle.watch_service.proofs.Going.{starts, went_on, idles_out, ends_so, left_within, left_at}
-use Rattle.watch_service.specs.Watches.{most_idle}
-use Rattle.watch_service.proofs.serving.follow.Goals as goal
+use Rattle.http_watch.proofs.Going.{starts, went_on, idles_out, ends_so, left_within, left_at}
+use Rattle.http_watch.specs.Watches.{most_idle}
+use Rattle.http_watch.proofs.serving.follow.Goals as goal
 
 pub loop-init : goal.loop-init
 loop-init g c = starts g.S.WatchSource.Watches (view_of c.args.view.now) c.args.bookmarks g.W.Write.contents c.args.source.now c.args.from.revision c.args.from.idle c.args.writer.now c.requires.sound

@@ -1,6 +1,6 @@
-use Rattle.watch_service.proofs.Going.{IsUnderWay}
+use Rattle.http_watch.proofs.Going.{IsUnderWay}
 use Rattle.selector.specs.Views.{view_of}
-use Rattle.watch_service.proofs.serving.follow.Given as goal
+use Rattle.http_watch.proofs.serving.follow.Given as goal
 
 -- the looks so far, and their frames, written
 abbrev pub invariant-loop : goal.invariant-loop

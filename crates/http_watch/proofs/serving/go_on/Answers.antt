@@ -1,9 +1,9 @@
 use Rattle.std.proofs.Common.{◌++◌, Ok, Err, subst}
 use Rattle.selector.specs.Views.{view_of}
-use Rattle.watch_service.proofs.Going.{left_opening, follows_after}
-use Rattle.watch_service.specs.Opened.{opening_of}
-use Rattle.watch_service.specs.Served.{WritesInParts}
-use Rattle.watch_service.proofs.serving.go_on.Goals as goal
+use Rattle.http_watch.proofs.Going.{left_opening, follows_after}
+use Rattle.http_watch.specs.Opened.{opening_of}
+use Rattle.http_watch.specs.Served.{WritesInParts}
+use Rattle.http_watch.proofs.serving.go_on.Goals as goal
 
 pub returns-in-Err : goal.returns-in-Err
 returns-in-Err g c =

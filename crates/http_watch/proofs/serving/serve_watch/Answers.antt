@@ -1,9 +1,9 @@
 use Rattle.std.proofs.Common.{Err}
 use Rattle.selector.specs.Views.{view_of}
-use Rattle.watch_service.proofs.Going.{opened_follows}
-use Rattle.watch_service.specs.Opened.{opening_of}
-use Rattle.watch_service.specs.Watches.{opening_text}
-use Rattle.watch_service.proofs.serving.serve_watch.Goals as goal
+use Rattle.http_watch.proofs.Going.{opened_follows}
+use Rattle.http_watch.specs.Opened.{opening_of}
+use Rattle.http_watch.specs.Watches.{opening_text}
+use Rattle.http_watch.proofs.serving.serve_watch.Goals as goal
 
 pub returns-in-Err-go_on : goal.returns-in-Err-go_on
 returns-in-Err-go_on g c =

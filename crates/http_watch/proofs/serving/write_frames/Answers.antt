@@ -1,7 +1,7 @@
 use Rattle.std.proofs.Common.{◌≡◌, ◌++◌, Err, sym, ap, subst, ◌∙◌}
-use Rattle.watch_service.proofs.Pieces.{part_failed, part_on}
-use Rattle.watch_service.specs.Looked.{Writes}
-use Rattle.watch_service.proofs.serving.write_frames.Goals as goal
+use Rattle.http_watch.proofs.Pieces.{part_failed, part_on}
+use Rattle.http_watch.specs.Looked.{Writes}
+use Rattle.http_watch.proofs.serving.write_frames.Goals as goal
 
 pub returns-in-Err-write_text : goal.returns-in-Err-write_text
 returns-in-Err-write_text g c =

@@ -1,5 +1,5 @@
-use Rattle.watch_service.proofs.Pieces.{IsPartWritten}
-use Rattle.watch_service.proofs.serving.write_frames.Given as goal
+use Rattle.http_watch.proofs.Pieces.{IsPartWritten}
+use Rattle.http_watch.proofs.serving.write_frames.Given as goal
 
 -- some of the frames were written, and the rest is left
 abbrev pub invariant-loop : goal.invariant-loop

@@ -1,7 +1,7 @@
 use Rattle.std.proofs.Common.{Ok, Err, subst}
-use Rattle.watch_service.proofs.Pieces.{opening_failed, opening_written}
-use Rattle.watch_service.specs.Looked.{Writes}
-use Rattle.watch_service.proofs.serving.write_opening.Goals as goal
+use Rattle.http_watch.proofs.Pieces.{opening_failed, opening_written}
+use Rattle.http_watch.specs.Looked.{Writes}
+use Rattle.http_watch.proofs.serving.write_opening.Goals as goal
 
 pub returns-in-Err : goal.returns-in-Err
 returns-in-Err g c =

@@ -1,14 +1,14 @@
 use Rattle.std.proofs.Common.{◌≡◌, ◌++◌, ◌∙◌, ap, map, OnOk}
 use Rattle.std.specs.BTreeMap.Range.{range_contains}
 use Rattle.std.specs.declared.ops.Bound.TheVariants.{Included, Excluded}
-use Rattle.turns.specs.Entries.{entry_of}
+use Rattle.reconcile_types.specs.Entries.{entry_of}
 use Rattle.indexer.specs.Links.{first_name}
 use Rattle.reflector.specs.Seen.{members_seen}
 use Rattle.indexer.proofs.Bounds.{keys_between}
 use Rattle.indexer.proofs.Namespaces.{range_seen}
 use Rattle.reflector.proofs.SeenMaps.{key_cmp}
 use Rattle.std.proofs.Common.{subst}
-use Rattle.definitions.specs.History.{Entries}
+use Rattle.spec_api.specs.History.{Entries}
 use Rattle.indexer.proofs.finding.add_of_kind.Goals as goal
 
 pub returns : goal.returns

@@ -1,5 +1,5 @@
 use Rattle.std.proofs.Common.{◌≡◌, ◌++◌, map}
-use Rattle.turns.specs.Entries.{entry_of}
+use Rattle.reconcile_types.specs.Entries.{entry_of}
 use Rattle.reflector.specs.Seen.{members_seen}
 use Rattle.indexer.proofs.finding.append_entries.Given as goal
 

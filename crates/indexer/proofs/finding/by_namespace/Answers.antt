@@ -1,6 +1,6 @@
 use Rattle.std.proofs.Common.{rules, ◌≡◌, ◌∙◌, map}
-use Rattle.definitions.specs.Kinds.{kinds}
-use Rattle.turns.specs.Entries.{entry_of}
+use Rattle.spec_api.specs.Kinds.{kinds}
+use Rattle.reconcile_types.specs.Entries.{entry_of}
 use Rattle.reflector.specs.Seen.{members_seen}
 use Rattle.indexer.proofs.InOrder.{in_order_seen}
 use Rattle.indexer.proofs.Namespaces.{of_kinds, kinds_are_all}

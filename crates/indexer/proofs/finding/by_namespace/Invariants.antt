@@ -1,7 +1,7 @@
 use Rattle.std.proofs.Common.{◌≡◌, ◌++◌, map, drop}
-use Rattle.definitions.specs.Kinds.{kinds}
+use Rattle.spec_api.specs.Kinds.{kinds}
 use Rattle.reflector.specs.Seen.{members_seen}
-use Rattle.turns.specs.Entries.{entry_of}
+use Rattle.reconcile_types.specs.Entries.{entry_of}
 use Rattle.indexer.proofs.Namespaces.{of_kinds}
 use Rattle.indexer.proofs.finding.by_namespace.Given as goal
 

@@ -1,6 +1,6 @@
 use Rattle.std.proofs.Common.{rules, arith, ◌≡◌, ◌∙◌, ap, length, map}
 use Rattle.std.specs.Map.{keys_of}
-use Rattle.turns.specs.Entries.{entry_of}
+use Rattle.reconcile_types.specs.Entries.{entry_of}
 use Rattle.indexer.specs.Links.{first_link}
 use Rattle.indexer.proofs.Bounds.{links_between}
 use Rattle.indexer.proofs.LinkWalks.{looked, looked_all, links_lead, keys_in_span}

@@ -1,6 +1,6 @@
 use Rattle.std.proofs.Common.{◌≡◌, ◌++◌, map}
 use Rattle.std.specs.Map.{keys_of}
-use Rattle.turns.specs.Entries.{entry_of}
+use Rattle.reconcile_types.specs.Entries.{entry_of}
 use Rattle.indexer.proofs.LinkWalks.{looked}
 use Rattle.indexer.proofs.finding.by_owner.Given as goal
 

@@ -1,6 +1,6 @@
 use Rattle.std.proofs.Common.{◌≡◌, ◌++◌, map, filter_map}
-use Rattle.definitions.specs.Metadata.{owners}
-use Rattle.keys.specs.Keys.{key_of}
+use Rattle.spec_api.specs.Metadata.{owners}
+use Rattle.object_keys.specs.Keys.{key_of}
 use Rattle.meta.specs.Owners.{owner_of}
 use Rattle.indexer.specs.Links.{link_of, link_to}
 use Rattle.indexer.proofs.links.links_of.Given as goal

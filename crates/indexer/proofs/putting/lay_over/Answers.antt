@@ -1,6 +1,6 @@
 use denote.Ref.{Bor}
 use Rattle.std.proofs.Common.{rules, ◌≡◌, ◌∷◌, ◌∙◌, map}
-use Rattle.keys.specs.declared.key.Key.{Key}
+use Rattle.object_keys.specs.declared.key.Key.{Key}
 use Rattle.reflector.specs.declared.shared_objects.SharedObject.{SharedObject}
 use Rattle.indexer.proofs.Copies.{one-more}
 use Rattle.indexer.proofs.putting.lay_over.Goals as goal

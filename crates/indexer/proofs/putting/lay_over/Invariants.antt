@@ -1,5 +1,5 @@
 use Rattle.std.proofs.Common.{◌≡◌, map}
-use Rattle.controllers.specs.Shifts.{overlaid}
+use Rattle.spec_client_go.specs.Shifts.{overlaid}
 use Rattle.reflector.specs.Seen.{members_seen}
 use Rattle.indexer.proofs.putting.lay_over.Given as goal
 

@@ -1,6 +1,6 @@
 use Rattle.std.proofs.Common.{◌≡◌, ◌∙◌, ap, map, subst, option_map, Option, Some, IfOk}
 use Rattle.serde_json.specs.Data.{Data}
-use Rattle.keys.specs.Keys.{key_of}
+use Rattle.object_keys.specs.Keys.{key_of}
 use Rattle.indexer.specs.Links.{link_of, links_at}
 use Rattle.reflector.proofs.SeenMaps.{data_of}
 use Rattle.indexer.proofs.SeenMaps.{seen-lookup}

@@ -1,10 +1,10 @@
 use Rattle.std.proofs.Common.{◌∙◌, ap, Some, map}
 use Rattle.std.specs.Map.{keys_of}
-use Rattle.definitions.specs.History.{found}
-use Rattle.definitions.specs.Objects.{Object}
-use Rattle.definitions.proofs.PutLaws.{lookup-insert_entry}
-use Rattle.controllers.proofs.WorkKeyOrder.{name_total}
-use Rattle.keys.specs.Keys.{key_of}
+use Rattle.spec_api.specs.History.{found}
+use Rattle.spec_api.specs.Objects.{Object}
+use Rattle.spec_api.proofs.PutLaws.{lookup-insert_entry}
+use Rattle.spec_client_go.proofs.WorkKeyOrder.{name_total}
+use Rattle.object_keys.specs.Keys.{key_of}
 use Rattle.indexer.specs.Links.{link_of, links_at}
 use Rattle.reflector.specs.Seen.{members_seen}
 use Rattle.indexer.proofs.LinkIndex.{index_changes}

@@ -1,7 +1,7 @@
 use Rattle.std.proofs.Common.{◌∙◌, ap}
 use Rattle.std.specs.BTreeMap.{insert_entry}
-use Rattle.definitions.specs.Keys.{key_cmp as name_cmp}
-use Rattle.keys.specs.Keys.{key_of}
+use Rattle.spec_api.specs.Keys.{key_cmp as name_cmp}
+use Rattle.object_keys.specs.Keys.{key_of}
 use Rattle.reflector.specs.Seen.{members_seen}
 use Rattle.reflector.specs.declared.shared_objects.SharedObject.{SharedObject}
 use Rattle.reflector.proofs.SeenMaps.{seen-put_entry}

@@ -1,14 +1,14 @@
 use Rattle.std.proofs.Common.{rules, ◌≡◌, ◌∙◌, ap, Some, map, true}
 use Rattle.std.specs.Cmp.Lexicographic.{pointwise}
 use Rattle.std.specs.Map.{keys_of}
-use Rattle.definitions.specs.History.{found}
-use Rattle.definitions.specs.Objects.{Object}
-use Rattle.definitions.proofs.PutLaws.{lookup-insert_entry}
-use Rattle.controllers.proofs.WorkKeyOrder.{name_total}
-use Rattle.keys.specs.Keys.{key_of}
+use Rattle.spec_api.specs.History.{found}
+use Rattle.spec_api.specs.Objects.{Object}
+use Rattle.spec_api.proofs.PutLaws.{lookup-insert_entry}
+use Rattle.spec_client_go.proofs.WorkKeyOrder.{name_total}
+use Rattle.object_keys.specs.Keys.{key_of}
 use Rattle.indexer.specs.Links.{link_of, links_at}
 use Rattle.reflector.specs.Seen.{members_seen}
-use Rattle.indexer.specs.contracts.links.LinkPartialEq.TheImpl as link_eq
+use Rattle.indexer.specs.contracts.links.OwnerLinkPartialEq.TheImpl as link_eq
 use Rattle.indexer.proofs.LinkSets.{same_lists}
 use Rattle.indexer.proofs.LinkIndex.{index_changes, index_stays}
 use Rattle.indexer.proofs.putting.put_under.Goals as goal

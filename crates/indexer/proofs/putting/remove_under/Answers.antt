@@ -1,7 +1,7 @@
 use Rattle.std.proofs.Common.{rules, ◌≡◌, ◌∙◌, ap, [], None, map, refl, length}
 use Rattle.std.specs.Map.{keys_of, lookup}
 use Rattle.std.specs.BTreeMap.{is_at}
-use Rattle.keys.specs.Keys.{key_of}
+use Rattle.object_keys.specs.Keys.{key_of}
 use Rattle.indexer.specs.Links.{link_of}
 use Rattle.reflector.specs.Seen.{members_seen}
 use Rattle.indexer.proofs.LinkSets.{no_links}

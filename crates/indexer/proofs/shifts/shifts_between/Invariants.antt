@@ -1,7 +1,7 @@
 use Rattle.std.proofs.Common.{◌≡◌, ◌++◌, map, filter}
 use Rattle.serde_json.specs.Data.{Data}
-use Rattle.definitions.specs.Keys.{Key as Name}
-use Rattle.controllers.specs.Shifts.{is_change, shift_at}
+use Rattle.spec_api.specs.Keys.{Key as Name}
+use Rattle.spec_client_go.specs.Shifts.{is_change, shift_at}
 use Rattle.reflector.specs.Seen.{members_seen}
 use Rattle.indexer.specs.Shifted.{shift_of}
 use Rattle.indexer.proofs.shifts.shifts_between.Given as goal

@@ -1,6 +1,6 @@
 use Rattle.std.proofs.Common.{◌≡◌, ◌++◌, map}
 use Rattle.indexer.specs.Shifted.{shift_of}
-use Rattle.listers.proofs.changes.append_all.Given as goal
+use Rattle.informer.proofs.changes.append_all.Given as goal
 
 -- those added and those still to be added are all
 abbrev pub invariant-loop-shift : goal.invariant-loop-shift

@@ -1,9 +1,9 @@
 use Rattle.std.proofs.Common.{◌≡◌, ◌++◌, map, drop}
-use Rattle.controllers.specs.Shifts.{all_shifts}
+use Rattle.spec_client_go.specs.Shifts.{all_shifts}
 use Rattle.indexer.specs.Shifted.{shift_of}
 use Rattle.reflector.specs.Deltas.{deltas_of}
-use Rattle.listers.specs.SharedDeltas.{all_in}
-use Rattle.listers.proofs.changes.on_a_copy.Given as goal
+use Rattle.informer.specs.SharedDeltas.{all_in}
+use Rattle.informer.proofs.changes.on_a_copy.Given as goal
 
 -- with what is still to be applied, it is all
 abbrev pub invariant-loop-delta : goal.invariant-loop-delta

@@ -1,6 +1,6 @@
 use Rattle.std.proofs.Common.{◌≡◌, ◌++◌}
-use Rattle.listers.specs.SharedDeltas.{all_in}
-use Rattle.listers.proofs.shared_deltas.share.Given as goal
+use Rattle.informer.specs.SharedDeltas.{all_in}
+use Rattle.informer.proofs.shared_deltas.share.Given as goal
 
 -- those that are shared and those still to be are all
 abbrev pub invariant-loop-delta : goal.invariant-loop-delta

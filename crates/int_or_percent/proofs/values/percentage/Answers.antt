@@ -1,8 +1,8 @@
 use Rattle.std.proofs.Common.{◌≡◌, false, rules, arith}
 use Rattle.std.specs.List.{list_any}
-use Rattle.definitions.specs.Checks.{is_percent_sign}
-use Rattle.names.proofs.Splits.{not-found}
-use Rattle.amounts.proofs.values.percentage.Goals as goal
+use Rattle.spec_api.specs.Checks.{is_percent_sign}
+use Rattle.name_syntax.proofs.Splits.{not-found}
+use Rattle.int_or_percent.proofs.values.percentage.Goals as goal
 
 pub returns-in-None : goal.returns-in-None
 returns-in-None c =

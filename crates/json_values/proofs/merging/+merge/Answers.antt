@@ -2,7 +2,7 @@ use Rattle.std.proofs.Common.{◌≡◌, string_bytes, ap, ◌∙◌}
 use Rattle.serde_json.specs.Data.{null, put}
 use Rattle.serde_json.specs.View.{view, members_view}
 use Rattle.serde_json.proofs.Views.{members_view-insert_entry}
-use Rattle.definitions.specs.Values.{merged, found_or_null}
+use Rattle.spec_api.specs.Values.{merged, found_or_null}
 use Rattle.json_values.proofs.PutAndTaken.{put-put}
 use Rattle.json_values.proofs.merging.+merge.Goals as goal
 

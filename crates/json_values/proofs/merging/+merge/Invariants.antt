@@ -1,6 +1,6 @@
 use Rattle.std.proofs.Common.{◌≡◌}
 use Rattle.serde_json.specs.View.{members_view}
-use Rattle.definitions.specs.Values.{merged_members}
+use Rattle.spec_api.specs.Values.{merged_members}
 use Rattle.json_values.proofs.merging.+merge.Given as goal
 
 -- what is left of the changes gives what all of them give

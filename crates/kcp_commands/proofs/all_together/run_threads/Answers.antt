@@ -1,8 +1,8 @@
 use denote.Exit.{no}
 use denote.Param.{param}
 use denote.Param.Send.{IsSync, sendable, param_send, arg_send}
-use Rattle.commands.proofs.Sent.{captured_answering}
-use Rattle.commands.proofs.all_together.run_threads.Goals as goal
+use Rattle.kcp_commands.proofs.Sent.{captured_answering}
+use Rattle.kcp_commands.proofs.all_together.run_threads.Goals as goal
 
 pub join-served-requires-send-F : goal.join-served-requires-send-F
 join-served-requires-send-F g c κs within =

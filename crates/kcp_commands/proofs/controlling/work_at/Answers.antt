@@ -1,8 +1,8 @@
 use denote.Exit.{no}
 use denote.Param.{param}
 use denote.Param.Send.{IsSync, sendable, param_send, arg_send}
-use Rattle.loopback.proofs.Sent.{asked, other_server}
-use Rattle.commands.proofs.controlling.work_at.Goals as goal
+use Rattle.kcp_loopback.proofs.Sent.{asked, other_server}
+use Rattle.kcp_commands.proofs.controlling.work_at.Goals as goal
 
 pub run-requires-send-A : goal.run-requires-send-A
 run-requires-send-A g c κs within =

@@ -1,8 +1,8 @@
 use denote.Exit.{no}
 use denote.Param.{param}
 use denote.Param.Send.{IsSync, sendable, param_send, arg_send}
-use Rattle.loopback.proofs.Sent.{connector, own_server, reading}
-use Rattle.commands.proofs.parts.run_controllers.Goals as goal
+use Rattle.kcp_loopback.proofs.Sent.{connector, own_server, reading}
+use Rattle.kcp_commands.proofs.parts.run_controllers.Goals as goal
 
 pub run-requires-send-A : goal.run-requires-send-A
 run-requires-send-A g c κs within =

@@ -2,11 +2,11 @@ use denote.Exit.{no}
 use denote.Param.{param}
 use denote.Param.Send.{IsSync, sendable, param_send, arg_send}
 use Rattle.std.proofs.Common.{◌≡◌, Some, ap, length, ◌++◌, drop, rules, ◌∙◌, sym}
-use Rattle.http_loop.specs.Counted.{taken_over}
-use Rattle.serving.specs.Rows.{RunsEach}
-use Rattle.commands.proofs.Sent.{looping}
-use Rattle.commands.proofs.Answered.{Ran, all_taken, answered_limit, answered_some, as_many, nobody_yet, on_err}
-use Rattle.commands.proofs.serving_threads.run_loops.Goals as goal
+use Rattle.http_event_loop.specs.Counted.{taken_over}
+use Rattle.http_listener.specs.Rows.{RunsEach}
+use Rattle.kcp_commands.proofs.Sent.{looping}
+use Rattle.kcp_commands.proofs.Answered.{Ran, all_taken, answered_limit, answered_some, as_many, nobody_yet, on_err}
+use Rattle.kcp_commands.proofs.serving_threads.run_loops.Goals as goal
 
 pub run_row-outcome-requires-send-H : goal.run_row-outcome-requires-send-H
 run_row-outcome-requires-send-H g c κs within =

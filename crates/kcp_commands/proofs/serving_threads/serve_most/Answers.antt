@@ -1,11 +1,11 @@
 use Rattle.std.proofs.Common.{map, max, refl, ◌∙◌}
-use Rattle.loopback.proofs.Threads.{begun}
-use Rattle.loopback.specs.Serving.{seat_of}
-use Rattle.loopback.specs.Threads.{Begin}
-use Rattle.shared_desk.specs.Desks.{known}
-use Rattle.shared_desk.specs.Seats.{known_at}
-use Rattle.commands.proofs.Served.{served_all, served_some, said_at}
-use Rattle.commands.proofs.serving_threads.serve_most.Goals as goal
+use Rattle.kcp_loopback.proofs.Threads.{begun}
+use Rattle.kcp_loopback.specs.Serving.{seat_of}
+use Rattle.kcp_loopback.specs.Threads.{Begin}
+use Rattle.desk.specs.Desks.{known}
+use Rattle.desk.specs.Seats.{known_at}
+use Rattle.kcp_commands.proofs.Served.{served_all, served_some, said_at}
+use Rattle.kcp_commands.proofs.serving_threads.serve_most.Goals as goal
 
 pub returns-clause-said : goal.returns-clause-said
 returns-clause-said g c = said_at _ c.run_loops.result _ c.run_loops.ensures.said

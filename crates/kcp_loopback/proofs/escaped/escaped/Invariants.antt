@@ -1,6 +1,6 @@
 use Rattle.std.proofs.Common.{◌≡◌, ◌++◌, drop, string_bytes}
-use Rattle.loopback.specs.Escaped.{escaped}
-use Rattle.loopback.proofs.escaped.escaped.Given as goal
+use Rattle.kcp_loopback.specs.Escaped.{escaped}
+use Rattle.kcp_loopback.proofs.escaped.escaped.Given as goal
 
 abbrev pub invariant-loop-byte : goal.invariant-loop-byte
 invariant-loop-byte l = string_bytes l.text ++ escaped (drop l.byte-index l.bytes) ≡ escaped l.bytes

@@ -1,5 +1,5 @@
 use Rattle.std.proofs.Common.{refl}
-use Rattle.options.proofs.examples.words_ask.Goals as goal
+use Rattle.kcp_options.proofs.examples.words_ask.Goals as goal
 
 pub returns : goal.returns
 returns c = record {

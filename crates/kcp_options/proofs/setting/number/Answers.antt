@@ -1,7 +1,7 @@
 use Rattle.std.proofs.Common.{◌≡◌, true, rules}
-use Rattle.options.specs.Options.{is_number}
-use Rattle.options.proofs.Numbers.{parsed}
-use Rattle.options.proofs.setting.number.Goals as goal
+use Rattle.kcp_options.specs.Options.{is_number}
+use Rattle.kcp_options.proofs.Numbers.{parsed}
+use Rattle.kcp_options.proofs.setting.number.Goals as goal
 
 pub returns-in-Err : goal.returns-in-Err
 returns-in-Err c =

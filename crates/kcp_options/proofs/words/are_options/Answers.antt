@@ -1,6 +1,6 @@
 use Rattle.std.proofs.Common.{sym, ◌∙◌}
-use Rattle.options.proofs.Pairs.{few, pair}
-use Rattle.options.proofs.words.are_options.Goals as goal
+use Rattle.kcp_options.proofs.Pairs.{few, pair}
+use Rattle.kcp_options.proofs.words.are_options.Goals as goal
 
 pub returns : goal.returns
 returns c =

@@ -1,6 +1,6 @@
 use Rattle.std.proofs.Common.{◌≡◌, map, string_bytes, length}
-use Rattle.options.specs.Options.{are_options}
-use Rattle.options.proofs.words.are_options.Given as goal
+use Rattle.kcp_options.specs.Options.{are_options}
+use Rattle.kcp_options.proofs.words.are_options.Given as goal
 
 abbrev pub invariant-loop-rest : goal.invariant-loop-rest
 invariant-loop-rest l = are_options l.fn.settings (map string_bytes l.rest) ≡ are_options l.fn.settings (map string_bytes l.fn.words)

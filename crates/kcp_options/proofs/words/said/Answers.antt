@@ -1,6 +1,6 @@
 use Rattle.std.proofs.Common.{◌≡◌, map, string_bytes, Some, rules}
-use Rattle.options.specs.Options.{row, value_after}
-use Rattle.options.proofs.words.said.Goals as goal
+use Rattle.kcp_options.specs.Options.{row, value_after}
+use Rattle.kcp_options.proofs.words.said.Goals as goal
 
 pub returns-in-Some-clause-value : goal.returns-in-Some-clause-value
 returns-in-Some-clause-value c =

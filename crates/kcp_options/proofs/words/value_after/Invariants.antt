@@ -1,6 +1,6 @@
 use Rattle.std.proofs.Common.{◌≡◌, map, string_bytes, length}
-use Rattle.options.specs.Options.{value_after}
-use Rattle.options.proofs.words.value_after.Given as goal
+use Rattle.kcp_options.specs.Options.{value_after}
+use Rattle.kcp_options.proofs.words.value_after.Given as goal
 
 abbrev pub invariant-loop-rest : goal.invariant-loop-rest
 invariant-loop-rest l = value_after l.fn.name (map string_bytes l.rest) ≡ value_after l.fn.name (map string_bytes l.fn.words)

@@ -1,7 +1,7 @@
 use Rattle.std.proofs.Common.{◌≡◌, OnOk, codes, false, subst, sym, ap, ◌∙◌}
 use Rattle.serde_json.specs.Data.{Members, string, put}
-use Rattle.definitions.specs.Deletion.{with_deletion}
-use Rattle.definitions.specs.Metadata.{is_being_deleted}
+use Rattle.spec_api.specs.Deletion.{with_deletion}
+use Rattle.spec_api.specs.Metadata.{is_being_deleted}
 use Rattle.lifecycle.proofs.Marks.{deletion_told}
 use Rattle.lifecycle.proofs.fates.set_deletion.Goals as goal
 

@@ -1,7 +1,7 @@
 use Rattle.std.proofs.Common.{◌≡◌, refl, sym, ap, ◌∙◌}
 use Rattle.serde_json.specs.Data.{string, item, no_items}
 use Rattle.serde_json.specs.View.{items_view}
-use Rattle.definitions.specs.Deletion.{of_policy}
+use Rattle.spec_api.specs.Deletion.{of_policy}
 use Rattle.lifecycle.specs.Finalizers.{followed}
 use Rattle.lifecycle.proofs.Followed.{followed-none, items_view-push}
 use Rattle.lifecycle.proofs.finalizers.add_of_policy.Goals as goal

@@ -2,7 +2,7 @@ use Rattle.std.proofs.Common.{◌≡◌, Result, Ok, Err, IfOk, false, ap, ◌�
 use Rattle.serde_json.specs.Data.{Items}
 use Rattle.serde_json.specs.View.{items_view}
 use Rattle.serde_json.specs.Written.{items_have_float}
-use Rattle.definitions.specs.Deletion.{of_policy, others_then}
+use Rattle.spec_api.specs.Deletion.{of_policy, others_then}
 use Rattle.lifecycle.proofs.Followed.{others_then-no_float, of_policy-no_float}
 use Rattle.lifecycle.proofs.finalizers.left_by.Goals as goal
 

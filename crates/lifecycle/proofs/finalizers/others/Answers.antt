@@ -2,7 +2,7 @@ use Rattle.std.proofs.Common.{List, Vec, Global, sym, ap, ◌∙◌}
 use Rattle.serde_json.specs.Data.{no_items}
 use Rattle.serde_json.specs.declared.value.Value.{Value}
 use Rattle.serde_json.specs.View.{view, items_view}
-use Rattle.definitions.specs.Deletion.{is_of_policy, others_then}
+use Rattle.spec_api.specs.Deletion.{is_of_policy, others_then}
 use Rattle.lifecycle.proofs.Followed.{others-left_out, others-next, others-end}
 use Rattle.lifecycle.proofs.finalizers.others.Goals as goal
 use Rattle.lifecycle.proofs.finalizers.others.Goals.{then-not-is_of_policy+in_ok-clone+in_ok-push, else-not-is_of_policy}

@@ -1,7 +1,7 @@
 use Rattle.std.proofs.Common.{◌≡◌, drop}
 use Rattle.serde_json.specs.Data.{no_items}
 use Rattle.serde_json.specs.View.{items_view}
-use Rattle.definitions.specs.Deletion.{others_then}
+use Rattle.spec_api.specs.Deletion.{others_then}
 use Rattle.lifecycle.specs.Finalizers.{followed}
 use Rattle.lifecycle.proofs.finalizers.others.Given as goal
 

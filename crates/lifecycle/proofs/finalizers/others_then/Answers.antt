@@ -1,7 +1,7 @@
 use Rattle.std.proofs.Common.{ap, ◌∙◌}
 use Rattle.serde_json.specs.Data.{Items}
 use Rattle.serde_json.specs.View.{items_view}
-use Rattle.definitions.specs.Deletion.{of_policy}
+use Rattle.spec_api.specs.Deletion.{of_policy}
 use Rattle.lifecycle.specs.Finalizers.{followed}
 use Rattle.lifecycle.proofs.Followed.{followed-others_then}
 use Rattle.lifecycle.proofs.finalizers.others_then.Goals as goal

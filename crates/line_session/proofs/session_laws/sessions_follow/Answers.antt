@@ -1,5 +1,5 @@
-use Rattle.session.proofs.Followed.{sessions_follow}
-use Rattle.session.proofs.session_laws.sessions_follow.Goals as goal
+use Rattle.line_session.proofs.Followed.{sessions_follow}
+use Rattle.line_session.proofs.session_laws.sessions_follow.Goals as goal
 
 pub returns : goal.returns
 returns c = sessions_follow

@@ -1,9 +1,9 @@
 use Rattle.std.proofs.Common.{◌≡◌, drop, map}
 use Rattle.std.specs.List.{list_any}
-use Rattle.keys.specs.Keys.{key_of}
+use Rattle.object_keys.specs.Keys.{key_of}
 use Rattle.indexer.specs.Shifted.{shift_of}
-use Rattle.following.specs.Recognized.{is_elsewhere}
-use Rattle.following.proofs.shown.has_moved.Given as goal
+use Rattle.list_and_watch.specs.Recognized.{is_elsewhere}
+use Rattle.list_and_watch.proofs.shown.has_moved.Given as goal
 
 abbrev pub invariant-loop-shift : goal.invariant-loop-shift
 invariant-loop-shift l =

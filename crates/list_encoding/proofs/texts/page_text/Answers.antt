@@ -3,12 +3,12 @@ use Rattle.json.specs.Print.{quoted}
 use Rattle.serde_json.specs.Data.{object}
 use Rattle.serde_json.specs.View.{items_of}
 use Rattle.serde_json.specs.Written.{compact_text, items_text}
-use Rattle.definitions.specs.Kinds.{api_version, kind_text}
-use Rattle.definitions.specs.Lists.{page_metadata}
-use Rattle.definitions.specs.Verbs.{as_item}
+use Rattle.spec_api.specs.Kinds.{api_version, kind_text}
+use Rattle.spec_api.specs.Lists.{page_metadata}
+use Rattle.spec_api.specs.Verbs.{as_item}
 use Rattle.pages.specs.Seen.{asked_place}
-use Rattle.list_texts.proofs.PageTexts.{compact_text-page_body, pieces}
-use Rattle.list_texts.proofs.texts.page_text.Goals as goal
+use Rattle.list_encoding.proofs.PageTexts.{compact_text-page_body, pieces}
+use Rattle.list_encoding.proofs.texts.page_text.Goals as goal
 
 pub returns : goal.returns
 returns c =

@@ -1,6 +1,6 @@
 use denote.Exit.{no}
 use denote.Param.Send.{param_send, arg_send}
-use Rattle.listers.proofs.Sent.{lister}
+use Rattle.informer.proofs.Sent.{lister}
 use Rattle.lister_bench.proofs.looks.look_in_threads.Goals as goal
 
 pub map_vec-requires-send-J : goal.map_vec-requires-send-J

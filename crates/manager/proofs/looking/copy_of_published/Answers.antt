@@ -1,6 +1,6 @@
 use Rattle.std.proofs.Common.{subst, sym}
-use Rattle.listers.specs.Knowing.{StartsWithAll, latest}
-use Rattle.listers.specs.Listers.{known}
+use Rattle.informer.specs.Knowing.{StartsWithAll, latest}
+use Rattle.informer.specs.Listers.{known}
 use Rattle.manager.specs.Looked.{has_seen, as_before}
 use Rattle.manager.proofs.looking.copy_of_published.Goals as goal
 

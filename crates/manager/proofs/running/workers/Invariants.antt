@@ -1,5 +1,5 @@
 use Rattle.std.proofs.Common.{◌≡◌, ◌+◌, All, length}
-use Rattle.shared_board.specs.Desks.{IsNewAt}
+use Rattle.control_desk.specs.Desks.{IsNewAt}
 use Rattle.manager.proofs.running.workers.Given as goal
 
 -- a new pass is left for each worker that is to be made, and five more

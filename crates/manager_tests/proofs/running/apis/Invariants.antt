@@ -1,5 +1,5 @@
 use Rattle.std.proofs.Common.{All}
-use Rattle.shared_desk.specs.Desks.{IsNewAt}
+use Rattle.desk.specs.Desks.{IsNewAt}
 use Rattle.manager_tests.proofs.running.apis.Given as goal
 
 abbrev pub invariant-loop : goal.invariant-loop

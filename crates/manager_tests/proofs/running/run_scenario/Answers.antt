@@ -13,22 +13,22 @@ use denote.Struct.Tuple.{TupleAt, type_at}
 use Rattle.std.proofs.Crossing as heap
 use Rattle.std.specs.contracts.alloc.Global as Global
 use Rattle.std.specs.contracts.sync.atomic.AtomicU64 as AtomicU64
-use Rattle.bells.proofs.bell.Bell.TheSendSync as bell
-use Rattle.bells.specs.contracts.bell.Bell as Bell
-use Rattle.bells.proofs.stop.Stop.TheSendSync as stop
-use Rattle.bells.specs.contracts.stop.Stop as Stop
-use Rattle.shared_desk.proofs.Sent.{desk, pass_field}
-use Rattle.shared_desk.specs.contracts.askings.Anything as Anything
-use Rattle.shared_desk.specs.contracts.askings.AnythingAsking.TheImpl as asks
-use Rattle.shared_desk.specs.contracts.desks.Desk as Desk
-use Rattle.shared_desk.specs.contracts.seats.Seat as Seat
-use Rattle.worker_turns.proofs.signals.Signals.TheSendSync as signals
-use Rattle.worker_turns.specs.contracts.signals.Signals as Signals
+use Rattle.wakeups.proofs.bell.Bell.TheSendSync as bell
+use Rattle.wakeups.specs.contracts.bell.Bell as Bell
+use Rattle.wakeups.proofs.stop.Stop.TheSendSync as stop
+use Rattle.wakeups.specs.contracts.stop.Stop as Stop
+use Rattle.desk.proofs.Sent.{desk, pass_field}
+use Rattle.desk.specs.contracts.askings.Anything as Anything
+use Rattle.desk.specs.contracts.askings.AnythingAsking.TheImpl as asks
+use Rattle.desk.specs.contracts.desks.Desk as Desk
+use Rattle.desk.specs.contracts.seats.Seat as Seat
+use Rattle.manager_worker.proofs.signals.Signals.TheSendSync as signals
+use Rattle.manager_worker.specs.contracts.signals.Signals as Signals
 use Rattle.manager.proofs.running.Apis.TheSendSync as apis_of
 use Rattle.manager_tests.proofs.watches.Watch.TheSendSync as watch
 use Rattle.manager_tests.specs.contracts.environments.Environment as Environment
-use Rattle.manager_tests.specs.contracts.ringers.Ringer as Ringer
-use Rattle.manager_tests.specs.contracts.running.Controllers as Controllers
+use Rattle.manager_tests.specs.contracts.ringers.BellRinger as Ringer
+use Rattle.manager_tests.specs.contracts.running.SceneControllers as Controllers
 use Rattle.manager_tests.specs.contracts.servers.SharedServer as SharedServer
 use Rattle.manager_tests.specs.contracts.watches.Watch as Watch
 use Rattle.manager_tests.proofs.running.run_scenario.Goals as goal

@@ -2,9 +2,9 @@
 use Rattle.std.proofs.Common.{ap, subst}
 use Rattle.std.specs.Str.{IsUtf8}
 use Rattle.std.proofs.lemmas.Str.{IsUtf8-string_bytes}
-use Rattle.reconciling.specs.Turns.{accepted}
-use Rattle.workers.specs.Seen.{data_of}
-use Rattle.worker_turns.proofs.answers.accepted.Goals as goal
+use Rattle.spec_sim_control_plane.specs.Turns.{accepted}
+use Rattle.reconcile_turn.specs.Seen.{data_of}
+use Rattle.manager_worker.proofs.answers.accepted.Goals as goal
 
 pub returns-in-Ok : goal.returns-in-Ok
 returns-in-Ok c =

@@ -1,6 +1,6 @@
 use Rattle.std.proofs.Common.{◌≡◌, drop}
 use Rattle.serde_json.specs.View.{items_view}
-use Rattle.definitions.specs.Checks.{has_text}
+use Rattle.spec_api.specs.Checks.{has_text}
 use Rattle.meta.proofs.finalizers.has_text.Given as goal
 
 abbrev pub invariant-loop-item : goal.invariant-loop-item

@@ -2,7 +2,7 @@ use Rattle.std.proofs.Common.{◌≡◌, List, [], ◌∷◌, take, map, refl, s
 use Rattle.std.proofs.lemmas.List.{take_all}
 use Rattle.serde_json.specs.Data.{Data}
 use Rattle.serde_json.specs.View.{view, items_of}
-use Rattle.definitions.specs.Metadata.{owner, owners_in}
+use Rattle.spec_api.specs.Metadata.{owner, owners_in}
 use Rattle.meta.proofs.owners.owners_in.Goals as goal
 
 owners_in-items_of : (ds : List Data) → owners_in (items_of ds) ≡ map owner ds

@@ -1,6 +1,6 @@
 use Rattle.std.proofs.Common.{◌≡◌, take, map}
 use Rattle.serde_json.specs.View.{view}
-use Rattle.definitions.specs.Metadata.{owner}
+use Rattle.spec_api.specs.Metadata.{owner}
 use Rattle.meta.specs.Owners.{owner_of}
 use Rattle.meta.proofs.owners.owners_in.Given as goal
 

@@ -1,6 +1,6 @@
 use Rattle.std.proofs.Common.{◌≡◌, drop}
 use Rattle.serde_json.specs.View.{items_view, members_view}
-use Rattle.definitions.specs.Reading.{items_fit, members_fit}
+use Rattle.spec_api.specs.Reading.{items_fit, members_fit}
 use Rattle.meta.proofs.reading.+fits.Given as goal
 
 abbrev pub invariant-items_fit-loop-item : goal.invariant-items_fit-loop-item

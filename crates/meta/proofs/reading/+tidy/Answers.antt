@@ -3,8 +3,8 @@ use Rattle.std.specs.List.Sorted.{IsStrictlySortedBy}
 use Rattle.std.specs.Map.{keys_of}
 use Rattle.serde_json.specs.View.{view, items_of}
 use Rattle.serde_json.proofs.Views.{Entry}
-use Rattle.definitions.specs.Reading.{tidied}
-use Rattle.definitions.specs.Schemas.{property_at}
+use Rattle.spec_api.specs.Reading.{tidied}
+use Rattle.spec_api.specs.Schemas.{property_at}
 use Rattle.meta.proofs.Tidying.{tidied_items-items_of, tidied_members-one_more, left}
 use Rattle.meta.proofs.reading.+tidy.Goals as goal
 

@@ -2,7 +2,7 @@ use Rattle.std.proofs.Common.{◌≡◌, List, ◌++◌, map}
 use Rattle.serde_json.specs.View.{view, members_view}
 use Rattle.serde_json.specs.declared.value.Value.{Value}
 use Rattle.serde_json.proofs.Views.{Entry}
-use Rattle.definitions.specs.Reading.{tidied, tidied_members}
+use Rattle.spec_api.specs.Reading.{tidied, tidied_members}
 use Rattle.meta.proofs.reading.+tidy.Given as goal
 
 abbrev pub invariant-tidy_items-loop-item : goal.invariant-tidy_items-loop-item

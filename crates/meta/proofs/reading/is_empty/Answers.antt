@@ -1,7 +1,7 @@
 use Rattle.std.proofs.Common.{length, ◌==◌, sym, ap, ◌∙◌}
 use Rattle.serde_json.specs.View.{view}
 use Rattle.serde_json.proofs.Views.{items_len-items_view, members_len-members_view, view-Array, view-Object}
-use Rattle.definitions.specs.Reading.{is_empty}
+use Rattle.spec_api.specs.Reading.{is_empty}
 use Rattle.meta.proofs.reading.is_empty.Goals as goal
 
 pub returns-in-Array : goal.returns-in-Array

@@ -1,7 +1,7 @@
 use Rattle.std.proofs.Common.{◌≡◌, false, ap, ◌∙◌, rules}
 use Rattle.serde_json.specs.View.{view, members_view}
 use Rattle.serde_json.proofs.Views.{members_view-insert_entry}
-use Rattle.definitions.specs.Reading.{is_absent}
+use Rattle.spec_api.specs.Reading.{is_absent}
 use Rattle.meta.proofs.reading.put_if_there.Goals as goal
 
 pub returns : goal.returns

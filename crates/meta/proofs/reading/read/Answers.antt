@@ -1,10 +1,10 @@
 use Rattle.std.proofs.Common.{◌≡◌, true, false, ap, ◌∙◌, rules}
 use Rattle.serde_json.specs.View.{view}
 use Rattle.serde_json.specs.Written.{has_float}
-use Rattle.definitions.specs.declared.schemas.Shape.TheVariants.{Object}
-use Rattle.definitions.specs.declared.schemas.Schema.TheVariants.{Root}
-use Rattle.definitions.specs.Reading.{is_body, filled, tidied}
-use Rattle.definitions.proofs.NoFloatsRead.{has_float-tidied, has_float-filled, has_float-is_body}
+use Rattle.spec_api.specs.declared.schemas.Shape.TheVariants.{Object}
+use Rattle.spec_api.specs.declared.schemas.Schema.TheVariants.{Root}
+use Rattle.spec_api.specs.Reading.{is_body, filled, tidied}
+use Rattle.spec_api.proofs.NoFloatsRead.{has_float-tidied, has_float-filled, has_float-is_body}
 use Rattle.meta.proofs.Tidied.{is_object, is_object-read}
 use Rattle.meta.proofs.reading.read.Goals as goal
 

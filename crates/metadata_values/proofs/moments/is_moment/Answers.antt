@@ -1,7 +1,7 @@
 use Rattle.std.proofs.Common.{◌≡◌, length, true, codes, refl, rules, arith}
-use Rattle.definitions.specs.Moments.{has_form}
-use Rattle.stamps.proofs.Forms.{digits-at, has_form-length}
-use Rattle.stamps.proofs.moments.is_moment.Goals as goal
+use Rattle.spec_api.specs.Moments.{has_form}
+use Rattle.metadata_values.proofs.Forms.{digits-at, has_form-length}
+use Rattle.metadata_values.proofs.moments.is_moment.Goals as goal
 
 pub number-year-requires-clause-digits : goal.number-year-requires-clause-digits
 number-year-requires-clause-digits c =

@@ -1,6 +1,6 @@
 use Rattle.std.proofs.Common.{sym, ◌∙◌, arith}
-use Rattle.stamps.proofs.Forms.{digit-value, value-drop, power-more, power-small}
-use Rattle.stamps.proofs.moments.number.Goals as goal
+use Rattle.metadata_values.proofs.Forms.{digit-value, value-drop, power-more, power-small}
+use Rattle.metadata_values.proofs.moments.number.Goals as goal
 
 pub overflow_mul-number : goal.overflow_mul-number
 overflow_mul-number c = omega (arith, power-small c.loop-digit.digit-index (omega arith))

@@ -1,9 +1,9 @@
 use Rattle.std.proofs.Common.{◌≡◌, ◌<◌, length, true, arith, rules}
 use Rattle.std.proofs.lemmas.Bool.Decides.{nat_tests}
 use Rattle.std.specs.List.{list_all}
-use Rattle.definitions.specs.Moments.{is_digit}
-use Rattle.stamps.proofs.Digits.{too-large}
-use Rattle.stamps.proofs.revisions.read_revision.Goals as goal
+use Rattle.spec_api.specs.Moments.{is_digit}
+use Rattle.metadata_values.proofs.Digits.{too-large}
+use Rattle.metadata_values.proofs.revisions.read_revision.Goals as goal
 
 pub returns-in-Err : goal.returns-in-Err
 returns-in-Err c =

@@ -1,9 +1,9 @@
 use Rattle.std.proofs.Common.{◌≡◌, ap, ◌∙◌}
 use Rattle.std.proofs.lemmas.Result.{IfOk-weaker}
-use Rattle.definitions.specs.Uids.{uid_text}
+use Rattle.spec_api.specs.Uids.{uid_text}
 use Rattle.uuid.specs.Text.{hyphenated_text, lower}
-use Rattle.stamps.proofs.Hexadecimal.{uid-text}
-use Rattle.stamps.proofs.uids.uid_text.Goals as goal
+use Rattle.metadata_values.proofs.Hexadecimal.{uid-text}
+use Rattle.metadata_values.proofs.uids.uid_text.Goals as goal
 
 pub returns : goal.returns
 returns c =

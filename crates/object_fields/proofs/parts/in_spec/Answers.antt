@@ -1,7 +1,7 @@
 use Rattle.std.proofs.Common.{sym, subst}
 use Rattle.serde_json.specs.View.{view}
 use Rattle.json_values.proofs.NoFloats.{no_float, get_no_float, found-no_float}
-use Rattle.readings.proofs.parts.in_spec.Goals as goal
+use Rattle.object_fields.proofs.parts.in_spec.Goals as goal
 
 pub returns-clause-no_float : goal.returns-clause-no_float
 returns-clause-no_float c =

@@ -1,8 +1,8 @@
 use Rattle.std.proofs.Common.{◌≡◌, drop}
 use Rattle.std.specs.List.{list_any}
 use Rattle.serde_json.specs.View.{items_view}
-use Rattle.definitions.specs.Metadata.{Owner, owners_in}
-use Rattle.owners.proofs.controlled_by.any_controls.Given as goal
+use Rattle.spec_api.specs.Metadata.{Owner, owners_in}
+use Rattle.owner_references.proofs.controlled_by.any_controls.Given as goal
 
 abbrev pub invariant-loop-reference : goal.invariant-loop-reference
 invariant-loop-reference l =

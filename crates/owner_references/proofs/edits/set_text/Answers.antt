@@ -2,7 +2,7 @@ use Rattle.std.proofs.Common.{ap}
 use Rattle.serde_json.specs.View.{view}
 use Rattle.serde_json.specs.Written.{has_float}
 use Rattle.json_values.proofs.NoFloats.{after_put-no_float}
-use Rattle.owners.proofs.edits.set_text.Goals as goal
+use Rattle.owner_references.proofs.edits.set_text.Goals as goal
 
 pub returns-clause-no_float : goal.returns-clause-no_float
 returns-clause-no_float c =

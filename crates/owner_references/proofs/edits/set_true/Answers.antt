@@ -5,7 +5,7 @@ use Rattle.serde_json.specs.Written.{has_float}
 use Rattle.serde_json.specs.declared.value.Value.{the_lemmas}
 use Rattle.serde_json.specs.declared.value.Value.TheVariants as value
 use Rattle.json_values.proofs.NoFloats.{after_put-no_float}
-use Rattle.owners.proofs.edits.set_true.Goals as goal
+use Rattle.owner_references.proofs.edits.set_true.Goals as goal
 
 pub returns-clause-no_float : goal.returns-clause-no_float
 returns-clause-no_float c =

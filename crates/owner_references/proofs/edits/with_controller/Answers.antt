@@ -2,9 +2,9 @@ use Rattle.std.proofs.Common.{◌≡◌, IfOk, codes, ap, ◌∙◌, subst}
 use Rattle.serde_json.specs.Data.{Data, Items}
 use Rattle.serde_json.specs.View.{view, items_view}
 use Rattle.serde_json.specs.Written.{items_have_float}
-use Rattle.plans.specs.MetadataEdits.{references, with_last, with_list}
-use Rattle.owners.proofs.KeptItems.{grown_are, with_last-no_float}
-use Rattle.owners.proofs.edits.with_controller.Goals as goal
+use Rattle.spec_reconcile.specs.MetadataEdits.{references, with_last, with_list}
+use Rattle.owner_references.proofs.KeptItems.{grown_are, with_last-no_float}
+use Rattle.owner_references.proofs.edits.with_controller.Goals as goal
 
 pub with_list-requires : goal.with_list-requires
 with_list-requires c =

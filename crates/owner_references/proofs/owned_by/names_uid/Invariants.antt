@@ -1,9 +1,9 @@
 use Rattle.std.proofs.Common.{◌≡◌, drop}
 use Rattle.std.specs.List.{list_any}
 use Rattle.serde_json.specs.View.{items_view}
-use Rattle.definitions.specs.Metadata.{Owner, owners_in}
-use Rattle.controllers.specs.OwnerReferences.{is_text}
-use Rattle.owners.proofs.owned_by.names_uid.Given as goal
+use Rattle.spec_api.specs.Metadata.{Owner, owners_in}
+use Rattle.spec_client_go.specs.OwnerReferences.{is_text}
+use Rattle.owner_references.proofs.owned_by.names_uid.Given as goal
 
 abbrev pub invariant-loop-reference : goal.invariant-loop-reference
 invariant-loop-reference l =

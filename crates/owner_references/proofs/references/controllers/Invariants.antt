@@ -1,8 +1,8 @@
 use Rattle.std.proofs.Common.{◌≡◌, ◌++◌, map, filter}
-use Rattle.definitions.specs.Metadata.{owners}
+use Rattle.spec_api.specs.Metadata.{owners}
 use Rattle.meta.specs.Owners.{owner_of}
-use Rattle.controllers.specs.OwnerReferences.{controls_as}
-use Rattle.owners.proofs.references.controllers.Given as goal
+use Rattle.spec_client_go.specs.OwnerReferences.{controls_as}
+use Rattle.owner_references.proofs.references.controllers.Given as goal
 
 -- those found and those still to be found are all
 abbrev pub invariant-loop-owner : goal.invariant-loop-owner

@@ -1,8 +1,8 @@
 use Rattle.std.proofs.Common.{◌≡◌, ◌++◌, map, filter_map}
-use Rattle.keys.specs.Keys.{key_of}
+use Rattle.object_keys.specs.Keys.{key_of}
 use Rattle.meta.specs.Owners.{owner_of}
-use Rattle.controllers.specs.OwnerReferences.{owner_key}
-use Rattle.owners.proofs.references.keys_in.Given as goal
+use Rattle.spec_client_go.specs.OwnerReferences.{owner_key}
+use Rattle.owner_references.proofs.references.keys_in.Given as goal
 
 -- those found and those still to be found are all
 abbrev pub invariant-loop-owner : goal.invariant-loop-owner

@@ -1,9 +1,9 @@
 use Rattle.std.proofs.Common.{◌≡◌, ◌++◌, map, filter_map}
-use Rattle.definitions.specs.Metadata.{Owner}
-use Rattle.keys.specs.Keys.{key_of}
+use Rattle.spec_api.specs.Metadata.{Owner}
+use Rattle.object_keys.specs.Keys.{key_of}
 use Rattle.meta.specs.Owners.{owner_of}
-use Rattle.controllers.specs.OwnerReferences.{key_named}
-use Rattle.owners.proofs.references.keys_of_kind.Given as goal
+use Rattle.spec_client_go.specs.OwnerReferences.{key_named}
+use Rattle.owner_references.proofs.references.keys_of_kind.Given as goal
 
 -- those found and those still to be found are all
 abbrev pub invariant-loop-owner : goal.invariant-loop-owner

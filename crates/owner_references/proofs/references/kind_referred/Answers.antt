@@ -1,10 +1,10 @@
 use Rattle.std.proofs.Common.{rules, tests, ◌∙◌}
 use Rattle.std.proofs.lemmas.Iterator.{YieldsList-from_slice}
 use Rattle.std.proofs.lemmas.Iterator.Search.{find_from_yields_List}
-use Rattle.definitions.specs.Kinds.{kinds}
-use Rattle.controllers.specs.OwnerReferences.{refers_to}
+use Rattle.spec_api.specs.Kinds.{kinds}
+use Rattle.spec_client_go.specs.OwnerReferences.{refers_to}
 use Rattle.meta.specs.Owners.{owner_of}
-use Rattle.owners.proofs.references.kind_referred.Goals as goal
+use Rattle.owner_references.proofs.references.kind_referred.Goals as goal
 
 pub returns : goal.returns
 returns c =

@@ -1,6 +1,6 @@
 use Rattle.std.proofs.Common.{map, sym, ap, ◌∙◌}
-use Rattle.definitions.specs.Pages.{after_place}
-use Rattle.definitions.proofs.PageLists.{all_after}
+use Rattle.spec_api.specs.Pages.{after_place}
+use Rattle.spec_api.proofs.PageLists.{all_after}
 use Rattle.meta.specs.Members.{member_of}
 use Rattle.pages.specs.Seen.{asked_place}
 use Rattle.pages.proofs.cuts.start_of.Goals as goal

@@ -1,9 +1,9 @@
 use Rattle.std.proofs.Common.{◌≡◌, map}
 use Rattle.std.specs.List.{list_any}
-use Rattle.definitions.specs.Metadata.{Owner}
+use Rattle.spec_api.specs.Metadata.{Owner}
 use Rattle.meta.specs.Owners.{owner_of}
-use Rattle.controllers.specs.OwnerReferences.{has_controller}
-use Rattle.informer.proofs.looking.has_controller.Given as goal
+use Rattle.spec_client_go.specs.OwnerReferences.{has_controller}
+use Rattle.plain_informer.proofs.looking.has_controller.Given as goal
 
 -- it is one of those still to be looked at
 abbrev pub invariant-loop-owner : goal.invariant-loop-owner

@@ -1,9 +1,9 @@
 use Rattle.std.proofs.Common.{◌≡◌, ◌++◌, map}
 use Rattle.serde_json.specs.Data.{Data}
-use Rattle.definitions.specs.Keys.{Key as Name}
-use Rattle.keys.specs.Keys.{key_of}
-use Rattle.turns.specs.Entries.{entry_of}
-use Rattle.informer.proofs.looking.keys_of_entries.Given as goal
+use Rattle.spec_api.specs.Keys.{Key as Name}
+use Rattle.object_keys.specs.Keys.{key_of}
+use Rattle.reconcile_types.specs.Entries.{entry_of}
+use Rattle.plain_informer.proofs.looking.keys_of_entries.Given as goal
 
 -- those copied and those still to be copied are all
 abbrev pub invariant-loop-entry : goal.invariant-loop-entry

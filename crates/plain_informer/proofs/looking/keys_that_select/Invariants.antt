@@ -1,10 +1,10 @@
 use Rattle.std.proofs.Common.{◌≡◌, ◌++◌, map, filter}
 use Rattle.serde_json.specs.Data.{Data}
-use Rattle.definitions.specs.Keys.{Key as Name}
-use Rattle.keys.specs.Keys.{key_of}
-use Rattle.turns.specs.Entries.{entry_of}
-use Rattle.controllers.specs.OwedKeys.{selects}
-use Rattle.informer.proofs.looking.keys_that_select.Given as goal
+use Rattle.spec_api.specs.Keys.{Key as Name}
+use Rattle.object_keys.specs.Keys.{key_of}
+use Rattle.reconcile_types.specs.Entries.{entry_of}
+use Rattle.spec_client_go.specs.OwedKeys.{selects}
+use Rattle.plain_informer.proofs.looking.keys_that_select.Given as goal
 
 -- those found and those still to be found are all
 abbrev pub invariant-loop-entry : goal.invariant-loop-entry

@@ -1,9 +1,9 @@
 use Rattle.std.proofs.Common.{rules, ◌≡◌, ◌∷◌, map, ap, sym, ◌∙◌}
-use Rattle.keys.specs.Keys.{key_of}
-use Rattle.controllers.specs.OwedKeys.{with_keys, for_controller}
+use Rattle.object_keys.specs.Keys.{key_of}
+use Rattle.spec_client_go.specs.OwedKeys.{with_keys, for_controller}
 use Rattle.work_keys.specs.WorkKeys.{work_key_of}
-use Rattle.informer.proofs.SeenTasks.{said-insert_key}
-use Rattle.informer.proofs.owing.add_all.Goals as goal
+use Rattle.plain_informer.proofs.SeenTasks.{said-insert_key}
+use Rattle.plain_informer.proofs.owing.add_all.Goals as goal
 
 pub loop-key-preserved : goal.loop-key-preserved
 loop-key-preserved c =

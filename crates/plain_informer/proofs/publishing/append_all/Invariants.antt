@@ -1,6 +1,6 @@
 use Rattle.std.proofs.Common.{◌≡◌, ◌++◌, map}
 use Rattle.indexer.specs.Shifted.{shift_of}
-use Rattle.informer.proofs.publishing.append_all.Given as goal
+use Rattle.plain_informer.proofs.publishing.append_all.Given as goal
 
 -- those added and those still to be added are all
 abbrev pub invariant-loop-shift : goal.invariant-loop-shift

@@ -1,9 +1,9 @@
 use Rattle.std.proofs.Common.{◌≡◌, ◌++◌, map, drop}
-use Rattle.controllers.specs.Informers.{all_applied}
-use Rattle.controllers.specs.Shifts.{all_shifts}
+use Rattle.spec_client_go.specs.Informers.{all_applied}
+use Rattle.spec_client_go.specs.Shifts.{all_shifts}
 use Rattle.indexer.specs.Shifted.{shift_of}
 use Rattle.reflector.specs.Deltas.{deltas_of}
-use Rattle.informer.proofs.publishing.apply_all.Given as goal
+use Rattle.plain_informer.proofs.publishing.apply_all.Given as goal
 
 -- with what is still to be applied, it is all
 abbrev pub invariant-loop-delta : goal.invariant-loop-delta

@@ -1,9 +1,9 @@
 use Rattle.std.proofs.Common.{◌≡◌, ◌++◌, map, flat_map}
-use Rattle.keys.specs.Keys.{key_of}
+use Rattle.object_keys.specs.Keys.{key_of}
 use Rattle.meta.specs.Owners.{owner_of}
-use Rattle.controllers.specs.OwnerReferences.{namespace_of}
-use Rattle.controllers.specs.OwedKeys.{deployments_over, deployments_of_pod}
-use Rattle.informer.proofs.rollouts.deployments_of_pod.Given as goal
+use Rattle.spec_client_go.specs.OwnerReferences.{namespace_of}
+use Rattle.spec_client_go.specs.OwedKeys.{deployments_over, deployments_of_pod}
+use Rattle.plain_informer.proofs.rollouts.deployments_of_pod.Given as goal
 
 -- those found and those still to be found are all
 abbrev pub invariant-loop-owner : goal.invariant-loop-owner

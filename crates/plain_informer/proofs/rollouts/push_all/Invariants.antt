@@ -1,6 +1,6 @@
 use Rattle.std.proofs.Common.{◌≡◌, ◌++◌, map}
-use Rattle.keys.specs.Keys.{key_of}
-use Rattle.informer.proofs.rollouts.push_all.Given as goal
+use Rattle.object_keys.specs.Keys.{key_of}
+use Rattle.plain_informer.proofs.rollouts.push_all.Given as goal
 
 -- those added and those still to be added are all
 abbrev pub invariant-loop-key : goal.invariant-loop-key

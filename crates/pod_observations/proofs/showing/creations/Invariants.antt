@@ -1,6 +1,6 @@
 use Rattle.std.proofs.Common.{◌≡◌, ◌++◌, map}
-use Rattle.control.specs.Boards.{creation_observed}
-use Rattle.control_desk.specs.Seen.{observation_of, owner_of}
+use Rattle.spec_work_board.specs.Boards.{creation_observed}
+use Rattle.work_board.specs.Seen.{observation_of, owner_of}
 use Rattle.pod_observations.proofs.showing.creations.Given as goal
 
 -- those found and those still to be found are all

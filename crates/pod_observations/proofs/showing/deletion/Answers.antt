@@ -1,8 +1,8 @@
 use Rattle.std.proofs.Common.{◌≡◌, ◌∙◌, ap, sym, map}
-use Rattle.control.specs.Boards.{deletion_observed}
-use Rattle.control_desk.specs.Seen.{observation_of}
-use Rattle.controllers.specs.Expectations.{Owner}
-use Rattle.reconciling.specs.PodObservations.{sets_of, deletion}
+use Rattle.spec_work_board.specs.Boards.{deletion_observed}
+use Rattle.work_board.specs.Seen.{observation_of}
+use Rattle.spec_client_go.specs.Expectations.{Owner}
+use Rattle.spec_sim_control_plane.specs.PodObservations.{sets_of, deletion}
 use Rattle.pod_observations.proofs.Deletions.{deletion_is, told}
 use Rattle.pod_observations.proofs.showing.deletion.Goals as goal
 

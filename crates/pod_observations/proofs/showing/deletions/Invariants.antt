@@ -1,7 +1,7 @@
 use Rattle.std.proofs.Common.{◌≡◌, ◌++◌, map}
-use Rattle.control.specs.Boards.{deletion_observed}
-use Rattle.controllers.specs.Expectations.{Owner}
-use Rattle.control_desk.specs.Seen.{observation_of, owner_of}
+use Rattle.spec_work_board.specs.Boards.{deletion_observed}
+use Rattle.spec_client_go.specs.Expectations.{Owner}
+use Rattle.work_board.specs.Seen.{observation_of, owner_of}
 use Rattle.pod_observations.proofs.showing.deletions.Given as goal
 
 -- those found and those still to be found are all

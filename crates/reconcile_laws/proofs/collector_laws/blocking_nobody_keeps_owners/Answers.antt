@@ -1,5 +1,5 @@
-use Rattle.plan_laws.proofs.LikeOwners.{nobody_keeps}
-use Rattle.plan_laws.proofs.collector_laws.blocking_nobody_keeps_owners.Goals as goal
+use Rattle.reconcile_laws.proofs.LikeOwners.{nobody_keeps}
+use Rattle.reconcile_laws.proofs.collector_laws.blocking_nobody_keeps_owners.Goals as goal
 
 pub returns : goal.returns
 returns c = nobody_keeps

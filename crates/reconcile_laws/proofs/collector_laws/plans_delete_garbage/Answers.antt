@@ -1,5 +1,5 @@
-use Rattle.plan_laws.proofs.Garbage.{garbage}
-use Rattle.plan_laws.proofs.collector_laws.plans_delete_garbage.Goals as goal
+use Rattle.reconcile_laws.proofs.Garbage.{garbage}
+use Rattle.reconcile_laws.proofs.collector_laws.plans_delete_garbage.Goals as goal
 
 pub returns : goal.returns
 returns c = garbage

@@ -1,5 +1,5 @@
-use Rattle.plan_laws.proofs.RolloutNumbers.{growth_greatest}
-use Rattle.plan_laws.proofs.deployment_laws.growth_is_greatest.Goals as goal
+use Rattle.reconcile_laws.proofs.RolloutNumbers.{growth_greatest}
+use Rattle.reconcile_laws.proofs.deployment_laws.growth_is_greatest.Goals as goal
 
 pub returns : goal.returns
 returns c = growth_greatest

@@ -1,5 +1,5 @@
-use Rattle.plan_laws.proofs.RolloutNumbers.{surge}
-use Rattle.plan_laws.proofs.deployment_laws.surge_is_least.Goals as goal
+use Rattle.reconcile_laws.proofs.RolloutNumbers.{surge}
+use Rattle.reconcile_laws.proofs.deployment_laws.surge_is_least.Goals as goal
 
 pub returns : goal.returns
 returns c = surge

@@ -1,5 +1,5 @@
-use Rattle.plan_laws.proofs.RolloutPlans.{taken_leave}
-use Rattle.plan_laws.proofs.deployment_laws.taken_leave_fewest.Goals as goal
+use Rattle.reconcile_laws.proofs.RolloutPlans.{taken_leave}
+use Rattle.reconcile_laws.proofs.deployment_laws.taken_leave_fewest.Goals as goal
 
 pub returns : goal.returns
 returns c = taken_leave

@@ -1,5 +1,5 @@
-use Rattle.plan_laws.proofs.AskedNumbers.{names_looked}
-use Rattle.plan_laws.proofs.deployment_laws.updates_name_the_looked_version.Goals as goal
+use Rattle.reconcile_laws.proofs.AskedNumbers.{names_looked}
+use Rattle.reconcile_laws.proofs.deployment_laws.updates_name_the_looked_version.Goals as goal
 
 pub returns : goal.returns
 returns c = names_looked

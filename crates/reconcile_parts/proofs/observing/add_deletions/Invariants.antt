@@ -1,7 +1,7 @@
 use Rattle.std.proofs.Common.{◌≡◌, ◌++◌, map, string_bytes}
-use Rattle.control.specs.Boards.{deletion_observed}
-use Rattle.control_desk.specs.Seen.{owner_of, observation_of}
-use Rattle.turn_parts.proofs.observing.add_deletions.Given as goal
+use Rattle.spec_work_board.specs.Boards.{deletion_observed}
+use Rattle.work_board.specs.Seen.{owner_of, observation_of}
+use Rattle.reconcile_parts.proofs.observing.add_deletions.Given as goal
 
 -- those so far and those still to come are all
 abbrev pub invariant-loop-pod : goal.invariant-loop-pod

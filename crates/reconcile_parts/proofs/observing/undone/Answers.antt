@@ -4,14 +4,14 @@ use Rattle.std.specs.Global.{Global}
 use Rattle.std.proofs.lemmas.Option.{slice_get_read, slice_get-map}
 use Rattle.std.specs.Borrow.{Bor}
 use Rattle.std.specs.List.{slice_get}
-use Rattle.controllers.specs.Commands as commands
-use Rattle.turns.specs.Commands.{command_of}
-use Rattle.turns.specs.declared.commands.Command.{Command}
-use Rattle.turn_parts.specs.Answers.{answers_of, undone_of}
-use Rattle.turn_parts.specs.Pods.{commands_lent}
-use Rattle.turn_parts.proofs.Issues.{undone_more, undone_same, undone_past}
-use Rattle.turn_parts.proofs.observing.undone.Goals as goal
-use Rattle.turn_parts.proofs.observing.undone.Goals.{then-is_undone+in_ok-push, else-is_undone}
+use Rattle.spec_client_go.specs.Commands as commands
+use Rattle.reconcile_types.specs.Commands.{command_of}
+use Rattle.reconcile_types.specs.declared.commands.Command.{Command}
+use Rattle.reconcile_parts.specs.Answers.{answers_of, undone_of}
+use Rattle.reconcile_parts.specs.Pods.{commands_lent}
+use Rattle.reconcile_parts.proofs.Issues.{undone_more, undone_same, undone_past}
+use Rattle.reconcile_parts.proofs.observing.undone.Goals as goal
+use Rattle.reconcile_parts.proofs.observing.undone.Goals.{then-is_undone+in_ok-push, else-is_undone}
 
 pub loop-place-preserved : goal.loop-place-preserved
 loop-place-preserved c =

@@ -1,7 +1,7 @@
 use Rattle.std.proofs.Common.{◌≡◌, map, drop}
-use Rattle.reconciling.specs.Turns.{was_satisfied}
-use Rattle.turn_parts.specs.Seen.{sight_of}
-use Rattle.turn_parts.proofs.sights.was_satisfied.Given as goal
+use Rattle.spec_sim_control_plane.specs.Turns.{was_satisfied}
+use Rattle.reconcile_parts.specs.Seen.{sight_of}
+use Rattle.reconcile_parts.proofs.sights.was_satisfied.Given as goal
 
 -- none so far was an answer
 abbrev pub invariant-loop-sight : goal.invariant-loop-sight

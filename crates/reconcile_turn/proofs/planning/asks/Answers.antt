@@ -1,6 +1,6 @@
 use Rattle.std.proofs.Common.{rules}
-use Rattle.reconciling.specs.Turns.{asks_by}
-use Rattle.workers.proofs.planning.asks.Goals as goal
+use Rattle.spec_sim_control_plane.specs.Turns.{asks_by}
+use Rattle.reconcile_turn.proofs.planning.asks.Goals as goal
 
 pub returns-in-ReplicaSet : goal.returns-in-ReplicaSet
 unfolding asks_by

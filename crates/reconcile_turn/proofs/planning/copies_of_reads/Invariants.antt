@@ -1,6 +1,6 @@
 use Rattle.std.proofs.Common.{◌≡◌, ◌++◌, drop}
-use Rattle.turns.specs.Hands.{reads_of}
-use Rattle.workers.proofs.planning.copies_of_reads.Given as goal
+use Rattle.reconcile_types.specs.Hands.{reads_of}
+use Rattle.reconcile_turn.proofs.planning.copies_of_reads.Given as goal
 
 -- those so far and those still to come are all
 abbrev pub invariant-loop-read : goal.invariant-loop-read

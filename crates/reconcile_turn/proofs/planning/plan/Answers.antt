@@ -1,6 +1,6 @@
 use Rattle.std.proofs.Common.{rules}
-use Rattle.reconciling.specs.Turns.{plan_by}
-use Rattle.workers.proofs.planning.plan.Goals as goal
+use Rattle.spec_sim_control_plane.specs.Turns.{plan_by}
+use Rattle.reconcile_turn.proofs.planning.plan.Goals as goal
 
 pub returns-in-ReplicaSet : goal.returns-in-ReplicaSet
 unfolding plan_by

@@ -1,14 +1,14 @@
 use Rattle.std.proofs.Common.{◌≡◌, [], map, length, sym, ap}
 use Rattle.std.proofs.lemmas.List.{length-map}
-use Rattle.reconciling.specs.NextSteps.{unseen}
-use Rattle.turns.specs.Commands.{commands_of}
-use Rattle.turns.specs.Hands.{hand_of, reads_of}
+use Rattle.spec_sim_control_plane.specs.NextSteps.{unseen}
+use Rattle.reconcile_types.specs.Commands.{commands_of}
+use Rattle.reconcile_types.specs.Hands.{hand_of, reads_of}
 use Rattle.work_keys.specs.WorkKeys.{work_key_of}
 use Rattle.std.specs.Arc.{arc_value}
-use Rattle.turn_parts.specs.Seen.{sight_of}
-use Rattle.turn_parts.specs.Stages.{turn_of}
-use Rattle.turn_parts.proofs.Phases.{all_seen, to_read, to_issue}
-use Rattle.workers.proofs.planning.stage_of.Goals as goal
+use Rattle.reconcile_parts.specs.Seen.{sight_of}
+use Rattle.reconcile_parts.specs.Stages.{turn_of}
+use Rattle.reconcile_parts.proofs.Phases.{all_seen, to_read, to_issue}
+use Rattle.reconcile_turn.proofs.planning.stage_of.Goals as goal
 
 pub returns-in-Some : goal.returns-in-Some
 returns-in-Some c =

@@ -1,6 +1,6 @@
 use Rattle.std.proofs.Common.{◌≡◌, map, drop}
-use Rattle.plans.specs.ReplicaSets.{has_adoptable}
-use Rattle.turns.specs.Entries.{entry_of}
+use Rattle.spec_reconcile.specs.ReplicaSets.{has_adoptable}
+use Rattle.reconcile_types.specs.Entries.{entry_of}
 use Rattle.replicaset.proofs.asking.has_adoptable.Given as goal
 
 abbrev pub invariant-loop-pod : goal.invariant-loop-pod

@@ -1,11 +1,11 @@
 use Rattle.std.proofs.Common.{◌≡◌, ◌+◌, ◌++◌, ◌∷◌, map, drop, arith}
-use Rattle.keys.specs.Keys.{key_of}
-use Rattle.plans.specs.PodClaims.{claims, own_pods}
+use Rattle.object_keys.specs.Keys.{key_of}
+use Rattle.spec_reconcile.specs.PodClaims.{claims, own_pods}
 use Rattle.replicaset.specs.Ranks.{pods_of}
 use Rattle.replicaset.specs.Relations.{relation}
 use Rattle.replicaset.proofs.Related.{claims_on, next_pod, own_on}
-use Rattle.turns.specs.Commands.{command_of}
-use Rattle.turns.specs.Entries.{entry_of}
+use Rattle.reconcile_types.specs.Commands.{command_of}
+use Rattle.reconcile_types.specs.Entries.{entry_of}
 use Rattle.replicaset.proofs.claiming.claim_pods.Goals as goal
 
 pub loop-pod-preserved : goal.loop-pod-preserved

@@ -1,9 +1,9 @@
 use Rattle.std.proofs.Common.{◌≡◌, ◌++◌, map, drop}
-use Rattle.keys.specs.Keys.{key_of}
-use Rattle.plans.specs.PodClaims.{claims, own_pods}
+use Rattle.object_keys.specs.Keys.{key_of}
+use Rattle.spec_reconcile.specs.PodClaims.{claims, own_pods}
 use Rattle.replicaset.specs.Ranks.{AreRead, pods_of}
-use Rattle.turns.specs.Commands.{command_of}
-use Rattle.turns.specs.Entries.{entry_of}
+use Rattle.reconcile_types.specs.Commands.{command_of}
+use Rattle.reconcile_types.specs.Entries.{entry_of}
 use Rattle.replicaset.proofs.claiming.claim_pods.Given as goal
 
 -- what is claimed so far and what is still to be are all, and likewise what is the set's own

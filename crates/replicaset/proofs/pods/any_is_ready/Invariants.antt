@@ -1,6 +1,6 @@
 use Rattle.std.proofs.Common.{◌≡◌, drop}
 use Rattle.serde_json.specs.View.{items_view}
-use Rattle.plans.specs.Pods.{any_item, is_ready_condition}
+use Rattle.spec_reconcile.specs.Pods.{any_item, is_ready_condition}
 use Rattle.replicaset.proofs.pods.any_is_ready.Given as goal
 
 abbrev pub invariant-loop-condition : goal.invariant-loop-condition

@@ -1,8 +1,8 @@
 use Rattle.std.proofs.Common.{◌≡◌, ◌++◌, map, drop, not}
 use Rattle.std.specs.Prelude.{filter}
 use Rattle.serde_json.specs.View.{view}
-use Rattle.definitions.specs.Metadata.{owner}
-use Rattle.plans.specs.PodClaims.{is_to_controller}
+use Rattle.spec_api.specs.Metadata.{owner}
+use Rattle.spec_reconcile.specs.PodClaims.{is_to_controller}
 use Rattle.replicaset.proofs.references.others.Given as goal
 
 abbrev pub invariant-loop-reference : goal.invariant-loop-reference

@@ -2,10 +2,10 @@ use Rattle.std.proofs.Common.{◌≡◌, IfOk, Bool, not, codes, ap, ◌∙◌, 
 use Rattle.serde_json.specs.Data.{Data, Items}
 use Rattle.serde_json.specs.View.{items_view}
 use Rattle.serde_json.specs.Written.{items_have_float}
-use Rattle.definitions.specs.Metadata.{owner}
-use Rattle.plans.specs.MetadataEdits.{only, with_list}
-use Rattle.plans.specs.PodClaims.{is_to_controller}
-use Rattle.owners.proofs.KeptItems.{kept_are, only-no_float}
+use Rattle.spec_api.specs.Metadata.{owner}
+use Rattle.spec_reconcile.specs.MetadataEdits.{only, with_list}
+use Rattle.spec_reconcile.specs.PodClaims.{is_to_controller}
+use Rattle.owner_references.proofs.KeptItems.{kept_are, only-no_float}
 use Rattle.replicaset.proofs.references.released.Goals as goal
 
 abbrev stays : Data → Data → Bool

@@ -1,7 +1,7 @@
 use Rattle.std.proofs.Common.{◌≡◌, ◌++◌, map, replicate}
-use Rattle.controllers.specs.Commands.{create}
-use Rattle.keys.specs.Keys.{key_of}
-use Rattle.turns.specs.Commands.{command_of}
+use Rattle.spec_client_go.specs.Commands.{create}
+use Rattle.object_keys.specs.Keys.{key_of}
+use Rattle.reconcile_types.specs.Commands.{command_of}
 use Rattle.replicaset.proofs.scaling.repeat.Given as goal
 
 abbrev pub invariant-loop : goal.invariant-loop

@@ -1,5 +1,5 @@
 use Rattle.std.proofs.Common.{◌≡◌, ◌∙◌, length, rules, sym}
-use Rattle.plans.specs.ReplicaSets.{ready_pods}
+use Rattle.spec_reconcile.specs.ReplicaSets.{ready_pods}
 use Rattle.replicaset.specs.Ranks.{pods_of}
 use Rattle.replicaset.proofs.RankedPods.{all_read, ready_read}
 use Rattle.replicaset.proofs.statuses.new_status.Goals as goal

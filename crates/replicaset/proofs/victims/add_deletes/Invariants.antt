@@ -1,7 +1,7 @@
 use Rattle.std.proofs.Common.{◌≡◌, ◌++◌, map, drop}
-use Rattle.plans.specs.ReplicaSets.{delete_pod}
+use Rattle.spec_reconcile.specs.ReplicaSets.{delete_pod}
 use Rattle.replicaset.specs.Ranks.{pods_of}
-use Rattle.turns.specs.Commands.{command_of}
+use Rattle.reconcile_types.specs.Commands.{command_of}
 use Rattle.replicaset.proofs.victims.add_deletes.Given as goal
 
 abbrev pub invariant-loop-victim : goal.invariant-loop-victim

@@ -1,12 +1,12 @@
 use Rattle.std.proofs.Common.{◌≡◌, ◌++◌, OnOk, map, take, sym, ap, ◌∙◌, subst}
 use Rattle.std.proofs.lemmas.List.{take-map}
-use Rattle.definitions.specs.History.{Entries}
-use Rattle.plans.specs.PodRanks.{ranked}
-use Rattle.plans.specs.ReplicaSets.{delete_pod}
+use Rattle.spec_api.specs.History.{Entries}
+use Rattle.spec_reconcile.specs.PodRanks.{ranked}
+use Rattle.spec_reconcile.specs.ReplicaSets.{delete_pod}
 use Rattle.replicaset.specs.Ranks.{pods_of}
 use Rattle.replicaset.specs.declared.ranks.Ranked.{Ranked}
-use Rattle.turns.specs.Commands.{command_of}
-use Rattle.turns.specs.Entries.{entry_of}
+use Rattle.reconcile_types.specs.Commands.{command_of}
+use Rattle.reconcile_types.specs.Entries.{entry_of}
 use Rattle.replicaset.proofs.victims.delete_lowest.Goals as goal
 
 pub returns : goal.returns

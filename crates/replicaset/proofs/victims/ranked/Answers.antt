@@ -1,9 +1,9 @@
 use Rattle.std.proofs.Common.{ap, ◌∙◌, map}
 use Rattle.std.specs.Ordering.{on}
 use Rattle.serde_json.specs.Data.{Data}
-use Rattle.definitions.specs.Keys.{Key}
-use Rattle.plans.specs.Orders.{in_order}
-use Rattle.plans.specs.PodRanks.{Rank, rank_cmp}
+use Rattle.spec_api.specs.Keys.{Key}
+use Rattle.spec_reconcile.specs.Orders.{in_order}
+use Rattle.spec_reconcile.specs.PodRanks.{Rank, rank_cmp}
 use Rattle.replicaset.specs.Nodes.{count_at}
 use Rattle.replicaset.specs.Ranks.{pods_of, ranked_of}
 use Rattle.replicaset.proofs.RankedPods.{beside_read, in_ranks, on_node_read, ranked_by_count}

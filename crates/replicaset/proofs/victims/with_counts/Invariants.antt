@@ -2,7 +2,7 @@ use Rattle.std.proofs.Common.{◌≡◌, ◌++◌, map, drop}
 use Rattle.replicaset.specs.Nodes.{count_at}
 use Rattle.replicaset.specs.Ranks.{rank_of, ranked_of, with_on_node}
 use Rattle.replicaset.specs.declared.ranks.Ranked.{Ranked}
-use Rattle.turns.specs.Entries.{entry_of}
+use Rattle.reconcile_types.specs.Entries.{entry_of}
 use Rattle.replicaset.proofs.victims.with_counts.Given as goal
 
 abbrev pub invariant-loop-pod : goal.invariant-loop-pod

@@ -1,9 +1,9 @@
 use Rattle.std.proofs.Common.{Ok, Err, inr, ap, sym, subst, ◌∙◌}
-use Rattle.requests.specs.Seen.{check_refusal}
-use Rattle.routes.specs.Seen.{route_seen}
-use Rattle.asked.specs.Asked.{Asks}
-use Rattle.asked.proofs.Checks.{checked-asks}
-use Rattle.asked.proofs.asking.read_request.Goals as goal
+use Rattle.request_parts.specs.Seen.{check_refusal}
+use Rattle.request_routing.specs.Seen.{route_seen}
+use Rattle.request_decoding.specs.Asked.{Asks}
+use Rattle.request_decoding.proofs.Checks.{checked-asks}
+use Rattle.request_decoding.proofs.asking.read_request.Goals as goal
 
 pub returns-in-Ok : goal.returns-in-Ok
 returns-in-Ok c =

@@ -1,13 +1,13 @@
 use Rattle.std.proofs.Common.{◌∙◌, string_bytes, ap}
 use Rattle.std.proofs.lemmas.Str.{IsUtf8-string_bytes}
 use Rattle.serde_json.specs.View.{view}
-use Rattle.definitions.proofs.Truths.{both_true}
-use Rattle.definitions.specs.Keys.{is_namespace}
-use Rattle.request_texts.specs.Texts.{is_shallow}
-use Rattle.request_texts.proofs.Segments.{is_path}
-use Rattle.request_texts.proofs.Routed.{collection_clear}
-use Rattle.request_texts.proofs.Asked.{asks_create}
-use Rattle.request_texts.proofs.asking.create_text.Goals as goal
+use Rattle.spec_api.proofs.Truths.{both_true}
+use Rattle.spec_api.specs.Keys.{is_namespace}
+use Rattle.request_encoding.specs.Texts.{is_shallow}
+use Rattle.request_encoding.proofs.Segments.{is_path}
+use Rattle.request_encoding.proofs.Routed.{collection_clear}
+use Rattle.request_encoding.proofs.Asked.{asks_create}
+use Rattle.request_encoding.proofs.asking.create_text.Goals as goal
 
 pub json_text-requires : goal.json_text-requires
 json_text-requires c = (both_true (is_namespace c.args.namespace.now) (is_shallow (view c.args.object.now)) c.requires).1

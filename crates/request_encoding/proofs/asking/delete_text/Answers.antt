@@ -1,15 +1,15 @@
 use Rattle.std.proofs.Common.{◌==◌, ◌∙◌, string_bytes, length, ap}
 use Rattle.std.proofs.lemmas.Str.{IsUtf8-string_bytes}
-use Rattle.definitions.proofs.Truths.{both_true}
+use Rattle.spec_api.proofs.Truths.{both_true}
 use Rattle.lifecycle.specs.Options.{options_seen}
-use Rattle.keys.specs.Keys.{key_of}
-use Rattle.request_texts.specs.Texts.{is_address, are_named}
-use Rattle.request_texts.specs.Deletes.{options_data}
-use Rattle.request_texts.proofs.Options.{options_back, some_text}
-use Rattle.request_texts.proofs.Segments.{is_path}
-use Rattle.request_texts.proofs.Routed.{object_clear}
-use Rattle.request_texts.proofs.Asked.{asks_delete}
-use Rattle.request_texts.proofs.asking.delete_text.Goals as goal
+use Rattle.object_keys.specs.Keys.{key_of}
+use Rattle.request_encoding.specs.Texts.{is_address, are_named}
+use Rattle.request_encoding.specs.Deletes.{options_data}
+use Rattle.request_encoding.proofs.Options.{options_back, some_text}
+use Rattle.request_encoding.proofs.Segments.{is_path}
+use Rattle.request_encoding.proofs.Routed.{object_clear}
+use Rattle.request_encoding.proofs.Asked.{asks_delete}
+use Rattle.request_encoding.proofs.asking.delete_text.Goals as goal
 
 pub returns-clause-path : goal.returns-clause-path
 returns-clause-path c =

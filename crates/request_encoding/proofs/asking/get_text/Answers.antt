@@ -1,10 +1,10 @@
 use Rattle.std.proofs.Common.{◌∙◌, string_bytes, ap}
 use Rattle.std.proofs.lemmas.Str.{IsUtf8-string_bytes}
-use Rattle.keys.specs.Keys.{key_of}
-use Rattle.request_texts.proofs.Segments.{is_path}
-use Rattle.request_texts.proofs.Routed.{object_clear}
-use Rattle.request_texts.proofs.Asked.{asks_get}
-use Rattle.request_texts.proofs.asking.get_text.Goals as goal
+use Rattle.object_keys.specs.Keys.{key_of}
+use Rattle.request_encoding.proofs.Segments.{is_path}
+use Rattle.request_encoding.proofs.Routed.{object_clear}
+use Rattle.request_encoding.proofs.Asked.{asks_get}
+use Rattle.request_encoding.proofs.asking.get_text.Goals as goal
 
 pub returns-clause-path : goal.returns-clause-path
 returns-clause-path c = ap is_path c.in_ok-object_target.ensures ∙ object_clear (key_of c.args.key.now) c.requires

@@ -1,14 +1,14 @@
 use Rattle.std.proofs.Common.{◌&&◌, ◌∙◌, string_bytes, ap}
 use Rattle.std.proofs.lemmas.Str.{IsUtf8-string_bytes}
 use Rattle.serde_json.specs.View.{view}
-use Rattle.definitions.proofs.Truths.{both_true}
-use Rattle.definitions.specs.Kinds.{has_status}
-use Rattle.keys.specs.Keys.{key_of}
-use Rattle.request_texts.specs.Texts.{is_address, is_shallow}
-use Rattle.request_texts.proofs.Segments.{is_path}
-use Rattle.request_texts.proofs.Routed.{status_clear}
-use Rattle.request_texts.proofs.Asked.{asks_update_status}
-use Rattle.request_texts.proofs.asking.update_status_text.Goals as goal
+use Rattle.spec_api.proofs.Truths.{both_true}
+use Rattle.spec_api.specs.Kinds.{has_status}
+use Rattle.object_keys.specs.Keys.{key_of}
+use Rattle.request_encoding.specs.Texts.{is_address, is_shallow}
+use Rattle.request_encoding.proofs.Segments.{is_path}
+use Rattle.request_encoding.proofs.Routed.{status_clear}
+use Rattle.request_encoding.proofs.Asked.{asks_update_status}
+use Rattle.request_encoding.proofs.asking.update_status_text.Goals as goal
 
 pub json_text-requires : goal.json_text-requires
 json_text-requires c =

@@ -1,7 +1,7 @@
 use Rattle.std.proofs.Common.{true≢false, sym}
 use Rattle.serde_json.specs.View.{view}
-use Rattle.requests.proofs.Texts.{body_of-read, body_of-unread}
-use Rattle.requests.proofs.body.read_body.Goals as goal
+use Rattle.request_parts.proofs.Texts.{body_of-read, body_of-unread}
+use Rattle.request_parts.proofs.body.read_body.Goals as goal
 
 pub returns-in-Ok-clause-body : goal.returns-in-Ok-clause-body
 returns-in-Ok-clause-body c = body_of-read c.args.text.now (view c.in-Ok.value) c.in-Ok.ensures.ok.0 c.in-Ok.ensures.ok.1

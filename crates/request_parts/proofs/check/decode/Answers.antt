@@ -1,6 +1,6 @@
 use Rattle.std.proofs.Common.{sym, ◌∙◌}
-use Rattle.requests.proofs.Texts.{decoded-text, decoded-other}
-use Rattle.requests.proofs.check.decode.Goals as goal
+use Rattle.request_parts.proofs.Texts.{decoded-text, decoded-other}
+use Rattle.request_parts.proofs.check.decode.Goals as goal
 
 pub returns-in-Ok-clause-text : goal.returns-in-Ok-clause-text
 returns-in-Ok-clause-text c = c.in-Ok.ensures.cases.0 ∙ sym (decoded-text c.args.target.now c.in-Ok.ensures.cases.1)

@@ -1,6 +1,6 @@
 use Rattle.std.proofs.Common.{◌≡◌, ◌==◌, ◌<◌, length, take, drop, get_or, true, Some, sym, ap, ◌∙◌, rules}
-use Rattle.requests.proofs.Cuts.{cut-here, cut-nowhere}
-use Rattle.requests.proofs.line.cut.Goals as goal
+use Rattle.request_parts.proofs.Cuts.{cut-here, cut-nowhere}
+use Rattle.request_parts.proofs.line.cut.Goals as goal
 
 pub returns-then-byte-eq32 : goal.returns-then-byte-eq32
 returns-then-byte-eq32 c =

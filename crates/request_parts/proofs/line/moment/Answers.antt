@@ -1,7 +1,7 @@
 use Rattle.std.proofs.Common.{◌≡◌, ℕ, List, Bool, true, false, Some, None, if◌then◌else◌, unwrap_or, refl, ap}
-use Rattle.line_protocol.specs.Lines.{at, unreadable}
-use Rattle.definitions.specs.Moments.{is_moment}
-use Rattle.requests.proofs.line.moment.Goals as goal
+use Rattle.spec_line_protocol.specs.Lines.{at, unreadable}
+use Rattle.spec_api.specs.Moments.{is_moment}
+use Rattle.request_parts.proofs.line.moment.Goals as goal
 
 read : (v : Bool) (t m : List ℕ) → Some m ≡ (if v then Some t else None) → at m ≡ (if v then at t else unreadable)
 read true t m e = ap (λ o. at (unwrap_or o m)) e

@@ -1,9 +1,9 @@
 use Rattle.std.proofs.Common.{◌≡◌, ◌<◌, ◌≤◌, length, true, arith, rules}
 use Rattle.std.proofs.lemmas.Bool.Decides.{nat_tests}
 use Rattle.std.specs.List.{list_all}
-use Rattle.definitions.specs.Moments.{is_digit}
-use Rattle.requests.proofs.LimitTexts.{fits}
-use Rattle.requests.proofs.list_options.read_limit.Goals as goal
+use Rattle.spec_api.specs.Moments.{is_digit}
+use Rattle.request_parts.proofs.LimitTexts.{fits}
+use Rattle.request_parts.proofs.list_options.read_limit.Goals as goal
 
 pub returns-in-Err : goal.returns-in-Err
 returns-in-Err c =

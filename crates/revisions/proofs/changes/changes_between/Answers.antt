@@ -2,10 +2,10 @@ use Rattle.std.proofs.Common.{◌≡◌, ◌<◌, ◌+◌, ◌-◌, [], ◌++◌
 use Rattle.std.proofs.lemmas.List.{take-map, drop-map, drop_all, length-map, get_or-map}
 use Rattle.meta.specs.Writes.{write_of}
 use Rattle.std.specs.Prelude.{option_map}
-use Rattle.keys.specs.Keys.{key_of}
-use Rattle.definitions.specs.History as history
-use Rattle.definitions.specs.History.{after_all}
-use Rattle.definitions.specs.Events.{events_after}
+use Rattle.object_keys.specs.Keys.{key_of}
+use Rattle.spec_api.specs.History as history
+use Rattle.spec_api.specs.History.{after_all}
+use Rattle.spec_api.specs.Events.{events_after}
 use Rattle.selector.specs.Views.{view_of}
 use Rattle.revisions.specs.Events.{event_seen}
 use Rattle.revisions.specs.Seen.{seen}

@@ -1,7 +1,7 @@
 use Rattle.std.proofs.Common.{◌≡◌, ◌++◌, [], map, take, drop}
 use Rattle.meta.specs.Writes.{write_of}
-use Rattle.definitions.specs.History.{after_all}
-use Rattle.definitions.specs.Events.{events_after}
+use Rattle.spec_api.specs.History.{after_all}
+use Rattle.spec_api.specs.Events.{events_after}
 use Rattle.selector.specs.Views.{view_of}
 use Rattle.revisions.specs.Events.{event_seen}
 use Rattle.revisions.specs.Seen.{seen}

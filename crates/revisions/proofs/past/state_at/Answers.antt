@@ -1,7 +1,7 @@
 use Rattle.std.proofs.Common.{◌≡◌, ◌≤◌, [], map, drop, take, length, ◌-◌, ◌∙◌, ap, sym, arith}
 use Rattle.std.proofs.lemmas.List.{drop_all, take-map}
 use Rattle.meta.specs.Writes.{write_of}
-use Rattle.definitions.specs.History.{after_all}
+use Rattle.spec_api.specs.History.{after_all}
 use Rattle.revisions.specs.Seen.{seen}
 use Rattle.revisions.proofs.Histories.{writes-history_of}
 use Rattle.revisions.proofs.past.state_at.Goals as goal

@@ -1,6 +1,6 @@
 use Rattle.std.proofs.Common.{◌≡◌, [], map, drop}
 use Rattle.meta.specs.Writes.{write_of}
-use Rattle.definitions.specs.History.{after_all}
+use Rattle.spec_api.specs.History.{after_all}
 use Rattle.revisions.specs.Seen.{seen}
 use Rattle.revisions.proofs.past.state_at.Given as goal
 

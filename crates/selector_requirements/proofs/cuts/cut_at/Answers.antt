@@ -1,7 +1,7 @@
 use Rattle.std.proofs.Common.{◌≡◌, ◌==◌, ◌<◌, ℕ, Bool, ◌∷◌, length, take, drop, get_or, true, sym, ap, ap₂, ◌∙◌, rules}
 use Rattle.std.specs.List.{slice_split}
-use Rattle.requirements.proofs.Cutting.{cut-here, cut-nowhere}
-use Rattle.requirements.proofs.cuts.cut_at.Goals as goal
+use Rattle.selector_requirements.proofs.Cutting.{cut-here, cut-nowhere}
+use Rattle.selector_requirements.proofs.cuts.cut_at.Goals as goal
 
 pub returns-then-found-byte : goal.returns-then-found-byte
 returns-then-found-byte c =

@@ -1,8 +1,8 @@
 use Rattle.std.proofs.Common.{◌≡◌, ◌<◌, ℕ, Bool, ◌∷◌, length, take, drop, get_or, true, sym, ap, ap₂, ◌∙◌, rules}
 use Rattle.std.specs.List.{slice_split}
-use Rattle.definitions.specs.SelectorTexts.{is_blank}
-use Rattle.requirements.proofs.Cutting.{cut-here, cut-nowhere}
-use Rattle.requirements.proofs.cuts.cut_at_blank.Goals as goal
+use Rattle.spec_api.specs.SelectorTexts.{is_blank}
+use Rattle.selector_requirements.proofs.Cutting.{cut-here, cut-nowhere}
+use Rattle.selector_requirements.proofs.cuts.cut_at_blank.Goals as goal
 
 pub returns-then-is_blank : goal.returns-then-is_blank
 returns-then-is_blank c =

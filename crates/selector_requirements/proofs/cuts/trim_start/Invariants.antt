@@ -1,6 +1,6 @@
 use Rattle.std.proofs.Common.{◌≡◌, length}
-use Rattle.definitions.specs.SelectorTexts.{without_first_blanks}
-use Rattle.requirements.proofs.cuts.trim_start.Given as goal
+use Rattle.spec_api.specs.SelectorTexts.{without_first_blanks}
+use Rattle.selector_requirements.proofs.cuts.trim_start.Given as goal
 
 abbrev pub invariant-loop-rest : goal.invariant-loop-rest
 invariant-loop-rest l = without_first_blanks l.text ≡ without_first_blanks l.rest

@@ -1,7 +1,7 @@
 use Rattle.std.proofs.Common.{◌≡◌, drop}
-use Rattle.definitions.specs.SelectorFields.{fields_meet}
-use Rattle.requirements.specs.Seen.{field_requirements_of}
-use Rattle.requirements.proofs.fields.all_are_met.Given as goal
+use Rattle.spec_api.specs.SelectorFields.{fields_meet}
+use Rattle.selector_requirements.specs.Seen.{field_requirements_of}
+use Rattle.selector_requirements.proofs.fields.all_are_met.Given as goal
 
 abbrev pub invariant-loop-requirement : goal.invariant-loop-requirement
 invariant-loop-requirement l =

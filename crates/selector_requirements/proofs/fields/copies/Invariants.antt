@@ -1,6 +1,6 @@
 use Rattle.std.proofs.Common.{◌≡◌, ◌++◌, drop}
-use Rattle.requirements.specs.Seen.{field_requirements_of}
-use Rattle.requirements.proofs.fields.copies.Given as goal
+use Rattle.selector_requirements.specs.Seen.{field_requirements_of}
+use Rattle.selector_requirements.proofs.fields.copies.Given as goal
 
 -- the copies so far, and those of what is left, are all
 abbrev pub invariant-loop-requirement : goal.invariant-loop-requirement

@@ -1,11 +1,11 @@
 use Rattle.std.proofs.Common.{◌≡◌, length}
 use Rattle.std.specs.List.{slice_split}
-use Rattle.definitions.specs.SelectorFields.{field_requirement}
-use Rattle.definitions.specs.SelectorTexts.{is_comma}
-use Rattle.definitions.specs.Selectors.{each_read}
-use Rattle.requirements.specs.Reading.{onto_read}
-use Rattle.requirements.specs.Seen.{field_requirements_of}
-use Rattle.requirements.proofs.fields.field_requirements.Given as goal
+use Rattle.spec_api.specs.SelectorFields.{field_requirement}
+use Rattle.spec_api.specs.SelectorTexts.{is_comma}
+use Rattle.spec_api.specs.Selectors.{each_read}
+use Rattle.selector_requirements.specs.Reading.{onto_read}
+use Rattle.selector_requirements.specs.Seen.{field_requirements_of}
+use Rattle.selector_requirements.proofs.fields.field_requirements.Given as goal
 
 abbrev pub invariant-loop-part : goal.invariant-loop-part
 invariant-loop-part l =

@@ -1,10 +1,10 @@
 use Rattle.std.proofs.Common.{◌≡◌, length}
 use Rattle.std.specs.List.{slice_split}
-use Rattle.definitions.specs.SelectorTexts.{value_in, is_comma}
-use Rattle.definitions.specs.Selectors.{each_read}
-use Rattle.requirements.specs.Reading.{onto_read}
-use Rattle.requirements.specs.Seen.{texts_of}
-use Rattle.requirements.proofs.texts.own_values.Given as goal
+use Rattle.spec_api.specs.SelectorTexts.{value_in, is_comma}
+use Rattle.spec_api.specs.Selectors.{each_read}
+use Rattle.selector_requirements.specs.Reading.{onto_read}
+use Rattle.selector_requirements.specs.Seen.{texts_of}
+use Rattle.selector_requirements.proofs.texts.own_values.Given as goal
 
 abbrev pub invariant-loop-value : goal.invariant-loop-value
 invariant-loop-value l = each_read value_in (slice_split is_comma l.list) ≡ onto_read (texts_of l.values.items) (each_read value_in (slice_split is_comma l.rest))

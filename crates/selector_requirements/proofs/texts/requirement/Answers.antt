@@ -1,9 +1,9 @@
 use Rattle.std.proofs.Common.{◌≡◌, Option, subst, ap, ◌∙◌, arith}
-use Rattle.definitions.specs.SelectorTexts.{trimmed, unblanked_requirement}
-use Rattle.definitions.specs.Selectors.{Requirement}
-use Rattle.requirements.specs.Seen.{Reads, requirement_of}
-use Rattle.requirements.proofs.Marks.{not-marked}
-use Rattle.requirements.proofs.texts.requirement.Goals as goal
+use Rattle.spec_api.specs.SelectorTexts.{trimmed, unblanked_requirement}
+use Rattle.spec_api.specs.Selectors.{Requirement}
+use Rattle.selector_requirements.specs.Seen.{Reads, requirement_of}
+use Rattle.selector_requirements.proofs.Marks.{not-marked}
+use Rattle.selector_requirements.proofs.texts.requirement.Goals as goal
 
 pub returns-else-first-eq33 : goal.returns-else-first-eq33
 returns-else-first-eq33 c =

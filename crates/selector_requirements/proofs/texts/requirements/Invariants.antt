@@ -1,9 +1,9 @@
 use Rattle.std.proofs.Common.{◌≡◌, length}
-use Rattle.definitions.specs.SelectorTexts.{requirement, parts}
-use Rattle.definitions.specs.Selectors.{each_read}
-use Rattle.requirements.specs.Reading.{onto_read}
-use Rattle.requirements.specs.Seen.{requirements_of}
-use Rattle.requirements.proofs.texts.requirements.Given as goal
+use Rattle.spec_api.specs.SelectorTexts.{requirement, parts}
+use Rattle.spec_api.specs.Selectors.{each_read}
+use Rattle.selector_requirements.specs.Reading.{onto_read}
+use Rattle.selector_requirements.specs.Seen.{requirements_of}
+use Rattle.selector_requirements.proofs.texts.requirements.Given as goal
 
 abbrev pub invariant-loop-part : goal.invariant-loop-part
 invariant-loop-part l = each_read requirement (parts l.text) ≡ onto_read (requirements_of l.found.items) (each_read requirement (parts l.rest))

@@ -1,6 +1,6 @@
 use Rattle.std.proofs.Common.{sym}
-use Rattle.requirements.proofs.Sets.{no-closing, no-word}
-use Rattle.requirements.proofs.texts.set.Goals as goal
+use Rattle.selector_requirements.proofs.Sets.{no-closing, no-word}
+use Rattle.selector_requirements.proofs.texts.set.Goals as goal
 
 pub returns-in-None : goal.returns-in-None
 returns-in-None c = no-word c.args.head.now c.args.list.now c.in-None.ensures.0

@@ -2,11 +2,11 @@ use Rattle.std.proofs.Common.{◌≡◌, ◌+◌, [], ◌∷◌, ◌++◌, Some,
 use Rattle.std.proofs.lemmas.List.{map-append}
 use Rattle.std.proofs.lemmas.Grind.{common_steps}
 use Rattle.serde_json.specs.View.{view, items_view}
-use Rattle.definitions.specs.SelectorValues.{expression_requirement, expression_requirements}
-use Rattle.requirements.specs.Reading.{onto_read}
-use Rattle.requirements.specs.Seen.{requirement_of, requirements_of}
-use Rattle.requirements.proofs.Steps.{one-more}
-use Rattle.requirements.proofs.values.expressions.Goals as goal
+use Rattle.spec_api.specs.SelectorValues.{expression_requirement, expression_requirements}
+use Rattle.selector_requirements.specs.Reading.{onto_read}
+use Rattle.selector_requirements.specs.Seen.{requirement_of, requirements_of}
+use Rattle.selector_requirements.proofs.Steps.{one-more}
+use Rattle.selector_requirements.proofs.values.expressions.Goals as goal
 
 pub loop-item-preserved : goal.loop-item-preserved
 loop-item-preserved c =

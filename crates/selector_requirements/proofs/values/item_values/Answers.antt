@@ -3,12 +3,12 @@ use Rattle.std.proofs.lemmas.List.{map-append}
 use Rattle.std.proofs.lemmas.Grind.{common_steps}
 use Rattle.std.specs.declared.alloc.Global.{Global}
 use Rattle.serde_json.specs.View.{view, items_view}
-use Rattle.definitions.specs.SelectorValues.{item_values, text_in}
-use Rattle.definitions.specs.Selectors.{label_value}
-use Rattle.requirements.specs.Reading.{onto_read}
-use Rattle.requirements.specs.Seen.{texts_of}
-use Rattle.requirements.proofs.Steps.{one-more}
-use Rattle.requirements.proofs.values.item_values.Goals as goal
+use Rattle.spec_api.specs.SelectorValues.{item_values, text_in}
+use Rattle.spec_api.specs.Selectors.{label_value}
+use Rattle.selector_requirements.specs.Reading.{onto_read}
+use Rattle.selector_requirements.specs.Seen.{texts_of}
+use Rattle.selector_requirements.proofs.Steps.{one-more}
+use Rattle.selector_requirements.proofs.values.item_values.Goals as goal
 
 pub loop-item-preserved : goal.loop-item-preserved
 loop-item-preserved c =

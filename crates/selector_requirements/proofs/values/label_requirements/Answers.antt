@@ -2,13 +2,13 @@ use Rattle.std.proofs.Common.{◌≡◌, [], ◌∷◌, ◌++◌, Some, string_b
 use Rattle.std.proofs.lemmas.List.{map-append}
 use Rattle.serde_json.specs.View.{view, members_view}
 use Rattle.serde_json.specs.Data.{member}
-use Rattle.definitions.specs.declared.selectors.Operator.TheVariants.{In}
-use Rattle.definitions.specs.SelectorValues.{text_in, label_requirements}
-use Rattle.definitions.specs.Selectors.{requiring, label_key, label_value, each_read}
-use Rattle.requirements.specs.Reading.{onto_read}
-use Rattle.requirements.specs.Seen.{requirement_of, requirements_of}
-use Rattle.requirements.proofs.Steps.{one-more}
-use Rattle.requirements.proofs.values.label_requirements.Goals as goal
+use Rattle.spec_api.specs.declared.selectors.Operator.TheVariants.{In}
+use Rattle.spec_api.specs.SelectorValues.{text_in, label_requirements}
+use Rattle.spec_api.specs.Selectors.{requiring, label_key, label_value, each_read}
+use Rattle.selector_requirements.specs.Reading.{onto_read}
+use Rattle.selector_requirements.specs.Seen.{requirement_of, requirements_of}
+use Rattle.selector_requirements.proofs.Steps.{one-more}
+use Rattle.selector_requirements.proofs.values.label_requirements.Goals as goal
 
 pub loop-key-preserved : goal.loop-key-preserved
 loop-key-preserved c =

@@ -1,8 +1,8 @@
 use Rattle.std.proofs.Common.{◌≡◌, ◌++◌, map, drop}
 use Rattle.meta.specs.Members.{member_of}
 use Rattle.revisions.specs.Events.{event_seen}
-use Rattle.definitions.specs.WatchReplies.{added_events}
-use Rattle.desk.proofs.initials.added_events.Given as goal
+use Rattle.spec_api.specs.WatchReplies.{added_events}
+use Rattle.server.proofs.initials.added_events.Given as goal
 
 -- the events so far and those of the objects that are left are all
 abbrev pub invariant-loop-member : goal.invariant-loop-member

@@ -1,5 +1,5 @@
-use Rattle.simulation_laws.proofs.Runs.{lists_shown}
-use Rattle.simulation_laws.proofs.cluster_laws.informers_show_server_lists.Goals as goal
+use Rattle.sim_cluster_laws.proofs.Runs.{lists_shown}
+use Rattle.sim_cluster_laws.proofs.cluster_laws.informers_show_server_lists.Goals as goal
 
 pub returns : goal.returns
 returns c = lists_shown

@@ -1,5 +1,5 @@
-use Rattle.simulation_laws.proofs.Runs.{restarts}
-use Rattle.simulation_laws.proofs.cluster_laws.restarts_begin_anew.Goals as goal
+use Rattle.sim_cluster_laws.proofs.Runs.{restarts}
+use Rattle.sim_cluster_laws.proofs.cluster_laws.restarts_begin_anew.Goals as goal
 
 pub returns : goal.returns
 returns c = restarts

@@ -1,5 +1,5 @@
-use Rattle.simulation_laws.proofs.Runs.{keeps}
-use Rattle.simulation_laws.proofs.cluster_laws.steps_keep.Goals as goal
+use Rattle.sim_cluster_laws.proofs.Runs.{keeps}
+use Rattle.sim_cluster_laws.proofs.cluster_laws.steps_keep.Goals as goal
 
 pub returns : goal.returns
 returns c = keeps

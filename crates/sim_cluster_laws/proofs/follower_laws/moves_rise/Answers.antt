@@ -1,5 +1,5 @@
-use Rattle.simulation_laws.proofs.Rising.{rise}
-use Rattle.simulation_laws.proofs.follower_laws.moves_rise.Goals as goal
+use Rattle.sim_cluster_laws.proofs.Rising.{rise}
+use Rattle.sim_cluster_laws.proofs.follower_laws.moves_rise.Goals as goal
 
 pub returns : goal.returns
 returns c = rise

@@ -1,12 +1,12 @@
 use Rattle.std.proofs.Common.{◌∙◌, ℕ, List, [], false, ap}
-use Rattle.definitions.specs.History.{viewed}
-use Rattle.definitions.specs.Streams.{Line}
-use Rattle.definitions.specs.WatchReplies.{added_events}
+use Rattle.spec_api.specs.History.{viewed}
+use Rattle.spec_api.specs.Streams.{Line}
+use Rattle.spec_api.specs.WatchReplies.{added_events}
 use Rattle.selector.specs.Views.{view_of}
-use Rattle.simulation.specs.Followers.{Link}
-use Rattle.links.specs.Openings.{initial_lines}
-use Rattle.followers.proofs.Openings.{opening_is}
-use Rattle.followers.proofs.beginnings.streaming.Goals as goal
+use Rattle.spec_sim_cluster.specs.Followers.{Link}
+use Rattle.sim_links.specs.Openings.{initial_lines}
+use Rattle.sim_followers.proofs.Openings.{opening_is}
+use Rattle.sim_followers.proofs.beginnings.streaming.Goals as goal
 
 abbrev link_at : ℕ → List Line → Link
 link_at r ls = record { stands = r; initial = ls; unread = []; is_refused = false }

@@ -1,9 +1,9 @@
 use Rattle.std.proofs.Common.{◌≡◌, ◌++◌, map, drop}
-use Rattle.controllers.specs.Informers.{all_applied}
+use Rattle.spec_client_go.specs.Informers.{all_applied}
 use Rattle.reflector.specs.Deltas.{deltas_of}
-use Rattle.simulation.specs.Followers.{notifications}
-use Rattle.notifications.specs.Notified.{notification_of}
-use Rattle.notifications.proofs.notifications.apply_all.Given as goal
+use Rattle.spec_sim_cluster.specs.Followers.{notifications}
+use Rattle.sim_notifications.specs.Notified.{notification_of}
+use Rattle.sim_notifications.proofs.notifications.apply_all.Given as goal
 
 -- with what is still to be applied, it is all
 abbrev pub invariant-loop-delta : goal.invariant-loop-delta

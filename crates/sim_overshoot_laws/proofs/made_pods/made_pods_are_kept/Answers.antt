@@ -1,5 +1,5 @@
-use Rattle.overshoot_laws.proofs.MadePods.{made_pods_are_kept}
-use Rattle.overshoot_laws.proofs.made_pods.made_pods_are_kept.Goals as goal
+use Rattle.sim_overshoot_laws.proofs.MadePods.{made_pods_are_kept}
+use Rattle.sim_overshoot_laws.proofs.made_pods.made_pods_are_kept.Goals as goal
 
 pub returns : goal.returns
 returns c = made_pods_are_kept

@@ -1,5 +1,5 @@
-use Rattle.overshoot_laws.proofs.PodLabels.{new_pods_match_their_set}
-use Rattle.overshoot_laws.proofs.set_laws.new_pods_match_their_set.Goals as goal
+use Rattle.sim_overshoot_laws.proofs.PodLabels.{new_pods_match_their_set}
+use Rattle.sim_overshoot_laws.proofs.set_laws.new_pods_match_their_set.Goals as goal
 
 pub returns : goal.returns
 returns c = new_pods_match_their_set

@@ -1,5 +1,5 @@
-use Rattle.overshoot_laws.proofs.StoredSets.{sets_match_their_templates}
-use Rattle.overshoot_laws.proofs.set_laws.sets_match_their_templates.Goals as goal
+use Rattle.sim_overshoot_laws.proofs.StoredSets.{sets_match_their_templates}
+use Rattle.sim_overshoot_laws.proofs.set_laws.sets_match_their_templates.Goals as goal
 
 pub returns : goal.returns
 returns c = sets_match_their_templates

@@ -1,6 +1,6 @@
 use Rattle.chunked.specs.Devices.{device_of}
-use Rattle.simulations.proofs.Simulated.{all-simulated, some-simulated}
-use Rattle.simulations.proofs.runs.simulate.Goals as goal
+use Rattle.sim_service.proofs.Simulated.{all-simulated, some-simulated}
+use Rattle.sim_service.proofs.runs.simulate.Goals as goal
 
 pub returns-clause-ok : goal.returns-clause-ok
 returns-clause-ok g c =

@@ -1,5 +1,5 @@
-use Rattle.simulations.proofs.Simulated.{follows}
-use Rattle.simulations.proofs.service_laws.simulations_follow.Goals as goal
+use Rattle.sim_service.proofs.Simulated.{follows}
+use Rattle.sim_service.proofs.service_laws.simulations_follow.Goals as goal
 
 pub returns : goal.returns
 returns c = follows

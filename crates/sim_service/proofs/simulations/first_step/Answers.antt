@@ -1,7 +1,7 @@
 use Rattle.std.proofs.Common.{ap, ◌∙◌}
-use Rattle.reconciling.specs.StepLines.{step_asked}
-use Rattle.simulations.specs.SimulationStates.{told_by_stored, opened_stored}
-use Rattle.simulations.proofs.simulations.first_step.Goals as goal
+use Rattle.spec_sim_control_plane.specs.StepLines.{step_asked}
+use Rattle.sim_service.specs.SimulationStates.{told_by_stored, opened_stored}
+use Rattle.sim_service.proofs.simulations.first_step.Goals as goal
 
 pub returns-clause-text : goal.returns-clause-text
 returns-clause-text c =

@@ -1,9 +1,9 @@
 use Rattle.std.proofs.Common.{refl}
-use Rattle.reconciling.specs.StepLines.{step_asked}
-use Rattle.simulations.proofs.Taken.{told_of_step, world_of_step, nothing_told, nothing_taken, unchanged}
-use Rattle.simulations.proofs.simulations.take.Goals as goal
-use Rattle.simulations.specs.SimulationStates.{told_by_stored, stored_after}
-use Rattle.steps.specs.PlaneSteps.{plane_step_of}
+use Rattle.spec_sim_control_plane.specs.StepLines.{step_asked}
+use Rattle.sim_service.proofs.Taken.{told_of_step, world_of_step, nothing_told, nothing_taken, unchanged}
+use Rattle.sim_service.proofs.simulations.take.Goals as goal
+use Rattle.sim_service.specs.SimulationStates.{told_by_stored, stored_after}
+use Rattle.sim_steps.specs.PlaneSteps.{plane_step_of}
 use Rattle.world.specs.Outcomes.{outcome_of}
 
 pub returns-in_err-text-clause-text : goal.returns-in_err-text-clause-text

@@ -1,6 +1,6 @@
 use Rattle.std.proofs.Common.{◌≡◌, ◌==◌, ◌<◌, length, take, drop, get_or, true, Some, sym, ap, ◌∙◌, rules}
-use Rattle.steps.proofs.Cuts.{cut-here, cut-nowhere}
-use Rattle.steps.proofs.words.cut.Goals as goal
+use Rattle.sim_steps.proofs.Cuts.{cut-here, cut-nowhere}
+use Rattle.sim_steps.proofs.words.cut.Goals as goal
 
 pub returns-then-byte-eq32 : goal.returns-then-byte-eq32
 returns-then-byte-eq32 c =

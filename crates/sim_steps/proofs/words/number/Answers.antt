@@ -1,7 +1,7 @@
 use Rattle.std.proofs.Common.{◌≡◌, true, rules}
-use Rattle.steps.proofs.Digits.{no_number, parsed}
-use Rattle.steps.specs.Words.{is_number}
-use Rattle.steps.proofs.words.number.Goals as goal
+use Rattle.sim_steps.proofs.Digits.{no_number, parsed}
+use Rattle.sim_steps.specs.Words.{is_number}
+use Rattle.sim_steps.proofs.words.number.Goals as goal
 
 pub returns-in_default : goal.returns-in_default
 returns-in_default c = no_number c.args.word.now c.in_default.ensures.cases.0

@@ -1,5 +1,5 @@
-use Rattle.reconciling_laws.proofs.Takes.{only_takes}
-use Rattle.reconciling_laws.proofs.take_laws.only_takes_give.Goals as goal
+use Rattle.sim_worker_laws.proofs.Takes.{only_takes}
+use Rattle.sim_worker_laws.proofs.take_laws.only_takes_give.Goals as goal
 
 pub returns : goal.returns
 returns c = only_takes

@@ -1,6 +1,6 @@
 use Rattle.std.proofs.Common.{◌≡◌, None, map}
-use Rattle.worker_slots.proofs.InSlots.{all_ended}
-use Rattle.worker_slots.proofs.slots.end_all.Goals as goal
+use Rattle.sim_worker_slots.proofs.InSlots.{all_ended}
+use Rattle.sim_worker_slots.proofs.slots.end_all.Goals as goal
 
 -- src/slots.rt:111:1
 pub returns : goal.returns

@@ -1,6 +1,6 @@
 use Rattle.std.proofs.Common.{refl}
-use Rattle.definitions.proofs.OnLiterals.{on_literals}
-use Rattle.examples.proofs.check_examples.checks_come_in_order.Goals as goal
+use Rattle.spec_api.proofs.OnLiterals.{on_literals}
+use Rattle.spec_examples.proofs.check_examples.checks_come_in_order.Goals as goal
 
 pub returns : goal.returns
 unfolding on_literals

@@ -1,6 +1,6 @@
 use Rattle.std.proofs.Common.{refl}
-use Rattle.examples.proofs.DeploymentsWorked.{on_literals}
-use Rattle.examples.proofs.deployment_examples.pods_are_replaced.Goals as goal
+use Rattle.spec_examples.proofs.DeploymentsWorked.{on_literals}
+use Rattle.spec_examples.proofs.deployment_examples.pods_are_replaced.Goals as goal
 
 pub returns : goal.returns
 unfolding on_literals

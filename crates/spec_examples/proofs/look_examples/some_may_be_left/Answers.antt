@@ -1,6 +1,6 @@
 use Rattle.std.proofs.Common.{refl}
-use Rattle.definitions.proofs.OnLiterals.{on_literals}
-use Rattle.examples.proofs.look_examples.some_may_be_left.Goals as goal
+use Rattle.spec_api.proofs.OnLiterals.{on_literals}
+use Rattle.spec_examples.proofs.look_examples.some_may_be_left.Goals as goal
 
 pub returns : goal.returns
 unfolding on_literals

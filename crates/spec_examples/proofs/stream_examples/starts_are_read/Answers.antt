@@ -1,6 +1,6 @@
 use Rattle.std.proofs.Common.{refl}
-use Rattle.definitions.proofs.OnLiterals.{on_literals}
-use Rattle.examples.proofs.stream_examples.starts_are_read.Goals as goal
+use Rattle.spec_api.proofs.OnLiterals.{on_literals}
+use Rattle.spec_examples.proofs.stream_examples.starts_are_read.Goals as goal
 
 pub returns : goal.returns
 unfolding on_literals

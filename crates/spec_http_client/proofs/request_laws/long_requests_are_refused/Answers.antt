@@ -1,5 +1,5 @@
-use Rattle.exchanges.proofs.Asked.{long_refused}
-use Rattle.exchanges.proofs.request_laws.long_requests_are_refused.Goals as goal
+use Rattle.spec_http_client.proofs.Asked.{long_refused}
+use Rattle.spec_http_client.proofs.request_laws.long_requests_are_refused.Goals as goal
 
 pub returns : goal.returns
 returns c = long_refused

@@ -1,5 +1,5 @@
-use Rattle.laws.proofs.CheckLaws.{stored_pass}
-use Rattle.laws.proofs.check_laws.stored_pass_again.Goals as goal
+use Rattle.spec_laws.proofs.CheckLaws.{stored_pass}
+use Rattle.spec_laws.proofs.check_laws.stored_pass_again.Goals as goal
 
 pub returns : goal.returns
 returns c = stored_pass

@@ -1,5 +1,5 @@
-use Rattle.laws.proofs.DueKeys.{have_come}
-use Rattle.laws.proofs.due_laws.due_have_come.Goals as goal
+use Rattle.spec_laws.proofs.DueKeys.{have_come}
+use Rattle.spec_laws.proofs.due_laws.due_have_come.Goals as goal
 
 pub returns : goal.returns
 returns c = have_come

@@ -3,11 +3,11 @@ use Rattle.std.specs.Cmp.{tied_itself}
 use Rattle.std.specs.Ordering.{is_eq}
 use Rattle.std.specs.FinMap as map
 use Rattle.std.specs.FinMap.{get-retain_keys}
-use Rattle.definitions.specs.Keys.{is_same_key}
-use Rattle.controllers.specs.Expectations.{is_met}
-use Rattle.controllers.proofs.WorkKeyOrder.{name_total}
-use Rattle.controllers.proofs.Expected.{keys_tied}
-use Rattle.laws.proofs.expectation_laws.forgets_all.Goals as goal
+use Rattle.spec_api.specs.Keys.{is_same_key}
+use Rattle.spec_client_go.specs.Expectations.{is_met}
+use Rattle.spec_client_go.proofs.WorkKeyOrder.{name_total}
+use Rattle.spec_client_go.proofs.Expected.{keys_tied}
+use Rattle.spec_laws.proofs.expectation_laws.forgets_all.Goals as goal
 
 pub returns : goal.returns
 returns c =

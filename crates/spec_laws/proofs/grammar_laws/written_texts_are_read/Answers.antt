@@ -1,5 +1,5 @@
-use Rattle.laws.proofs.SelectorWritten.{written}
-use Rattle.laws.proofs.grammar_laws.written_texts_are_read.Goals as goal
+use Rattle.spec_laws.proofs.SelectorWritten.{written}
+use Rattle.spec_laws.proofs.grammar_laws.written_texts_are_read.Goals as goal
 
 pub returns : goal.returns
 returns c = written

@@ -1,5 +1,5 @@
-use Rattle.laws.proofs.Past.{past}
-use Rattle.laws.proofs.history_laws.past_stands.Goals as goal
+use Rattle.spec_laws.proofs.Past.{past}
+use Rattle.spec_laws.proofs.history_laws.past_stands.Goals as goal
 
 pub returns : goal.returns
 returns c = past

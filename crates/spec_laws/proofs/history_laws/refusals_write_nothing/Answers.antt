@@ -1,5 +1,5 @@
-use Rattle.laws.proofs.VerbLaws.{refusals}
-use Rattle.laws.proofs.history_laws.refusals_write_nothing.Goals as goal
+use Rattle.spec_laws.proofs.VerbLaws.{refusals}
+use Rattle.spec_laws.proofs.history_laws.refusals_write_nothing.Goals as goal
 
 pub returns : goal.returns
 returns c = refusals

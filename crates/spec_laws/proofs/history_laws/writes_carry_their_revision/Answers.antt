@@ -1,5 +1,5 @@
-use Rattle.laws.proofs.VerbLaws.{versions}
-use Rattle.laws.proofs.history_laws.writes_carry_their_revision.Goals as goal
+use Rattle.spec_laws.proofs.VerbLaws.{versions}
+use Rattle.spec_laws.proofs.history_laws.writes_carry_their_revision.Goals as goal
 
 pub returns : goal.returns
 returns c = versions

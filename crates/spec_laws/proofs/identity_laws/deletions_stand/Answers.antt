@@ -1,5 +1,5 @@
-use Rattle.laws.proofs.Traced.{stand}
-use Rattle.laws.proofs.identity_laws.deletions_stand.Goals as goal
+use Rattle.spec_laws.proofs.Traced.{stand}
+use Rattle.spec_laws.proofs.identity_laws.deletions_stand.Goals as goal
 
 pub returns : goal.returns
 returns c = stand

@@ -1,5 +1,5 @@
-use Rattle.laws.proofs.Versions.{tells}
-use Rattle.laws.proofs.identity_laws.versions_tell_writes.Goals as goal
+use Rattle.spec_laws.proofs.Versions.{tells}
+use Rattle.spec_laws.proofs.identity_laws.versions_tell_writes.Goals as goal
 
 pub returns : goal.returns
 returns c = tells

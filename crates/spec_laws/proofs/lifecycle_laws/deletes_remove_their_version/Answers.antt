@@ -1,5 +1,5 @@
-use Rattle.laws.proofs.NamedVersions.{deletes_version}
-use Rattle.laws.proofs.lifecycle_laws.deletes_remove_their_version.Goals as goal
+use Rattle.spec_laws.proofs.NamedVersions.{deletes_version}
+use Rattle.spec_laws.proofs.lifecycle_laws.deletes_remove_their_version.Goals as goal
 
 pub returns : goal.returns
 returns c = deletes_version

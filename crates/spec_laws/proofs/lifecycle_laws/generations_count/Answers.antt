@@ -1,5 +1,5 @@
-use Rattle.laws.proofs.Generations.{count}
-use Rattle.laws.proofs.lifecycle_laws.generations_count.Goals as goal
+use Rattle.spec_laws.proofs.Generations.{count}
+use Rattle.spec_laws.proofs.lifecycle_laws.generations_count.Goals as goal
 
 pub returns : goal.returns
 returns c = count

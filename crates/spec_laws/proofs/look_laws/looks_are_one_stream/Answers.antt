@@ -1,5 +1,5 @@
-use Rattle.laws.proofs.Looks.{looks_are_one_stream}
-use Rattle.laws.proofs.look_laws.looks_are_one_stream.Goals as goal
+use Rattle.spec_laws.proofs.Looks.{looks_are_one_stream}
+use Rattle.spec_laws.proofs.look_laws.looks_are_one_stream.Goals as goal
 
 pub returns : goal.returns
 returns c = looks_are_one_stream

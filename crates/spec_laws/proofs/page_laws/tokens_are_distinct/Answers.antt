@@ -1,5 +1,5 @@
-use Rattle.definitions.proofs.TokenTexts.{one_token}
-use Rattle.laws.proofs.page_laws.tokens_are_distinct.Goals as goal
+use Rattle.spec_api.proofs.TokenTexts.{one_token}
+use Rattle.spec_laws.proofs.page_laws.tokens_are_distinct.Goals as goal
 
 pub returns : goal.returns
 returns c = one_token

@@ -1,5 +1,5 @@
-use Rattle.laws.proofs.ParsedEdits.{inner_edits}
-use Rattle.laws.proofs.parsed_laws.inner_edits_stay_parsed.Goals as goal
+use Rattle.spec_laws.proofs.ParsedEdits.{inner_edits}
+use Rattle.spec_laws.proofs.parsed_laws.inner_edits_stay_parsed.Goals as goal
 
 pub returns : goal.returns
 returns c = inner_edits

@@ -1,5 +1,5 @@
-use Rattle.laws.proofs.ParsedEdits.{members_stay}
-use Rattle.laws.proofs.parsed_laws.members_stay_parsed.Goals as goal
+use Rattle.spec_laws.proofs.ParsedEdits.{members_stay}
+use Rattle.spec_laws.proofs.parsed_laws.members_stay_parsed.Goals as goal
 
 pub returns : goal.returns
 returns c = members_stay

@@ -1,5 +1,5 @@
-use Rattle.laws.proofs.ParsedEdits.{metadata_edits}
-use Rattle.laws.proofs.parsed_laws.metadata_edits_stay_parsed.Goals as goal
+use Rattle.spec_laws.proofs.ParsedEdits.{metadata_edits}
+use Rattle.spec_laws.proofs.parsed_laws.metadata_edits_stay_parsed.Goals as goal
 
 pub returns : goal.returns
 returns c = metadata_edits

@@ -1,5 +1,5 @@
-use Rattle.laws.proofs.ParsedEdits.{stored_parsed}
-use Rattle.laws.proofs.parsed_laws.stored_are_parsed.Goals as goal
+use Rattle.spec_laws.proofs.ParsedEdits.{stored_parsed}
+use Rattle.spec_laws.proofs.parsed_laws.stored_are_parsed.Goals as goal
 
 pub returns : goal.returns
 returns c = stored_parsed

@@ -1,5 +1,5 @@
-use Rattle.laws.proofs.ReadRequests.{moments_timed}
-use Rattle.laws.proofs.reached_laws.moments_are_times.Goals as goal
+use Rattle.spec_laws.proofs.ReadRequests.{moments_timed}
+use Rattle.spec_laws.proofs.reached_laws.moments_are_times.Goals as goal
 
 pub returns : goal.returns
 returns c = moments_timed

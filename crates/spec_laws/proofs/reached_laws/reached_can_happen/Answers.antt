@@ -1,5 +1,5 @@
-use Rattle.laws.proofs.Limited.{happens}
-use Rattle.laws.proofs.reached_laws.reached_can_happen.Goals as goal
+use Rattle.spec_laws.proofs.Limited.{happens}
+use Rattle.spec_laws.proofs.reached_laws.reached_can_happen.Goals as goal
 
 pub returns : goal.returns
 returns c = happens

@@ -1,5 +1,5 @@
-use Rattle.laws.proofs.ReadRequests.{runs_reached}
-use Rattle.laws.proofs.reached_laws.runs_are_reached.Goals as goal
+use Rattle.spec_laws.proofs.ReadRequests.{runs_reached}
+use Rattle.spec_laws.proofs.reached_laws.runs_are_reached.Goals as goal
 
 pub returns : goal.returns
 returns c = runs_reached

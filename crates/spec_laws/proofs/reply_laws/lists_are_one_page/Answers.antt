@@ -1,5 +1,5 @@
-use Rattle.laws.proofs.OnePage.{one_page}
-use Rattle.laws.proofs.reply_laws.lists_are_one_page.Goals as goal
+use Rattle.spec_laws.proofs.OnePage.{one_page}
+use Rattle.spec_laws.proofs.reply_laws.lists_are_one_page.Goals as goal
 
 pub returns : goal.returns
 returns c = one_page

@@ -1,5 +1,5 @@
-use Rattle.laws.proofs.RepliesRead.{objects_back}
-use Rattle.laws.proofs.reply_laws.objects_are_read_back.Goals as goal
+use Rattle.spec_laws.proofs.RepliesRead.{objects_back}
+use Rattle.spec_laws.proofs.reply_laws.objects_are_read_back.Goals as goal
 
 pub returns : goal.returns
 returns c = objects_back

@@ -1,5 +1,5 @@
-use Rattle.laws.proofs.SelectorLaws.{meets-alike}
-use Rattle.laws.proofs.selector_laws.order_is_no_matter.Goals as goal
+use Rattle.spec_laws.proofs.SelectorLaws.{meets-alike}
+use Rattle.spec_laws.proofs.selector_laws.order_is_no_matter.Goals as goal
 
 pub returns : goal.returns
 returns c = λ t d rs ss l e f same. meets-alike rs ss l same

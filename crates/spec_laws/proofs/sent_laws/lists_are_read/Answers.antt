@@ -1,5 +1,5 @@
-use Rattle.laws.proofs.SentLists.{lists_read}
-use Rattle.laws.proofs.sent_laws.lists_are_read.Goals as goal
+use Rattle.spec_laws.proofs.SentLists.{lists_read}
+use Rattle.spec_laws.proofs.sent_laws.lists_are_read.Goals as goal
 
 pub returns : goal.returns
 returns c = lists_read

@@ -1,5 +1,5 @@
-use Rattle.laws.proofs.SentLists.{lists_nest}
-use Rattle.laws.proofs.sent_laws.lists_nest.Goals as goal
+use Rattle.spec_laws.proofs.SentLists.{lists_nest}
+use Rattle.spec_laws.proofs.sent_laws.lists_nest.Goals as goal
 
 pub returns : goal.returns
 returns c = lists_nest

@@ -1,5 +1,5 @@
-use Rattle.laws.proofs.ServerAnswers.{lists_answered}
-use Rattle.laws.proofs.server_laws.lists_are_served.Goals as goal
+use Rattle.spec_laws.proofs.ServerAnswers.{lists_answered}
+use Rattle.spec_laws.proofs.server_laws.lists_are_served.Goals as goal
 
 pub returns : goal.returns
 returns c = lists_answered

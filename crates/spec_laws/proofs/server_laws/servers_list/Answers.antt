@@ -1,5 +1,5 @@
-use Rattle.laws.proofs.ServerAnswers.{lists_held}
-use Rattle.laws.proofs.server_laws.servers_list.Goals as goal
+use Rattle.spec_laws.proofs.ServerAnswers.{lists_held}
+use Rattle.spec_laws.proofs.server_laws.servers_list.Goals as goal
 
 pub returns : goal.returns
 returns c = lists_held

@@ -1,5 +1,5 @@
-use Rattle.laws.proofs.WatchStarts.{unclosed}
-use Rattle.laws.proofs.stream_laws.unclosed_streams_are_lists.Goals as goal
+use Rattle.spec_laws.proofs.WatchStarts.{unclosed}
+use Rattle.spec_laws.proofs.stream_laws.unclosed_streams_are_lists.Goals as goal
 
 pub returns : goal.returns
 returns c = unclosed

@@ -1,5 +1,5 @@
-use Rattle.laws.proofs.FirstChanges.{first_given}
-use Rattle.laws.proofs.version_laws.watches_give_first_changes.Goals as goal
+use Rattle.spec_laws.proofs.FirstChanges.{first_given}
+use Rattle.spec_laws.proofs.version_laws.watches_give_first_changes.Goals as goal
 
 pub returns : goal.returns
 returns c = first_given

@@ -1,5 +1,5 @@
-use Rattle.laws.proofs.ServedWindows.{watch_served}
-use Rattle.laws.proofs.window_laws.watches_are_served.Goals as goal
+use Rattle.spec_laws.proofs.ServedWindows.{watch_served}
+use Rattle.spec_laws.proofs.window_laws.watches_are_served.Goals as goal
 
 pub returns : goal.returns
 returns c = watch_served

@@ -1,7 +1,7 @@
 use Rattle.std.proofs.Common.{refl}
-use Rattle.controllers.specs.WorkQueues.{idle, shut, after_all}
-use Rattle.laws.proofs.WorkQueueRuns.{sound, runs_are_sound, queued_is_wanted, front_is_queued, shut-wanted}
-use Rattle.laws.proofs.work_queue_laws.shut_adds_nothing.Goals as goal
+use Rattle.spec_client_go.specs.WorkQueues.{idle, shut, after_all}
+use Rattle.spec_laws.proofs.WorkQueueRuns.{sound, runs_are_sound, queued_is_wanted, front_is_queued, shut-wanted}
+use Rattle.spec_laws.proofs.work_queue_laws.shut_adds_nothing.Goals as goal
 
 pub returns : goal.returns
 returns c =

@@ -1,5 +1,5 @@
 use Rattle.std.proofs.Common.{◌≡◌, length}
-use Rattle.definitions.specs.History.{viewed}
+use Rattle.spec_api.specs.History.{viewed}
 use Rattle.selector.specs.Views.{view_of}
 use Rattle.store.specs.Seen.{members_seen}
 use Rattle.store.proofs.chunks.next_member.Given as goal

@@ -1,6 +1,6 @@
 use Rattle.std.proofs.Common.{arith, ℕ, Bool, true, false, not, ◌≡◌, ◌∙◌, cond, is_some, length, ap, Some, option_map, refl, sym}
-use Rattle.definitions.specs.History.{found}
-use Rattle.keys.specs.Keys.{key_of}
+use Rattle.spec_api.specs.History.{found}
+use Rattle.object_keys.specs.Keys.{key_of}
 use Rattle.meta.specs.declared.stored.StoredObject.{StoredObject}
 use Rattle.store.specs.Seen.{members_seen}
 use Rattle.store.proofs.Indexes.{index_takes, index_alike}

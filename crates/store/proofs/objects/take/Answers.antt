@@ -1,5 +1,5 @@
 use Rattle.std.proofs.Common.{arith, length, ◌∙◌, ap, None, refl}
-use Rattle.keys.specs.Keys.{key_of}
+use Rattle.object_keys.specs.Keys.{key_of}
 use Rattle.store.specs.Seen.{members_seen}
 use Rattle.store.proofs.Indexes.{index_takes}
 use Rattle.store.proofs.SeenMaps.{seen-remove_entry, few_removed, length-seen}

@@ -1,5 +1,5 @@
 use Rattle.std.proofs.Common.{rules, ◌≡◌, ◌∙◌, sym, ap, subst}
-use Rattle.definitions.specs.History.{viewed}
+use Rattle.spec_api.specs.History.{viewed}
 use Rattle.selector.specs.Views.{view_of}
 use Rattle.store.specs.Chunks.{after_key}
 use Rattle.store.specs.Seen.{members_seen}

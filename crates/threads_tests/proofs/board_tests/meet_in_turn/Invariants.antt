@@ -1,5 +1,5 @@
 use Rattle.std.proofs.Common.{All}
-use Rattle.shared_board.specs.Desks.{IsPassAt}
+use Rattle.control_desk.specs.Desks.{IsPassAt}
 use Rattle.threads_tests.proofs.board_tests.meet_in_turn.Given as goal
 
 abbrev pub invariant-loop-next : goal.invariant-loop-next

@@ -1,4 +1,4 @@
-use Rattle.shared_desk.specs.Desks.{IsPassAt}
+use Rattle.desk.specs.Desks.{IsPassAt}
 use Rattle.threads_tests.proofs.creating.create_all.Given as goal
 
 abbrev pub invariant-loop-turn : goal.invariant-loop-turn

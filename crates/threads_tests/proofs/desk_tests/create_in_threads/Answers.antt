@@ -2,7 +2,7 @@ use mir.Syntax.{named}
 use denote.Exit.{no}
 use denote.Param.{param}
 use denote.Param.Send.{IsSync, sendable, param_send, arg_send, param_sync, arg_sync}
-use Rattle.shared_desk.proofs.Sent.{pass}
+use Rattle.desk.proofs.Sent.{pass}
 use Rattle.threads_tests.proofs.Sent.{captured}
 use Rattle.threads_tests.proofs.desk_tests.create_in_threads.Goals as goal
 

@@ -1,5 +1,5 @@
 use Rattle.std.proofs.Common.{◌≡◌, None}
-use Rattle.shared_board.specs.Desks.{IsPassAt, key_in_hand}
+use Rattle.control_desk.specs.Desks.{IsPassAt, key_in_hand}
 use Rattle.threads_tests.proofs.working.work.Given as goal
 
 abbrev pub invariant-loop-number : goal.invariant-loop-number

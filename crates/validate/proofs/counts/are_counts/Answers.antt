@@ -1,7 +1,7 @@
 use Rattle.std.proofs.Common.{rules, tests}
 use Rattle.std.proofs.lemmas.Iterator.{YieldsList-from_slice}
 use Rattle.std.proofs.lemmas.Iterator.Search.{all_from_yields_List}
-use Rattle.definitions.specs.Checks.{in_status, is_not_negative}
+use Rattle.spec_api.specs.Checks.{in_status, is_not_negative}
 use Rattle.validate.proofs.counts.are_counts.Goals as goal
 
 pub returns : goal.returns

@@ -1,7 +1,7 @@
 use Rattle.std.proofs.Common.{◌≡◌, drop}
 use Rattle.serde_json.specs.View.{items_view}
-use Rattle.definitions.specs.Checks.{text_is, is_finalizer}
-use Rattle.definitions.specs.SelectorValues.{all_items}
+use Rattle.spec_api.specs.Checks.{text_is, is_finalizer}
+use Rattle.spec_api.specs.SelectorValues.{all_items}
 use Rattle.validate.proofs.finalizers.all_are_finalizers.Given as goal
 
 abbrev pub invariant-loop-item : goal.invariant-loop-item

@@ -1,7 +1,7 @@
 use Rattle.std.proofs.Common.{◌≡◌, drop}
 use Rattle.serde_json.specs.View.{items_view}
-use Rattle.definitions.specs.Checks.{text_is, has_text, finalizers}
-use Rattle.definitions.specs.SelectorValues.{all_items}
+use Rattle.spec_api.specs.Checks.{text_is, has_text, finalizers}
+use Rattle.spec_api.specs.SelectorValues.{all_items}
 use Rattle.validate.proofs.finalizers.all_are_held.Given as goal
 
 abbrev pub invariant-loop-item : goal.invariant-loop-item

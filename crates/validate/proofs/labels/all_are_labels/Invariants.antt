@@ -1,6 +1,6 @@
 use Rattle.std.proofs.Common.{◌≡◌}
 use Rattle.serde_json.specs.View.{members_view}
-use Rattle.definitions.specs.Checks.{are_labels}
+use Rattle.spec_api.specs.Checks.{are_labels}
 use Rattle.validate.proofs.labels.all_are_labels.Given as goal
 
 abbrev pub invariant-loop-key : goal.invariant-loop-key

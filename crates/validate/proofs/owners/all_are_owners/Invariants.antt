@@ -1,8 +1,8 @@
 use Rattle.std.proofs.Common.{◌≡◌, drop}
 use Rattle.std.specs.List.{list_all}
 use Rattle.serde_json.specs.View.{items_view}
-use Rattle.definitions.specs.Checks.{is_owner}
-use Rattle.definitions.specs.Metadata.{owners_in}
+use Rattle.spec_api.specs.Checks.{is_owner}
+use Rattle.spec_api.specs.Metadata.{owners_in}
 use Rattle.validate.proofs.owners.all_are_owners.Given as goal
 
 abbrev pub invariant-loop-item : goal.invariant-loop-item

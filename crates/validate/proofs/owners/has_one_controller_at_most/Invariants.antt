@@ -1,7 +1,7 @@
 use Rattle.std.proofs.Common.{◌≡◌, drop, if◌then◌else◌, suc}
 use Rattle.serde_json.specs.View.{items_view}
-use Rattle.definitions.specs.Checks.{controllers}
-use Rattle.definitions.specs.Metadata.{owners_in}
+use Rattle.spec_api.specs.Checks.{controllers}
+use Rattle.spec_api.specs.Metadata.{owners_in}
 use Rattle.validate.proofs.owners.has_one_controller_at_most.Given as goal
 
 abbrev pub invariant-loop-item : goal.invariant-loop-item

@@ -1,4 +1,4 @@
-use Rattle.definitions.specs.Uids.{uid_revision}
+use Rattle.spec_api.specs.Uids.{uid_revision}
 use Rattle.validate.proofs.Printed.{future_at, is_own, not_future}
 use Rattle.validate.proofs.uids.is_of_the_future.Goals as goal
 

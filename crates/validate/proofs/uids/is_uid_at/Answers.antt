@@ -1,8 +1,8 @@
 use Rattle.std.proofs.Common.{◌≡◌, ap, ◌∙◌}
 use Rattle.std.specs.Str.{bytes_eq}
-use Rattle.definitions.specs.Uids.{uid_text}
+use Rattle.spec_api.specs.Uids.{uid_text}
 use Rattle.uuid.specs.Text.{hyphenated_text, lower}
-use Rattle.stamps.proofs.Hexadecimal.{uid-text}
+use Rattle.metadata_values.proofs.Hexadecimal.{uid-text}
 use Rattle.validate.proofs.uids.is_uid_at.Goals as goal
 
 pub returns : goal.returns

@@ -1,6 +1,6 @@
 use Rattle.std.proofs.Common.{◌%◌, ◌^◌, sym, ap, ◌∙◌, arith}
 use Rattle.std.specs.Str.{bytes_eq}
-use Rattle.definitions.specs.Uids.{uid_text}
+use Rattle.spec_api.specs.Uids.{uid_text}
 use Rattle.validate.proofs.Printed.{is_printed, is_other, is_unread}
 use Rattle.validate.proofs.uids.revision_of.Goals as goal
 

@@ -1,16 +1,16 @@
 use Rattle.std.proofs.Common.{◌≡◌, ◌+◌, ◌∙◌, Ok, Err, None, sym, ap, subst}
 use Rattle.std.proofs.lemmas.Result.{err_from_is_err_and}
-use Rattle.definitions.specs.Checks.{create_fault}
-use Rattle.definitions.specs.Defaults.{defaulted}
-use Rattle.definitions.specs.Metadata.{at_revision, metadata_of}
-use Rattle.definitions.specs.NewObjects.{created, new_metadata, with_first_status}
-use Rattle.definitions.proofs.VerbSteps.{create_read}
-use Rattle.definitions.proofs.FirstStatus.{metadata_of-first}
-use Rattle.keys.specs.Keys.{key_of}
-use Rattle.answers.specs.Serves.{Serves}
+use Rattle.spec_api.specs.Checks.{create_fault}
+use Rattle.spec_api.specs.Defaults.{defaulted}
+use Rattle.spec_api.specs.Metadata.{at_revision, metadata_of}
+use Rattle.spec_api.specs.NewObjects.{created, new_metadata, with_first_status}
+use Rattle.spec_api.proofs.VerbSteps.{create_read}
+use Rattle.spec_api.proofs.FirstStatus.{metadata_of-first}
+use Rattle.object_keys.specs.Keys.{key_of}
+use Rattle.verb_parts.specs.Serves.{Serves}
 use Rattle.validate.specs.Faults.{RefusesField}
-use Rattle.creates.proofs.Creates.{create-placed, create-refused}
-use Rattle.creates.proofs.create.create.Goals as goal
+use Rattle.verb_create.proofs.Creates.{create-placed, create-refused}
+use Rattle.verb_create.proofs.create.create.Goals as goal
 
 pub returns : goal.returns
 returns c =

@@ -1,7 +1,7 @@
 use Rattle.std.proofs.Common.{◌≡◌, ◌≤◌, IfOk, length, string_bytes, sym, subst, ◌∙◌, arith}
 use Rattle.std.proofs.lemmas.List.{length-take-le, take_all}
 use Rattle.std.specs.Str.Lossy.{utf8_lossy}
-use Rattle.creates.proofs.made_names.base.Goals as goal
+use Rattle.verb_create.proofs.made_names.base.Goals as goal
 
 pub returns-then-bytes-le-LONGEST_BASE : goal.returns-then-bytes-le-LONGEST_BASE
 returns-then-bytes-le-LONGEST_BASE c =

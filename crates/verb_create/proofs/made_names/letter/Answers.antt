@@ -1,8 +1,8 @@
 use Rattle.std.proofs.Common.{◌<◌, ◌%◌, sym, subst}
 use Rattle.std.proofs.lemmas.Option.{unwrap_or-slice_get}
-use Rattle.definitions.specs.GeneratedNames.{alphabet}
-use Rattle.creates.proofs.MadeNames.{small}
-use Rattle.creates.proofs.made_names.letter.Goals as goal
+use Rattle.spec_api.specs.GeneratedNames.{alphabet}
+use Rattle.verb_create.proofs.MadeNames.{small}
+use Rattle.verb_create.proofs.made_names.letter.Goals as goal
 
 pub returns-clause-value : goal.returns-clause-value
 returns-clause-value c = sym (unwrap_or-slice_get alphabet (c.args.number % 27) 0)

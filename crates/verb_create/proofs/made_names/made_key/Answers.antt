@@ -1,8 +1,8 @@
 use Rattle.std.proofs.Common.{◌≡◌, ◌+◌, ◌++◌, true, false, string_bytes, ap, subst, ◌∙◌, arith}
-use Rattle.definitions.specs.GeneratedNames.{suffix, made, made_name}
-use Rattle.definitions.specs.Verbs.{is_free}
-use Rattle.creates.proofs.MadeNames.{Left, begins, taken, free, none_free, says_free}
-use Rattle.creates.proofs.made_names.made_key.Goals as goal
+use Rattle.spec_api.specs.GeneratedNames.{suffix, made, made_name}
+use Rattle.spec_api.specs.Verbs.{is_free}
+use Rattle.verb_create.proofs.MadeNames.{Left, begins, taken, free, none_free, says_free}
+use Rattle.verb_create.proofs.made_names.made_key.Goals as goal
 
 pub loop-tries-init : goal.loop-tries-init
 loop-tries-init c = begins (is_free c.args.kind c.args.namespace.now c.args.store.now.members) c.args.given.now (c.revision-first.result + 1)

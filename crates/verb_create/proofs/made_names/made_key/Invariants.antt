@@ -1,6 +1,6 @@
-use Rattle.definitions.specs.Verbs.{is_free}
-use Rattle.creates.proofs.MadeNames.{Left}
-use Rattle.creates.proofs.made_names.made_key.Given as goal
+use Rattle.spec_api.specs.Verbs.{is_free}
+use Rattle.verb_create.proofs.MadeNames.{Left}
+use Rattle.verb_create.proofs.made_names.made_key.Given as goal
 
 -- the names that are left have the first that is free
 abbrev pub invariant-loop-tries : goal.invariant-loop-tries

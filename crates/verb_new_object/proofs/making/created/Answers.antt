@@ -1,8 +1,8 @@
 use Rattle.std.proofs.Common.{◌+◌, codes, decimal, string_bytes}
 use Rattle.serde_json.specs.Data.{string, put}
-use Rattle.definitions.specs.Metadata.{metadata_of}
-use Rattle.definitions.specs.NewObjects.{new_metadata}
-use Rattle.new_objects.proofs.making.created.Goals as goal
+use Rattle.spec_api.specs.Metadata.{metadata_of}
+use Rattle.spec_api.specs.NewObjects.{new_metadata}
+use Rattle.verb_new_object.proofs.making.created.Goals as goal
 
 pub returns : goal.returns
 returns c =

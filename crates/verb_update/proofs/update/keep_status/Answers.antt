@@ -1,9 +1,9 @@
 use Rattle.std.proofs.Common.{codes, ap, ◌∙◌}
 use Rattle.serde_json.specs.Find.{get_member}
-use Rattle.definitions.specs.Metadata.{metadata_of}
-use Rattle.definitions.specs.Values.{members_of}
-use Rattle.answers.proofs.Replacing.{metadata_of-as_stored}
-use Rattle.replacements.proofs.update.keep_status.Goals as goal
+use Rattle.spec_api.specs.Metadata.{metadata_of}
+use Rattle.spec_api.specs.Values.{members_of}
+use Rattle.verb_parts.proofs.Replacing.{metadata_of-as_stored}
+use Rattle.verb_update.proofs.update.keep_status.Goals as goal
 
 pub returns-clause-metadata : goal.returns-clause-metadata
 returns-clause-metadata c =

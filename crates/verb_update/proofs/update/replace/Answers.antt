@@ -1,8 +1,8 @@
 use Rattle.std.proofs.Common.{subst}
-use Rattle.definitions.specs.Verbs.{replace}
-use Rattle.keys.specs.Keys.{key_of}
-use Rattle.answers.specs.Serves.{Serves}
-use Rattle.replacements.proofs.update.replace.Goals as goal
+use Rattle.spec_api.specs.Verbs.{replace}
+use Rattle.object_keys.specs.Keys.{key_of}
+use Rattle.verb_parts.specs.Serves.{Serves}
+use Rattle.verb_update.proofs.update.replace.Goals as goal
 
 pub returns : goal.returns
 returns c =

@@ -1,9 +1,9 @@
 use Rattle.std.proofs.Common.{inr}
-use Rattle.definitions.specs.Replacements.{in_place}
-use Rattle.definitions.proofs.VerbSteps.{replace_with}
-use Rattle.keys.specs.Keys.{key_of}
-use Rattle.answers.proofs.Replacing.{if_same-other}
-use Rattle.replacements.proofs.update.replace_existing.Goals as goal
+use Rattle.spec_api.specs.Replacements.{in_place}
+use Rattle.spec_api.proofs.VerbSteps.{replace_with}
+use Rattle.object_keys.specs.Keys.{key_of}
+use Rattle.verb_parts.proofs.Replacing.{if_same-other}
+use Rattle.verb_update.proofs.update.replace_existing.Goals as goal
 
 pub returns-in-Some : goal.returns-in-Some
 returns-in-Some c =

@@ -1,10 +1,10 @@
 use Rattle.std.proofs.Common.{inr, sym, subst}
-use Rattle.definitions.specs.Replacements.{with_status_in}
-use Rattle.definitions.proofs.VerbSteps.{restate}
-use Rattle.keys.specs.Keys.{key_of}
-use Rattle.answers.specs.Serves.{Serves}
-use Rattle.answers.proofs.Replacing.{if_same-other, if_same-same}
-use Rattle.status_updates.proofs.status.restate_with.Goals as goal
+use Rattle.spec_api.specs.Replacements.{with_status_in}
+use Rattle.spec_api.proofs.VerbSteps.{restate}
+use Rattle.object_keys.specs.Keys.{key_of}
+use Rattle.verb_parts.specs.Serves.{Serves}
+use Rattle.verb_parts.proofs.Replacing.{if_same-other, if_same-same}
+use Rattle.verb_update_status.proofs.status.restate_with.Goals as goal
 
 pub returns-in-Some : goal.returns-in-Some
 returns-in-Some c =

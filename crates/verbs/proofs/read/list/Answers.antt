@@ -1,6 +1,6 @@
 use Rattle.std.proofs.Common.{None, map, refl, ap, ◌∙◌}
 use Rattle.serde_json.specs.Written.{compact_text}
-use Rattle.definitions.specs.Lists.{page_body}
+use Rattle.spec_api.specs.Lists.{page_body}
 use Rattle.meta.specs.Members.{member_of}
 use Rattle.verbs.proofs.read.list.Goals as goal
 

@@ -2,8 +2,8 @@ use Rattle.std.proofs.Common.{◌≡◌, ◌<◌, ◌+◌, ◌-◌, ◌∷◌, m
 use Rattle.std.specs.Prelude.{slice_get}
 use Rattle.std.specs.Option.{option_copied}
 use Rattle.std.specs.BTreeMap.{insert_entry}
-use Rattle.definitions.specs.Keys.{key_cmp}
-use Rattle.keys.specs.Keys.{key_of}
+use Rattle.spec_api.specs.Keys.{key_cmp}
+use Rattle.object_keys.specs.Keys.{key_of}
 use Rattle.watch_cache.specs.Changes.{change_seen}
 use Rattle.watch_cache.specs.Earlier.{firsts}
 use Rattle.watch_cache.proofs.Rising.{drop_at, not_none}

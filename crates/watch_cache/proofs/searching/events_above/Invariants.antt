@@ -1,5 +1,5 @@
 use Rattle.std.proofs.Common.{◌≡◌, ◌≤◌, ◌++◌, map, drop, length}
-use Rattle.server_state.specs.Recorded.{events_recorded}
+use Rattle.spec_server.specs.Recorded.{events_recorded}
 use Rattle.selector.specs.Views.{view_of}
 use Rattle.revisions.specs.Events.{event_seen}
 use Rattle.watch_cache.specs.Changes.{change_seen}

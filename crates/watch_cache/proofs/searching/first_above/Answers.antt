@@ -1,5 +1,5 @@
 use Rattle.std.proofs.Common.{◌≡◌, ◌<◌, ◌+◌, ◌-◌, ◌/◌, map, drop, length, subst, arith}
-use Rattle.server_state.specs.Recorded.{above}
+use Rattle.spec_server.specs.Recorded.{above}
 use Rattle.watch_cache.specs.Changes.{change_seen}
 use Rattle.watch_cache.proofs.Rising.{none_below_at, all_from_at, cut}
 use Rattle.watch_cache.proofs.searching.first_above.Goals as goal

@@ -1,5 +1,5 @@
 use Rattle.std.proofs.Common.{◌≡◌, ◌≤◌, ◌-◌, [], map, take, drop, length}
-use Rattle.server_state.specs.Recorded.{above}
+use Rattle.spec_server.specs.Recorded.{above}
 use Rattle.watch_cache.specs.Changes.{change_seen}
 use Rattle.watch_cache.proofs.searching.first_above.Given as goal
 

@@ -2,7 +2,7 @@ use Rattle.std.proofs.Common.{◌≡◌, ◌+◌, ◌++◌, map, drop, Some, sym
 use Rattle.std.specs.Prelude.{slice_get}
 use Rattle.std.proofs.lemmas.Result.{on_ok_weaker}
 use Rattle.std.specs.Option.{option_copied}
-use Rattle.server_state.specs.Recorded.{event_recorded, events_recorded}
+use Rattle.spec_server.specs.Recorded.{event_recorded, events_recorded}
 use Rattle.selector.specs.Views.{view_of}
 use Rattle.revisions.specs.Events.{event_seen}
 use Rattle.watch_cache.specs.Changes.{change_seen}

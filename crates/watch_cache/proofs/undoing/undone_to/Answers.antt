@@ -1,7 +1,7 @@
 use Rattle.std.proofs.Common.{◌≡◌, ◌≤◌, ◌<◌, ◌+◌, ◌-◌, map, take, drop, length, Some, sym, ap, ◌∙◌, arith}
 use Rattle.std.specs.Prelude.{slice_get}
 use Rattle.std.specs.Option.{option_copied}
-use Rattle.server_state.specs.Recorded.{undone}
+use Rattle.spec_server.specs.Recorded.{undone}
 use Rattle.selector.specs.Views.{view_of}
 use Rattle.revisions.specs.Seen.{seen}
 use Rattle.watch_cache.specs.Changes.{change_seen}

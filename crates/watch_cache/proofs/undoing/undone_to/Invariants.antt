@@ -1,6 +1,6 @@
 use Rattle.std.proofs.Common.{◌≡◌, map, take, drop}
 use Rattle.meta.specs.Members.{member_of}
-use Rattle.server_state.specs.Recorded.{undone}
+use Rattle.spec_server.specs.Recorded.{undone}
 use Rattle.selector.specs.Views.{view_of}
 use Rattle.revisions.specs.Seen.{seen}
 use Rattle.watch_cache.specs.Changes.{change_seen}

@@ -1,7 +1,7 @@
 use Rattle.std.proofs.Common.{◌≡◌, map, drop}
-use Rattle.control.specs.Boards.{all_lowered}
-use Rattle.control_desk.specs.Seen.{observation_of}
-use Rattle.control_desk.proofs.board.lower_all.Given as goal
+use Rattle.spec_work_board.specs.Boards.{all_lowered}
+use Rattle.work_board.specs.Seen.{observation_of}
+use Rattle.work_board.proofs.board.lower_all.Given as goal
 
 -- with those that are left to note, it is all
 abbrev pub invariant-loop-observation : goal.invariant-loop-observation

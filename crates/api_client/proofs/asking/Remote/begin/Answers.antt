@@ -1,6 +1,6 @@
 use Rattle.std.proofs.Common.{inl}
 use Rattle.chunked.specs.Devices.{device_of}
-use Rattle.remote.proofs.asking.Remote.begin.Goals as goal
+use Rattle.api_client.proofs.asking.Remote.begin.Goals as goal
 
 pub returns-clause-opened : goal.returns-clause-opened
 returns-clause-opened g c =

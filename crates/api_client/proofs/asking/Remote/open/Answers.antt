@@ -1,6 +1,6 @@
 use Rattle.std.proofs.Common.{subst, ◌∙◌}
-use Rattle.remote.specs.Asked.{IsOpened}
-use Rattle.remote.proofs.asking.Remote.open.Goals as goal
+use Rattle.api_client.specs.Asked.{IsOpened}
+use Rattle.api_client.proofs.asking.Remote.open.Goals as goal
 
 pub returns-in-Ok-clause-opened : goal.returns-in-Ok-clause-opened
 returns-in-Ok-clause-opened g c =

@@ -1,7 +1,7 @@
 use Rattle.chunked.specs.Devices.{device_of}
-use Rattle.client.specs.Calls.{text_of}
-use Rattle.remote.proofs.Sent.{sent_over}
-use Rattle.remote.proofs.asking.Remote.send.Goals as goal
+use Rattle.http_client.specs.Calls.{text_of}
+use Rattle.api_client.proofs.Sent.{sent_over}
+use Rattle.api_client.proofs.asking.Remote.send.Goals as goal
 
 pub returns-in-Ok-clause-sent : goal.returns-in-Ok-clause-sent
 returns-in-Ok-clause-sent g c =

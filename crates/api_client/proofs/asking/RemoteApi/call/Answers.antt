@@ -1,10 +1,10 @@
 use Rattle.std.proofs.Common.{rules, ◌≡◌, true}
-use Rattle.client.specs.Calls.{text_of}
-use Rattle.requests.specs.Requests.{request_of}
-use Rattle.request_texts.specs.Texts.{can_be_told}
-use Rattle.remote.proofs.Sent.{called_by}
-use Rattle.remote.specs.Asked.{limits_of}
-use Rattle.remote.proofs.asking.RemoteApi.call.Goals as goal
+use Rattle.http_client.specs.Calls.{text_of}
+use Rattle.request_parts.specs.Requests.{request_of}
+use Rattle.request_encoding.specs.Texts.{can_be_told}
+use Rattle.api_client.proofs.Sent.{called_by}
+use Rattle.api_client.specs.Asked.{limits_of}
+use Rattle.api_client.proofs.asking.RemoteApi.call.Goals as goal
 
 pub returns-in-Ok : goal.returns-in-Ok
 returns-in-Ok g c =

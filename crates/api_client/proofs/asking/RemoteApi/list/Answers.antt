@@ -1,9 +1,9 @@
 use Rattle.std.proofs.Common.{rules, ◌≡◌, subst}
-use Rattle.client.specs.Calls.{text_of}
+use Rattle.http_client.specs.Calls.{text_of}
 use Rattle.collection_texts.specs.Targets.{list_target}
-use Rattle.remote.specs.Asked.{IsSent, limits_of, scope_at}
-use Rattle.remote.specs.Outgoing.{get_text}
-use Rattle.remote.proofs.asking.RemoteApi.list.Goals as goal
+use Rattle.api_client.specs.Asked.{IsSent, limits_of, scope_at}
+use Rattle.api_client.specs.Outgoing.{get_text}
+use Rattle.api_client.proofs.asking.RemoteApi.list.Goals as goal
 
 pub returns-in-Ok : goal.returns-in-Ok
 returns-in-Ok g c =

@@ -1,7 +1,7 @@
 use Rattle.std.proofs.Common.{subst, ◌∙◌}
-use Rattle.remote.specs.Asked.{IsOpened}
-use Rattle.remote.specs.Outgoing.{get_text}
-use Rattle.remote.proofs.asking.RemoteApi.open_watch.Goals as goal
+use Rattle.api_client.specs.Asked.{IsOpened}
+use Rattle.api_client.specs.Outgoing.{get_text}
+use Rattle.api_client.proofs.asking.RemoteApi.open_watch.Goals as goal
 
 pub returns-in-Ok-clause-opened : goal.returns-in-Ok-clause-opened
 returns-in-Ok-clause-opened g c =

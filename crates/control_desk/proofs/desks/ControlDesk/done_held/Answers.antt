@@ -1,9 +1,9 @@
 use Rattle.std.proofs.Common.{◌∙◌, ap}
 use Rattle.work_keys.specs.WorkKeys.{work_key_of}
-use Rattle.shared_board.specs.Desks.{known}
-use Rattle.shared_board.specs.Steps.{in_hand, finish}
-use Rattle.shared_board.proofs.Turns.{gives_step, key_finished, follows_step}
-use Rattle.shared_board.proofs.desks.ControlDesk.done_held.Goals as goal
+use Rattle.control_desk.specs.Desks.{known}
+use Rattle.control_desk.specs.Steps.{in_hand, finish}
+use Rattle.control_desk.proofs.Turns.{gives_step, key_finished, follows_step}
+use Rattle.control_desk.proofs.desks.ControlDesk.done_held.Goals as goal
 
 pub give-requires-clause-follows : goal.give-requires-clause-follows
 give-requires-clause-follows g c =

@@ -1,5 +1,5 @@
-use Rattle.shared_board.proofs.Turns.{calls}
-use Rattle.shared_board.proofs.desks.ControlDesk.expect_creations.Goals as goal
+use Rattle.control_desk.proofs.Turns.{calls}
+use Rattle.control_desk.proofs.desks.ControlDesk.expect_creations.Goals as goal
 
 pub returns-clause-step : goal.returns-clause-step
 returns-clause-step g c = calls _ _ _ _ _ c.take-held.ensures.taken tt c.expect_creations_held.ensures.known

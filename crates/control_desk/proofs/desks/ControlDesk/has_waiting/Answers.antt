@@ -1,8 +1,8 @@
 use Rattle.std.specs.Prelude.{◌≡◌, refl, Option, Some, None, is_some, option_map}
 use Rattle.std.proofs.Common.{◌∙◌, ap}
-use Rattle.controllers.specs.WorkQueues.{handed}
-use Rattle.shared_board.proofs.Turns.{calls}
-use Rattle.shared_board.proofs.desks.ControlDesk.has_waiting.Goals as goal
+use Rattle.spec_client_go.specs.WorkQueues.{handed}
+use Rattle.control_desk.proofs.Turns.{calls}
+use Rattle.control_desk.proofs.desks.ControlDesk.has_waiting.Goals as goal
 
 some_mapped : {X Y : Type 0} (f : X → Y) (o : Option X) → is_some o ≡ is_some (option_map f o)
 some_mapped f None = refl

@@ -1,12 +1,12 @@
 use Rattle.std.proofs.Common.{◌∙◌, ap, refl}
 use Rattle.std.specs.Prelude.{map}
-use Rattle.control_desk.specs.Seen.{observation_of}
+use Rattle.work_board.specs.Seen.{observation_of}
 use Rattle.work_keys.specs.WorkKeys.{work_key_of}
-use Rattle.shared_board.specs.Desks.{known}
-use Rattle.shared_board.specs.Hands.{board}
-use Rattle.shared_board.specs.Steps.{in_hand, observe}
-use Rattle.shared_board.proofs.Turns.{follows_step, gives_step, key_stays}
-use Rattle.shared_board.proofs.desks.ControlDesk.observe_held.Goals as goal
+use Rattle.control_desk.specs.Desks.{known}
+use Rattle.control_desk.specs.Hands.{board}
+use Rattle.control_desk.specs.Steps.{in_hand, observe}
+use Rattle.control_desk.proofs.Turns.{follows_step, gives_step, key_stays}
+use Rattle.control_desk.proofs.desks.ControlDesk.observe_held.Goals as goal
 
 pub give-requires-clause-follows : goal.give-requires-clause-follows
 give-requires-clause-follows g c =

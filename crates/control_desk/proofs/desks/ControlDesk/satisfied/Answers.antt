@@ -1,8 +1,8 @@
 use Rattle.std.proofs.Common.{◌∙◌, ap, sym}
-use Rattle.control.specs.Boards.{is_satisfied}
-use Rattle.control_desk.specs.Seen.{owner_of}
-use Rattle.shared_board.proofs.Turns.{calls}
-use Rattle.shared_board.proofs.desks.ControlDesk.satisfied.Goals as goal
+use Rattle.spec_work_board.specs.Boards.{is_satisfied}
+use Rattle.work_board.specs.Seen.{owner_of}
+use Rattle.control_desk.proofs.Turns.{calls}
+use Rattle.control_desk.proofs.desks.ControlDesk.satisfied.Goals as goal
 
 pub returns-clause-step : goal.returns-clause-step
 returns-clause-step g c =

@@ -1,8 +1,8 @@
 use Rattle.std.proofs.Common.{◌∙◌, ap, sym}
 use Rattle.baton.specs.Marks.{made_by}
 use Rattle.crossbeam_queue.specs.Passes.{view}
-use Rattle.shared_board.proofs.Turns.{taken_by, board_of}
-use Rattle.shared_board.proofs.desks.ControlDesk.take.Goals as goal
+use Rattle.control_desk.proofs.Turns.{taken_by, board_of}
+use Rattle.control_desk.proofs.desks.ControlDesk.take.Goals as goal
 
 pub returns-clause-holding : goal.returns-clause-holding
 returns-clause-holding g c =

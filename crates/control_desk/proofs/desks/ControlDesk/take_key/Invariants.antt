@@ -1,7 +1,7 @@
-use Rattle.shared_board.specs.Desks.{known}
-use Rattle.shared_board.specs.Hands.{board}
-use Rattle.shared_board.specs.Steps.{taking}
-use Rattle.shared_board.proofs.desks.ControlDesk.take_key.Given as goal
+use Rattle.control_desk.specs.Desks.{known}
+use Rattle.control_desk.specs.Hands.{board}
+use Rattle.control_desk.specs.Steps.{taking}
+use Rattle.control_desk.proofs.desks.ControlDesk.take_key.Given as goal
 
 abbrev pub ghosts-take_key_held : goal.ghosts-take_key_held
 ghosts-take_key_held g a = record { entry = taking (board (known a.pass.now).seen) }

@@ -1,11 +1,11 @@
 use Rattle.std.proofs.Common.{option_map, ◌∙◌, ap}
-use Rattle.controllers.specs.WorkQueues.{handed}
+use Rattle.spec_client_go.specs.WorkQueues.{handed}
 use Rattle.work_keys.specs.WorkKeys.{work_key_of}
-use Rattle.shared_board.specs.Desks.{known}
-use Rattle.shared_board.specs.Hands.{board}
-use Rattle.shared_board.specs.Steps.{in_hand}
-use Rattle.shared_board.proofs.Turns.{gives_take, key_taken}
-use Rattle.shared_board.proofs.desks.ControlDesk.take_key_held.Goals as goal
+use Rattle.control_desk.specs.Desks.{known}
+use Rattle.control_desk.specs.Hands.{board}
+use Rattle.control_desk.specs.Steps.{in_hand}
+use Rattle.control_desk.proofs.Turns.{gives_take, key_taken}
+use Rattle.control_desk.proofs.desks.ControlDesk.take_key_held.Goals as goal
 
 pub give-requires-clause-state : goal.give-requires-clause-state
 give-requires-clause-state g c opening so =

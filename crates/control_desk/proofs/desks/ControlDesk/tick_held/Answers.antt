@@ -1,10 +1,10 @@
 use Rattle.std.proofs.Common.{◌∙◌, ap, refl}
-use Rattle.control.specs.Boards.{Board, may_tick}
-use Rattle.shared_board.specs.Desks.{known}
-use Rattle.shared_board.specs.Hands.{board}
-use Rattle.shared_board.specs.Steps.{in_hand, tick}
-use Rattle.shared_board.proofs.Turns.{follows_step, gives_step, key_stays}
-use Rattle.shared_board.proofs.desks.ControlDesk.tick_held.Goals as goal
+use Rattle.spec_work_board.specs.Boards.{Board, may_tick}
+use Rattle.control_desk.specs.Desks.{known}
+use Rattle.control_desk.specs.Hands.{board}
+use Rattle.control_desk.specs.Steps.{in_hand, tick}
+use Rattle.control_desk.proofs.Turns.{follows_step, gives_step, key_stays}
+use Rattle.control_desk.proofs.desks.ControlDesk.tick_held.Goals as goal
 
 pub give-requires-clause-follows : goal.give-requires-clause-follows
 give-requires-clause-follows g c =

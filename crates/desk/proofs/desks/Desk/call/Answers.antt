@@ -1,6 +1,6 @@
 use Rattle.std.proofs.Common.{refl}
-use Rattle.shared_desk.proofs.Stepping.{restated}
-use Rattle.shared_desk.proofs.desks.Desk.call.Goals as goal
+use Rattle.desk.proofs.Stepping.{restated}
+use Rattle.desk.proofs.desks.Desk.call.Goals as goal
 
 pub returns-in-Ok-clause-call : goal.returns-in-Ok-clause-call
 returns-in-Ok-clause-call g c = let step = c.in-Ok.ensures.call in restated g.A.Asking.MayAsk _ _ _ _ _ _ step refl step.says.0

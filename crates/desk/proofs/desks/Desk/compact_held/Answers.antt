@@ -1,8 +1,8 @@
 use Rattle.baton.specs.Marks.{entries}
-use Rattle.keys.specs.Faults.{refusal_of}
-use Rattle.shared_desk.specs.Desks.{known}
-use Rattle.shared_desk.proofs.Compacted.{compaction_follows, gives_compaction, compaction_done, compaction_refused}
-use Rattle.shared_desk.proofs.desks.Desk.compact_held.Goals as goal
+use Rattle.object_keys.specs.Faults.{refusal_of}
+use Rattle.desk.specs.Desks.{known}
+use Rattle.desk.proofs.Compacted.{compaction_follows, gives_compaction, compaction_done, compaction_refused}
+use Rattle.desk.proofs.desks.Desk.compact_held.Goals as goal
 
 pub give-requires-clause-follows : goal.give-requires-clause-follows
 give-requires-clause-follows g c =

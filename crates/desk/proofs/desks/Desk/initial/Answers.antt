@@ -1,10 +1,10 @@
 use Rattle.std.proofs.Common.{sym}
 use Rattle.baton.specs.Marks.{entries}
 use Rattle.selector.specs.Views.{view_of}
-use Rattle.shared_desk.specs.Desks.{known}
-use Rattle.shared_desk.proofs.Answered.{begun_there}
-use Rattle.shared_desk.proofs.Stepping.{steps}
-use Rattle.shared_desk.proofs.desks.Desk.initial.Goals as goal
+use Rattle.desk.specs.Desks.{known}
+use Rattle.desk.proofs.Answered.{begun_there}
+use Rattle.desk.proofs.Stepping.{steps}
+use Rattle.desk.proofs.desks.Desk.initial.Goals as goal
 
 pub returns-clause-initial : goal.returns-clause-initial
 returns-clause-initial g c =

@@ -1,13 +1,13 @@
 use Rattle.std.proofs.Common.{sym, subst}
 use Rattle.baton.specs.Marks.{entries}
-use Rattle.definitions.specs.Verbs.{Outcome}
-use Rattle.desk.specs.Replies.{Lists}
-use Rattle.requests.specs.Collected.{list_seen}
+use Rattle.spec_api.specs.Verbs.{Outcome}
+use Rattle.server.specs.Replies.{Lists}
+use Rattle.request_parts.specs.Collected.{list_seen}
 use Rattle.selector.specs.Views.{view_of}
-use Rattle.shared_desk.specs.Desks.{known}
-use Rattle.shared_desk.proofs.Answered.{same_list}
-use Rattle.shared_desk.proofs.Stepping.{steps}
-use Rattle.shared_desk.proofs.desks.Desk.list.Goals as goal
+use Rattle.desk.specs.Desks.{known}
+use Rattle.desk.proofs.Answered.{same_list}
+use Rattle.desk.proofs.Stepping.{steps}
+use Rattle.desk.proofs.desks.Desk.list.Goals as goal
 
 pub returns-clause-list : goal.returns-clause-list
 returns-clause-list g c =

@@ -1,13 +1,13 @@
 use Rattle.std.proofs.Common.{Ok, Err, subst}
 use Rattle.baton.specs.Marks.{entries}
-use Rattle.definitions.specs.Verbs.{Outcome}
-use Rattle.requests.specs.Requests.{request_of}
-use Rattle.shared_desk.specs.Desks.{known}
-use Rattle.shared_desk.specs.Told.{Answers}
-use Rattle.shared_desk.proofs.Answered.{same_answer}
-use Rattle.shared_desk.proofs.Coming.{writes_follow}
-use Rattle.shared_desk.proofs.Entering.{gives_write}
-use Rattle.shared_desk.proofs.desks.Desk.serve_held.Goals as goal
+use Rattle.spec_api.specs.Verbs.{Outcome}
+use Rattle.request_parts.specs.Requests.{request_of}
+use Rattle.desk.specs.Desks.{known}
+use Rattle.desk.specs.Told.{Answers}
+use Rattle.desk.proofs.Answered.{same_answer}
+use Rattle.desk.proofs.Coming.{writes_follow}
+use Rattle.desk.proofs.Entering.{gives_write}
+use Rattle.desk.proofs.desks.Desk.serve_held.Goals as goal
 
 pub give-requires-clause-follows : goal.give-requires-clause-follows
 give-requires-clause-follows g c =

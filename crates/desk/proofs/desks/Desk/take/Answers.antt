@@ -1,6 +1,6 @@
 use Rattle.crossbeam_queue.specs.Passes.{view}
-use Rattle.shared_desk.proofs.Stepping.{taken, held}
-use Rattle.shared_desk.proofs.desks.Desk.take.Goals as goal
+use Rattle.desk.proofs.Stepping.{taken, held}
+use Rattle.desk.proofs.desks.Desk.take.Goals as goal
 
 pub returns-clause-holding : goal.returns-clause-holding
 returns-clause-holding g c =

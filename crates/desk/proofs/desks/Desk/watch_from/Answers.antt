@@ -1,14 +1,14 @@
 use Rattle.std.proofs.Common.{sym, subst, Result}
 use Rattle.baton.specs.Marks.{entries}
-use Rattle.definitions.specs.Refusals.{Refusal}
-use Rattle.definitions.specs.Versions.{Watched}
+use Rattle.spec_api.specs.Refusals.{Refusal}
+use Rattle.spec_api.specs.Versions.{Watched}
 use Rattle.revisions.specs.Watches.{watched_of}
 use Rattle.selector.specs.Views.{view_of}
 use Rattle.watch_cache.specs.Served.{Serves}
-use Rattle.shared_desk.specs.Desks.{known}
-use Rattle.shared_desk.proofs.Answered.{same_watch}
-use Rattle.shared_desk.proofs.Stepping.{steps}
-use Rattle.shared_desk.proofs.desks.Desk.watch_from.Goals as goal
+use Rattle.desk.specs.Desks.{known}
+use Rattle.desk.proofs.Answered.{same_watch}
+use Rattle.desk.proofs.Stepping.{steps}
+use Rattle.desk.proofs.desks.Desk.watch_from.Goals as goal
 
 pub returns-clause-watch : goal.returns-clause-watch
 returns-clause-watch g c =

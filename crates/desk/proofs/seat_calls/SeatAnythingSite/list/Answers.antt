@@ -1,10 +1,10 @@
 use Rattle.std.proofs.Common.{◌≡◌, refl, Ok, Err}
-use Rattle.requests.specs.Collected.{list_seen}
+use Rattle.request_parts.specs.Collected.{list_seen}
 use Rattle.selector.specs.Views.{view_of}
-use Rattle.shared_desk.specs.Askings.{IsAny}
-use Rattle.shared_desk.specs.Desks.{known}
-use Rattle.shared_desk.proofs.Seated.{listed}
-use Rattle.shared_desk.proofs.seat_calls.SeatAnythingSite.list.Goals as goal
+use Rattle.desk.specs.Askings.{IsAny}
+use Rattle.desk.specs.Desks.{known}
+use Rattle.desk.proofs.Seated.{listed}
+use Rattle.desk.proofs.seat_calls.SeatAnythingSite.list.Goals as goal
 
 pub returns-in-Ok : goal.returns-in-Ok
 returns-in-Ok g c =

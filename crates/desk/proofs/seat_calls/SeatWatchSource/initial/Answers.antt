@@ -1,8 +1,8 @@
 use Rattle.std.proofs.Common.{◌≡◌, refl, Ok, Err}
 use Rattle.selector.specs.Views.{view_of}
-use Rattle.shared_desk.specs.Desks.{known}
-use Rattle.shared_desk.proofs.Seated.{begun}
-use Rattle.shared_desk.proofs.seat_calls.SeatWatchSource.initial.Goals as goal
+use Rattle.desk.specs.Desks.{known}
+use Rattle.desk.proofs.Seated.{begun}
+use Rattle.desk.proofs.seat_calls.SeatWatchSource.initial.Goals as goal
 
 pub returns-in-Ok : goal.returns-in-Ok
 returns-in-Ok g c =

@@ -1,9 +1,9 @@
 use Rattle.std.proofs.Common.{◌≡◌, refl, sym, subst, ◌∙◌, true≢false}
-use Rattle.requests.specs.Requests.{request_of}
-use Rattle.shared_desk.specs.Desks.{known}
-use Rattle.shared_desk.proofs.Seated.{called, call_refused}
-use Rattle.shared_desk.proofs.seats.Seat.request.Goals as goal
-use Rattle.shared_desk.proofs.seats.Seat.request.Goals.{then-served, else-served}
+use Rattle.request_parts.specs.Requests.{request_of}
+use Rattle.desk.specs.Desks.{known}
+use Rattle.desk.proofs.Seated.{called, call_refused}
+use Rattle.desk.proofs.seats.Seat.request.Goals as goal
+use Rattle.desk.proofs.seats.Seat.request.Goals.{then-served, else-served}
 
 pub returns-in-Err : goal.returns-in-Err
 returns-in-Err g c =

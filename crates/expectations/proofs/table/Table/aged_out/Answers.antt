@@ -1,5 +1,5 @@
 use Rattle.std.proofs.Common.{ap, sym, ◌∙◌, ◌++◌, ◌∷◌, map, subst, append-nil}
-use Rattle.controllers.specs.declared.controller.Controller.TheVariants as controller
+use Rattle.spec_client_go.specs.declared.controller.Controller.TheVariants as controller
 use Rattle.expectations.specs.Aged.{AreAgedOut, replica_set}
 use Rattle.expectations.proofs.AgedTexts.{walked, walked_here, walked_past, walked_are, pushed}
 use Rattle.work_keys.specs.WorkKeys.{work_key_of}

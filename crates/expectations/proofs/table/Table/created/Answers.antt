@@ -1,6 +1,6 @@
 use Rattle.std.proofs.Common.{◌-◌}
 use Rattle.std.proofs.Common.{ap, ◌∙◌}
-use Rattle.controllers.specs.Expectations.{created}
+use Rattle.spec_client_go.specs.Expectations.{created}
 use Rattle.expectations.proofs.Steps.{is_there, owner, table_of, changed_key, unchanged_key}
 use Rattle.expectations.proofs.table.Table.created.Goals as goal
 use Rattle.expectations.proofs.table.Table.created.Goals.{in-Some, in_default}

@@ -1,6 +1,6 @@
 use Rattle.std.specs.FinSet as set
 use Rattle.std.proofs.Common.{ap, ◌∙◌}
-use Rattle.controllers.specs.Expectations.{deleted}
+use Rattle.spec_client_go.specs.Expectations.{deleted}
 use Rattle.expectations.proofs.Steps.{is_there, owner, table_of, changed_key, unchanged_key}
 use Rattle.expectations.proofs.table.Table.deleted.Goals as goal
 use Rattle.expectations.proofs.table.Table.deleted.Goals.{in-Some, in_default}

@@ -1,6 +1,6 @@
 use Rattle.std.proofs.Common.{ap, ◌∙◌}
-use Rattle.controllers.specs.Expectations.{forgotten}
-use Rattle.keys.specs.Keys.{key_of}
+use Rattle.spec_client_go.specs.Expectations.{forgotten}
+use Rattle.object_keys.specs.Keys.{key_of}
 use Rattle.expectations.proofs.Steps.{forgot}
 use Rattle.expectations.proofs.table.Table.forget.Goals as goal
 

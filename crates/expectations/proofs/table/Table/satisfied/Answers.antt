@@ -1,5 +1,5 @@
 use Rattle.std.proofs.Common.{ap, ◌∙◌}
-use Rattle.controllers.specs.Expectations.{satisfied}
+use Rattle.spec_client_go.specs.Expectations.{satisfied}
 use Rattle.expectations.proofs.Steps.{owner, satisfied_where, satisfied_without}
 use Rattle.expectations.proofs.table.Table.satisfied.Goals as goal
 

@@ -1,7 +1,7 @@
 use Rattle.std.proofs.Common.{refl, arith}
-use Rattle.asked.specs.Asked.{asked_seen}
-use Rattle.http_loop.proofs.Chains.{asks_one}
-use Rattle.http_loop.proofs.asker.Asker.answer.Goals as goal
+use Rattle.request_decoding.specs.Asked.{asked_seen}
+use Rattle.http_event_loop.proofs.Chains.{asks_one}
+use Rattle.http_event_loop.proofs.asker.Asker.answer.Goals as goal
 
 pub returns-clause-asked : goal.returns-clause-asked
 returns-clause-asked g c =

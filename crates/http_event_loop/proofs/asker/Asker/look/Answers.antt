@@ -1,6 +1,6 @@
 use Rattle.std.proofs.Common.{refl, arith}
-use Rattle.http_loop.proofs.Chains.{asks_look}
-use Rattle.http_loop.proofs.asker.Asker.look.Goals as goal
+use Rattle.http_event_loop.proofs.Chains.{asks_look}
+use Rattle.http_event_loop.proofs.asker.Asker.look.Goals as goal
 
 pub returns-clause-asked : goal.returns-clause-asked
 returns-clause-asked g c =

@@ -1,5 +1,5 @@
 use Rattle.std.proofs.Common.{◌≡◌, length}
-use Rattle.http_loop.proofs.loops.Loops.open.Given as goal
+use Rattle.http_event_loop.proofs.loops.Loops.open.Given as goal
 
 -- as many places as numbers so far
 abbrev pub invariant-loop-number : goal.invariant-loop-number

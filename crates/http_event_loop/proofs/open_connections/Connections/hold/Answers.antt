@@ -1,5 +1,5 @@
-use Rattle.http_loop.proofs.Chains.{takes}
-use Rattle.http_loop.proofs.open_connections.Connections.hold.Goals as goal
+use Rattle.http_event_loop.proofs.Chains.{takes}
+use Rattle.http_event_loop.proofs.open_connections.Connections.hold.Goals as goal
 
 pub returns : goal.returns
 returns g c =

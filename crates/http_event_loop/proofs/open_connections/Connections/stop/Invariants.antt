@@ -1,5 +1,5 @@
-use Rattle.http_loop.specs.Asked.{HasAsked}
-use Rattle.http_loop.proofs.open_connections.Connections.stop.Given as goal
+use Rattle.http_event_loop.specs.Asked.{HasAsked}
+use Rattle.http_event_loop.proofs.open_connections.Connections.stop.Given as goal
 
 -- so much was asked as was counted
 abbrev pub invariant-loop-key : goal.invariant-loop-key

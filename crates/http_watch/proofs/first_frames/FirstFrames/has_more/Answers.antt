@@ -1,6 +1,6 @@
 use Rattle.std.proofs.Common.{◌||◌, nat_lt, length, sym, ap, ◌∙◌}
-use Rattle.watch_service.proofs.Pieces.{any_left}
-use Rattle.watch_service.proofs.first_frames.FirstFrames.has_more.Goals as goal
+use Rattle.http_watch.proofs.Pieces.{any_left}
+use Rattle.http_watch.proofs.first_frames.FirstFrames.has_more.Goals as goal
 
 pub returns-then-self : goal.returns-then-self
 returns-then-self c =

@@ -1,8 +1,8 @@
 use Rattle.std.proofs.Common.{◌++◌, IfSome, sym, ap, subst, ◌∙◌}
-use Rattle.keys.specs.Keys.{key_of}
-use Rattle.watch_service.specs.FirstFrames.{StopsAt}
-use Rattle.watch_service.proofs.Pieces.{piece_made}
-use Rattle.watch_service.proofs.first_frames.FirstFrames.push_next.Goals as goal
+use Rattle.object_keys.specs.Keys.{key_of}
+use Rattle.http_watch.specs.FirstFrames.{StopsAt}
+use Rattle.http_watch.proofs.Pieces.{piece_made}
+use Rattle.http_watch.proofs.first_frames.FirstFrames.push_next.Goals as goal
 
 pub returns-in-Some-clause-made : goal.returns-in-Some-clause-made
 returns-in-Some-clause-made c =

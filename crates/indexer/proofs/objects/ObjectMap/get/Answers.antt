@@ -1,6 +1,6 @@
 use Rattle.std.proofs.Common.{◌∙◌, ap, option_map}
-use Rattle.definitions.specs.History.{Entries, found}
-use Rattle.keys.specs.Keys.{key_of}
+use Rattle.spec_api.specs.History.{Entries, found}
+use Rattle.object_keys.specs.Keys.{key_of}
 use Rattle.reflector.proofs.SeenMaps.{data_of}
 use Rattle.indexer.proofs.SeenMaps.{seen-lookup, option_map-copied}
 use Rattle.indexer.proofs.objects.ObjectMap.get.Goals as goal

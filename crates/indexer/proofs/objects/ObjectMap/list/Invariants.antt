@@ -1,6 +1,6 @@
 use Rattle.std.proofs.Common.{◌≡◌, ◌++◌, map}
 use Rattle.reflector.specs.Seen.{members_seen}
-use Rattle.turns.specs.Entries.{entry_of}
+use Rattle.reconcile_types.specs.Entries.{entry_of}
 use Rattle.indexer.proofs.objects.ObjectMap.list.Given as goal
 
 -- what was found and what is still to be found is all

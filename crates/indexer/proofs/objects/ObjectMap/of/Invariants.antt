@@ -1,6 +1,6 @@
 use Rattle.std.proofs.Common.{◌≡◌, [], drop}
 use Rattle.std.specs.Map.{keys_of}
-use Rattle.controllers.specs.Reflectors.{put_all}
+use Rattle.spec_client_go.specs.Reflectors.{put_all}
 use Rattle.indexer.specs.Links.{IsIndexOf}
 use Rattle.reflector.specs.Seen.{members_seen}
 use Rattle.indexer.proofs.objects.ObjectMap.of.Given as goal

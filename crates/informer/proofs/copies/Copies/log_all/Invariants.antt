@@ -1,6 +1,6 @@
 use Rattle.std.proofs.Common.{◌≡◌}
-use Rattle.listers.specs.Copies.{IsSame}
-use Rattle.listers.proofs.copies.Copies.log_all.Given as goal
+use Rattle.informer.specs.Copies.{IsSame}
+use Rattle.informer.proofs.copies.Copies.log_all.Given as goal
 
 -- what waits is in the log up to the turn
 abbrev pub invariant-loop-turn : goal.invariant-loop-turn

@@ -1,11 +1,11 @@
 use Rattle.std.proofs.Common.{◌+◌, take, sym, subst, arith}
 use Rattle.left_right.specs.Sides.{view}
-use Rattle.listers.specs.Knowing.{latest}
-use Rattle.listers.specs.Published.{IsAfter}
-use Rattle.listers.specs.SharedDeltas.{all_in}
-use Rattle.listers.proofs.Keeps.{Says}
-use Rattle.listers.proofs.Logs.{log_one}
-use Rattle.listers.proofs.copies.Copies.log_next.Goals as goal
+use Rattle.informer.specs.Knowing.{latest}
+use Rattle.informer.specs.Published.{IsAfter}
+use Rattle.informer.specs.SharedDeltas.{all_in}
+use Rattle.informer.proofs.Keeps.{Says}
+use Rattle.informer.proofs.Logs.{log_one}
+use Rattle.informer.proofs.copies.Copies.log_next.Goals as goal
 
 pub invariant_of-self-in-Ok : goal.invariant_of-self-in-Ok
 invariant_of-self-in-Ok c =

@@ -1,12 +1,12 @@
 use Rattle.std.proofs.Common.{◌<◌, length, sym, ap, ◌∙◌, subst, arith}
 use Rattle.left_right.specs.Sides.{view}
 use Rattle.reflector.specs.Deltas.{deltas_of}
-use Rattle.listers.specs.Copies.{deltas_waiting}
-use Rattle.listers.specs.SharedDeltas.{all_in}
-use Rattle.listers.proofs.Batches.{after_batch, published_batch}
-use Rattle.listers.proofs.Keeps.{publishes}
-use Rattle.listers.proofs.Logs.{all_logged}
-use Rattle.listers.proofs.copies.Copies.publish_batch.Goals as goal
+use Rattle.informer.specs.Copies.{deltas_waiting}
+use Rattle.informer.specs.SharedDeltas.{all_in}
+use Rattle.informer.proofs.Batches.{after_batch, published_batch}
+use Rattle.informer.proofs.Keeps.{publishes}
+use Rattle.informer.proofs.Logs.{all_logged}
+use Rattle.informer.proofs.copies.Copies.publish_batch.Goals as goal
 
 pub publish_as-writer-requires : goal.publish_as-writer-requires
 publish_as-writer-requires g c next is =

@@ -1,5 +1,5 @@
-use Rattle.listers.specs.Copies.{deltas_waiting}
-use Rattle.listers.proofs.copies.Copies.publish_prepared.Given as goal
+use Rattle.informer.specs.Copies.{deltas_waiting}
+use Rattle.informer.proofs.copies.Copies.publish_prepared.Given as goal
 
 abbrev pub ghosts-publish_batch : goal.ghosts-publish_batch
 ghosts-publish_batch g a = record { deltas = deltas_waiting a.self }

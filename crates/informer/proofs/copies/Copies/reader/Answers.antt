@@ -1,5 +1,5 @@
-use Rattle.listers.proofs.Keeps.{admits, forks, merges}
-use Rattle.listers.proofs.copies.Copies.reader.Goals as goal
+use Rattle.informer.proofs.Keeps.{admits, forks, merges}
+use Rattle.informer.proofs.copies.Copies.reader.Goals as goal
 
 pub reader-requires : goal.reader-requires
 reader-requires c = admits

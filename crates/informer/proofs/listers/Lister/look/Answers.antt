@@ -1,9 +1,9 @@
 use Rattle.std.proofs.Common.{List, sym, ap, subst}
 use Rattle.reflector.specs.declared.deltas.Delta.{Delta}
-use Rattle.listers.specs.Knowing.{StartsWithAll, latest}
-use Rattle.listers.specs.Listers.{known}
-use Rattle.listers.proofs.Keeps.{sees}
-use Rattle.listers.proofs.listers.Lister.look.Goals as goal
+use Rattle.informer.specs.Knowing.{StartsWithAll, latest}
+use Rattle.informer.specs.Listers.{known}
+use Rattle.informer.proofs.Keeps.{sees}
+use Rattle.informer.proofs.listers.Lister.look.Goals as goal
 
 pub enter_as-requires : goal.enter_as-requires
 enter_as-requires c = sees _ _

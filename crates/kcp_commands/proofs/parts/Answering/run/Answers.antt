@@ -1,8 +1,8 @@
 use denote.Exit.{no}
 use denote.Param.{param}
 use denote.Param.Send.{IsSync, sendable, param_send, arg_send}
-use Rattle.commands.proofs.Sent.{looping}
-use Rattle.commands.proofs.parts.Answering.run.Goals as goal
+use Rattle.kcp_commands.proofs.Sent.{looping}
+use Rattle.kcp_commands.proofs.parts.Answering.run.Goals as goal
 
 pub run_row-requires-send-H : goal.run_row-requires-send-H
 run_row-requires-send-H g c κs within =

@@ -1,11 +1,11 @@
 use Rattle.std.proofs.Common.{◌≡◌, [], ◌∷◌, Some, ◌++◌, All, length, map, reverse, ap, sym, subst, ◌∙◌, arith}
 use Rattle.std.proofs.lemmas.List.{length-append, nil_from_length}
 use Rattle.std.proofs.lemmas.List.Elements.{All-pop, All-push}
-use Rattle.shared_desk.specs.Desks.{IsNewAt, known}
-use Rattle.shared_desk.specs.Seats.{known_at}
-use Rattle.loopback.specs.Serving.{IsNewOf, seat_of}
-use Rattle.loopback.proofs.Made.{made_more, made_all, made_count, new_of}
-use Rattle.loopback.proofs.answering.Shared.event_loops.Goals as goal
+use Rattle.desk.specs.Desks.{IsNewAt, known}
+use Rattle.desk.specs.Seats.{known_at}
+use Rattle.kcp_loopback.specs.Serving.{IsNewOf, seat_of}
+use Rattle.kcp_loopback.proofs.Made.{made_more, made_all, made_count, new_of}
+use Rattle.kcp_loopback.proofs.answering.Shared.event_loops.Goals as goal
 
 pub loop-pass-preserved : goal.loop-pass-preserved
 loop-pass-preserved g c =

@@ -1,8 +1,8 @@
 use Rattle.std.proofs.Common.{◌≡◌, ◌++◌, All, length, map, reverse}
-use Rattle.shared_desk.specs.Desks.{IsNewAt, known}
-use Rattle.shared_desk.specs.Seats.{known_at}
-use Rattle.loopback.specs.Serving.{IsNewOf, seat_of}
-use Rattle.loopback.proofs.answering.Shared.event_loops.Given as goal
+use Rattle.desk.specs.Desks.{IsNewAt, known}
+use Rattle.desk.specs.Seats.{known_at}
+use Rattle.kcp_loopback.specs.Serving.{IsNewOf, seat_of}
+use Rattle.kcp_loopback.proofs.answering.Shared.event_loops.Given as goal
 
 -- what is made has the last of the passes, the last of all first
 abbrev pub invariant-loop-pass : goal.invariant-loop-pass

@@ -1,10 +1,10 @@
 use Rattle.std.proofs.Common.{inl}
-use Rattle.requests.specs.Requests.{request_of}
-use Rattle.shared_desk.specs.Askings.{IsAny}
-use Rattle.shared_desk.specs.Seats.{Calls}
-use Rattle.loopback.specs.Asking.{Rings, seat_at}
-use Rattle.loopback.proofs.Told.{told}
-use Rattle.loopback.proofs.own_server.OwnServer.answer.Goals as goal
+use Rattle.request_parts.specs.Requests.{request_of}
+use Rattle.desk.specs.Askings.{IsAny}
+use Rattle.desk.specs.Seats.{Calls}
+use Rattle.kcp_loopback.specs.Asking.{Rings, seat_at}
+use Rattle.kcp_loopback.proofs.Told.{told}
+use Rattle.kcp_loopback.proofs.own_server.OwnServer.answer.Goals as goal
 
 pub returns-in-Some-clause-asks : goal.returns-in-Some-clause-asks
 returns-in-Some-clause-asks g c =

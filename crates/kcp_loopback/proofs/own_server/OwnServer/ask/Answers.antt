@@ -1,9 +1,9 @@
 use Rattle.std.proofs.Common.{Ok, sym, ap, ◌∙◌}
-use Rattle.asked.specs.Asked.{asked_seen}
-use Rattle.requests.specs.Requests.{request_of}
-use Rattle.loopback.specs.Asking.{seat_at}
-use Rattle.loopback.proofs.Asking.{asks_read, asks_refused}
-use Rattle.loopback.proofs.own_server.OwnServer.ask.Goals as goal
+use Rattle.request_decoding.specs.Asked.{asked_seen}
+use Rattle.request_parts.specs.Requests.{request_of}
+use Rattle.kcp_loopback.specs.Asking.{seat_at}
+use Rattle.kcp_loopback.proofs.Asking.{asks_read, asks_refused}
+use Rattle.kcp_loopback.proofs.own_server.OwnServer.ask.Goals as goal
 
 pub returns-in-Ok-Request-clause-asks : goal.returns-in-Ok-Request-clause-asks
 returns-in-Ok-Request-clause-asks g c =

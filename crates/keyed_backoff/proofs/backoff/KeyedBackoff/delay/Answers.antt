@@ -1,6 +1,6 @@
 use Rattle.std.proofs.Common.{ap, ◌∙◌, ◌+◌, min, unwrap_or}
 use Rattle.std.specs.FinMap as map_of
-use Rattle.controllers.specs.Delays.{delay_after}
+use Rattle.spec_client_go.specs.Delays.{delay_after}
 use Rattle.named_keys.specs.Numbers.{said}
 use Rattle.named_keys.proofs.Numbers.{inserted}
 use Rattle.keyed_backoff.specs.Failures.{failed, failures}

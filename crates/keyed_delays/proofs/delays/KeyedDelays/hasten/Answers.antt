@@ -1,6 +1,6 @@
 use Rattle.std.proofs.Common.{◌≡◌, ap, sym, ◌∙◌, None, Some}
 use Rattle.std.specs.FinMap as map_of
-use Rattle.controllers.specs.Delays.{earlier}
+use Rattle.spec_client_go.specs.Delays.{earlier}
 use Rattle.named_keys.specs.Numbers.{said}
 use Rattle.named_keys.proofs.Numbers.{found, inserted}
 use Rattle.keyed_delays.proofs.Steps.{hastened, sooner}

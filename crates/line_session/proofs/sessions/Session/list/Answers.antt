@@ -1,8 +1,8 @@
-use Rattle.server_state.specs.Servers.{list_served}
-use Rattle.requests.specs.Collected.{list_seen}
+use Rattle.spec_server.specs.Servers.{list_served}
+use Rattle.request_parts.specs.Collected.{list_seen}
 use Rattle.selector.specs.Views.{view_of}
-use Rattle.session.proofs.Served.{list-refused}
-use Rattle.session.proofs.sessions.Session.list.Goals as goal
+use Rattle.line_session.proofs.Served.{list-refused}
+use Rattle.line_session.proofs.sessions.Session.list.Goals as goal
 
 pub returns-in-Err : goal.returns-in-Err
 returns-in-Err c =

@@ -1,10 +1,10 @@
 use Rattle.std.proofs.Common.{◌∙◌, ap, sym, Ok}
-use Rattle.asked.specs.Asked.{asked_seen}
-use Rattle.requests.specs.Collected.{list_seen, watch_seen}
+use Rattle.request_decoding.specs.Asked.{asked_seen}
+use Rattle.request_parts.specs.Collected.{list_seen, watch_seen}
 use Rattle.selector.specs.Views.{view_of}
-use Rattle.session.specs.SessionStates.{reply_for, of_write, written_by}
-use Rattle.session.proofs.Changes.{list_still, watch_still}
-use Rattle.session.proofs.sessions.Session.prepare_asked.Goals as goal
+use Rattle.line_session.specs.SessionStates.{reply_for, of_write, written_by}
+use Rattle.line_session.proofs.Changes.{list_still, watch_still}
+use Rattle.line_session.proofs.sessions.Session.prepare_asked.Goals as goal
 
 pub returns-in_ok-list-in-Ok-List-clause-effect : goal.returns-in_ok-list-in-Ok-List-clause-effect
 returns-in_ok-list-in-Ok-List-clause-effect c =

@@ -1,8 +1,8 @@
 use Rattle.std.proofs.Common.{◌≡◌, ◌∙◌, ap}
-use Rattle.server_state.specs.Servers.{Server}
-use Rattle.session.specs.SessionStates.{SessionState}
-use Rattle.session.proofs.Changes.{compaction_refused}
-use Rattle.session.proofs.sessions.Session.prepare_compaction.Goals as goal
+use Rattle.spec_server.specs.Servers.{Server}
+use Rattle.line_session.specs.SessionStates.{SessionState}
+use Rattle.line_session.proofs.Changes.{compaction_refused}
+use Rattle.line_session.proofs.sessions.Session.prepare_compaction.Goals as goal
 
 pub returns-then-present-revision-clause-reply : goal.returns-then-present-revision-clause-reply
 returns-then-present-revision-clause-reply c =

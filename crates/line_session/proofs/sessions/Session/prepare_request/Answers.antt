@@ -1,8 +1,8 @@
 use Rattle.std.proofs.Common.{◌∙◌, ap}
-use Rattle.session.specs.SessionStates.{accepted, of_write}
-use Rattle.session.proofs.Served.{served-write, served-text}
-use Rattle.requests.specs.Requests.{request_of}
-use Rattle.session.proofs.sessions.Session.prepare_request.Goals as goal
+use Rattle.line_session.specs.SessionStates.{accepted, of_write}
+use Rattle.line_session.proofs.Served.{served-write, served-text}
+use Rattle.request_parts.specs.Requests.{request_of}
+use Rattle.line_session.proofs.sessions.Session.prepare_request.Goals as goal
 
 pub returns-in_ok-line-in-Ok-clause-reply : goal.returns-in_ok-line-in-Ok-clause-reply
 returns-in_ok-line-in-Ok-clause-reply c =

@@ -1,8 +1,8 @@
 use Rattle.std.proofs.Common.{◌∙◌, ap, sym, subst}
-use Rattle.line_protocol.specs.Lines.{line_of}
-use Rattle.session.specs.SessionStates.{changed_by, HasRoom}
-use Rattle.session.proofs.Changes.{effects_change, effects_fit}
-use Rattle.session.proofs.sessions.Session.serve_text.Goals as goal
+use Rattle.spec_line_protocol.specs.Lines.{line_of}
+use Rattle.line_session.specs.SessionStates.{changed_by, HasRoom}
+use Rattle.line_session.proofs.Changes.{effects_change, effects_fit}
+use Rattle.line_session.proofs.sessions.Session.serve_text.Goals as goal
 
 pub commit-requires : goal.commit-requires
 commit-requires c = subst (HasRoom c.args.self.now) (sym c.in_ok-reply.ensures.effect) (effects_fit c.args.self.now (line_of c.args.text.now))

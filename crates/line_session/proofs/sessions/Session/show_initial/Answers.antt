@@ -1,11 +1,11 @@
-use Rattle.definitions.specs.Replies.{shown, watch_reply}
-use Rattle.definitions.specs.WatchReplies.{opening_lines}
-use Rattle.definitions.specs.declared.versions.Start.TheVariants.{Streamed}
-use Rattle.line_protocol.specs.Lines.{reply_text}
+use Rattle.spec_api.specs.Replies.{shown, watch_reply}
+use Rattle.spec_api.specs.WatchReplies.{opening_lines}
+use Rattle.spec_api.specs.declared.versions.Start.TheVariants.{Streamed}
+use Rattle.spec_line_protocol.specs.Lines.{reply_text}
 use Rattle.selector.specs.Views.{view_of}
-use Rattle.server_state.specs.Servers.{watch_served}
-use Rattle.session.proofs.Served.{stream-given, stream-refused, as-given}
-use Rattle.session.proofs.sessions.Session.show_initial.Goals as goal
+use Rattle.spec_server.specs.Servers.{watch_served}
+use Rattle.line_session.proofs.Served.{stream-given, stream-refused, as-given}
+use Rattle.line_session.proofs.sessions.Session.show_initial.Goals as goal
 
 pub returns-in-Ok : goal.returns-in-Ok
 returns-in-Ok c =

@@ -1,6 +1,6 @@
-use Rattle.following.proofs.Steps.{listed_step, is_listed_as}
+use Rattle.list_and_watch.proofs.Steps.{listed_step, is_listed_as}
 use Rattle.reflector.specs.Deltas.{delta_of}
-use Rattle.following.proofs.follower.Follower.on_listed.Goals as goal
+use Rattle.list_and_watch.proofs.follower.Follower.on_listed.Goals as goal
 
 pub returns-in-Ok-append-clause-ok : goal.returns-in-Ok-append-clause-ok
 returns-in-Ok-append-clause-ok g c =

@@ -1,11 +1,11 @@
 use Rattle.std.proofs.Common.{map, ap, ◌∙◌}
-use Rattle.control_desk.specs.Seen.{observation_of}
-use Rattle.controllers.specs.OwedKeys.{keys_of}
+use Rattle.work_board.specs.Seen.{observation_of}
+use Rattle.spec_client_go.specs.OwedKeys.{keys_of}
 use Rattle.indexer.specs.Shifted.{shift_of}
-use Rattle.reconciling.specs.ControlPlanes.{change_of}
-use Rattle.reconciling.specs.PodObservations.{observations}
-use Rattle.shared_board.specs.Desks.{known}
-use Rattle.turns.specs.Hands.{looks_of}
+use Rattle.spec_sim_control_plane.specs.ControlPlanes.{change_of}
+use Rattle.spec_sim_control_plane.specs.PodObservations.{observations}
+use Rattle.control_desk.specs.Desks.{known}
+use Rattle.reconcile_types.specs.Hands.{looks_of}
 use Rattle.work_keys.specs.WorkKeys.{work_key_of}
 use Rattle.manager.proofs.Calls.{called_as}
 use Rattle.manager.proofs.changes.Handling.handle.Goals as goal

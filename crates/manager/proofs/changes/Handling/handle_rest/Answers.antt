@@ -1,5 +1,5 @@
 use Rattle.std.proofs.Common.{◌<◌, length, arith}
-use Rattle.shared_board.specs.Desks.{known}
+use Rattle.control_desk.specs.Desks.{known}
 use Rattle.indexer.specs.Shifted.{shift_of}
 use Rattle.manager.proofs.Rest.{as_far_more}
 use Rattle.manager.proofs.changes.Handling.handle_rest.Goals as goal

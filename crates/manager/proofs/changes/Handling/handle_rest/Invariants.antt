@@ -1,5 +1,5 @@
 use Rattle.std.proofs.Common.{◌-◌, map, drop, length}
-use Rattle.shared_board.specs.Desks.{known, IsPassAt}
+use Rattle.control_desk.specs.Desks.{known, IsPassAt}
 use Rattle.indexer.specs.Shifted.{shift_of}
 use Rattle.manager.proofs.Rest.{IsAsFar}
 use Rattle.manager.proofs.changes.Handling.handle_rest.Given as goal

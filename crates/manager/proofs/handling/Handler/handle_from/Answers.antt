@@ -1,6 +1,6 @@
 use Rattle.std.proofs.Common.{map}
 use Rattle.indexer.specs.Shifted.{shift_of}
-use Rattle.shared_board.specs.Desks.{known}
+use Rattle.control_desk.specs.Desks.{known}
 use Rattle.manager.proofs.None.{none_handled, on_err}
 use Rattle.manager.proofs.handling.Handler.handle_from.Goals as goal
 

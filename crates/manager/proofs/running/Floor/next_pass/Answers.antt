@@ -1,6 +1,6 @@
 use Rattle.std.proofs.Common.{Some}
 use Rattle.std.proofs.lemmas.List.Elements.{All-pop}
-use Rattle.shared_board.specs.Desks.{IsNewAt}
+use Rattle.control_desk.specs.Desks.{IsNewAt}
 use Rattle.manager.proofs.running.Floor.next_pass.Goals as goal
 
 pub returns-clause-pass : goal.returns-clause-pass

@@ -1,6 +1,6 @@
 use Rattle.std.proofs.Common.{arith}
-use Rattle.shared_board.specs.Desks.{known}
-use Rattle.shared_board.specs.Steps.{tick}
+use Rattle.control_desk.specs.Desks.{known}
+use Rattle.control_desk.specs.Steps.{tick}
 use Rattle.manager.proofs.Passing.{passed_by}
 use Rattle.manager.proofs.ticking.Ticker.tick.Goals as goal
 

@@ -1,6 +1,6 @@
 use Rattle.std.proofs.Common.{arith, [], map}
-use Rattle.shared_board.specs.Desks.{known}
-use Rattle.shared_board.specs.Steps.{observe}
+use Rattle.control_desk.specs.Desks.{known}
+use Rattle.control_desk.specs.Steps.{observe}
 use Rattle.work_keys.specs.WorkKeys.{work_key_of}
 use Rattle.manager.proofs.Calls.{waited, waited_on}
 use Rattle.manager.proofs.None.{on_err}

@@ -1,6 +1,6 @@
 use Rattle.std.proofs.Common.{Some}
 use Rattle.std.proofs.lemmas.List.Elements.{All-pop}
-use Rattle.shared_desk.specs.Desks.{IsNewAt}
+use Rattle.desk.specs.Desks.{IsNewAt}
 use Rattle.manager_tests.proofs.servers.SharedServer.next.Goals as goal
 
 pub new-requires : goal.new-requires

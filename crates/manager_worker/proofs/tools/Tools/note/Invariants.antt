@@ -1,5 +1,5 @@
 use Rattle.std.proofs.Common.{◌≡◌}
-use Rattle.worker_turns.proofs.tools.Tools.note.Given as goal
+use Rattle.manager_worker.proofs.tools.Tools.note.Given as goal
 
 abbrev pub invariant-loop : goal.invariant-loop
 invariant-loop g l =

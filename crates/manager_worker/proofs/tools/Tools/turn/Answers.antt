@@ -1,8 +1,8 @@
 -- Each round goes on by a step that comes next, and has the same key until the turn is over.
 use Rattle.std.proofs.Common.{◌∙◌, Bool, refl, subst}
-use Rattle.worker_turns.proofs.Ways.{goes-on}
-use Rattle.worker_turns.specs.Stepping.{Advances, none}
-use Rattle.worker_turns.proofs.tools.Tools.turn.Goals as goal
+use Rattle.manager_worker.proofs.Ways.{goes-on}
+use Rattle.manager_worker.specs.Stepping.{Advances, none}
+use Rattle.manager_worker.proofs.tools.Tools.turn.Goals as goal
 
 pub loop-init : goal.loop-init
 loop-init g c = (tt, tt, c.requires.pass, refl, none)

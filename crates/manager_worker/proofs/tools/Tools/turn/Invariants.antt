@@ -1,7 +1,7 @@
 use Rattle.std.proofs.Common.{◌≡◌}
-use Rattle.shared_board.specs.Desks.{IsPassAt, key_in_hand}
-use Rattle.worker_turns.specs.Stepping.{Reaches}
-use Rattle.worker_turns.proofs.tools.Tools.turn.Given as goal
+use Rattle.control_desk.specs.Desks.{IsPassAt, key_in_hand}
+use Rattle.manager_worker.specs.Stepping.{Reaches}
+use Rattle.manager_worker.proofs.tools.Tools.turn.Given as goal
 
 abbrev pub invariant-loop : goal.invariant-loop
 invariant-loop g l =

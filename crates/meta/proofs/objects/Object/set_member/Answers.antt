@@ -2,7 +2,7 @@ use Rattle.std.proofs.Common.{◌≡◌, false, ap, ◌∙◌}
 use Rattle.serde_json.specs.View.{view, members_view}
 use Rattle.serde_json.specs.Written.{has_float, members_have_float}
 use Rattle.serde_json.proofs.Views.{view-Object}
-use Rattle.definitions.proofs.NoFloatsRead.{members_have_float-put}
+use Rattle.spec_api.proofs.NoFloatsRead.{members_have_float-put}
 use Rattle.json_values.proofs.NoFloats.{members_of-no_float}
 use Rattle.meta.proofs.objects.Object.set_member.Goals as goal
 

@@ -1,5 +1,5 @@
 use Rattle.std.proofs.Common.{codes, map, option_map, string_bytes, ap, ◌∙◌}
-use Rattle.definitions.specs.Metadata.{label, metadata}
+use Rattle.spec_api.specs.Metadata.{label, metadata}
 use Rattle.meta.specs.Labels.{label_of, label_text}
 use Rattle.meta.specs.Stored.{data_kept, tree_view}
 use Rattle.meta.proofs.LabelTexts.{label_text-label}

@@ -3,8 +3,8 @@ use Rattle.serde_json.specs.View.{view, members_view}
 use Rattle.serde_json.specs.Written.{has_float, members_have_float}
 use Rattle.serde_json.specs.declared.value.Value.{Object}
 use Rattle.serde_json.proofs.Views.{view-Object}
-use Rattle.definitions.proofs.NoFloatsRead.{members_have_float-put}
-use Rattle.drafts.proofs.draft.Draft.close.Goals as goal
+use Rattle.spec_api.proofs.NoFloatsRead.{members_have_float-put}
+use Rattle.metadata_editor.proofs.draft.Draft.close.Goals as goal
 
 pub from_whole-requires-clause-no_float : goal.from_whole-requires-clause-no_float
 from_whole-requires-clause-no_float c =

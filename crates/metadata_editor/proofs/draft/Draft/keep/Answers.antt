@@ -2,7 +2,7 @@ use Rattle.std.proofs.Common.{◌≡◌, false, ap, ◌∙◌}
 use Rattle.serde_json.specs.View.{view, members_view}
 use Rattle.serde_json.specs.Written.{has_float, members_have_float}
 use Rattle.json_values.proofs.NoFloats.{after_put-no_float, members_have_float-without}
-use Rattle.drafts.proofs.draft.Draft.keep.Goals as goal
+use Rattle.metadata_editor.proofs.draft.Draft.keep.Goals as goal
 
 pub invariant_of-self : goal.invariant_of-self
 invariant_of-self c =

@@ -2,13 +2,13 @@ use Rattle.std.proofs.Common.{◌≡◌, false, codes, refl, ap, ◌∙◌}
 use Rattle.serde_json.specs.Data.{null, object, put}
 use Rattle.serde_json.specs.View.{view, members_view}
 use Rattle.serde_json.specs.Written.{members_have_float}
-use Rattle.definitions.specs.Metadata.{with_metadata}
+use Rattle.spec_api.specs.Metadata.{with_metadata}
 use Rattle.serde_json.specs.Find.{get_member}
-use Rattle.definitions.specs.Values.{members_of}
-use Rattle.definitions.proofs.NoFloatsRead.{members_have_float-put}
+use Rattle.spec_api.specs.Values.{members_of}
+use Rattle.spec_api.proofs.NoFloatsRead.{members_have_float-put}
 use Rattle.json_values.proofs.NoFloats.{members_of-no_float, inner_of-no_float, found_no_float}
 use Rattle.json_values.proofs.PutAndTaken.{put-put, object-members_of, members_of-found_or_null}
-use Rattle.drafts.proofs.draft.Draft.new.Goals as goal
+use Rattle.metadata_editor.proofs.draft.Draft.new.Goals as goal
 
 pub invariant_of-result : goal.invariant_of-result
 invariant_of-result c =

@@ -2,7 +2,7 @@ use Rattle.std.proofs.Common.{ap, ◌∙◌}
 use Rattle.serde_json.specs.View.{members_view}
 use Rattle.serde_json.specs.Written.{members_have_float}
 use Rattle.json_values.proofs.NoFloats.{members_have_float-without}
-use Rattle.drafts.proofs.draft.Draft.remove.Goals as goal
+use Rattle.metadata_editor.proofs.draft.Draft.remove.Goals as goal
 
 pub invariant_of-self : goal.invariant_of-self
 invariant_of-self c =

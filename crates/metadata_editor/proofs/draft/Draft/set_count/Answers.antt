@@ -2,7 +2,7 @@ use Rattle.std.proofs.Common.{ap}
 use Rattle.serde_json.specs.View.{view}
 use Rattle.serde_json.specs.Written.{has_float}
 use Rattle.json_values.proofs.NoFloats.{after_put-no_float}
-use Rattle.drafts.proofs.draft.Draft.set_count.Goals as goal
+use Rattle.metadata_editor.proofs.draft.Draft.set_count.Goals as goal
 
 pub invariant_of-self : goal.invariant_of-self
 invariant_of-self c = (

@@ -4,7 +4,7 @@ use Rattle.serde_json.specs.Written.{has_float}
 use Rattle.serde_json.specs.declared.value.Value.TheVariants.{Array}
 use Rattle.serde_json.proofs.Views.{view-Array}
 use Rattle.json_values.proofs.NoFloats.{after_put-no_float}
-use Rattle.drafts.proofs.draft.Draft.set_items.Goals as goal
+use Rattle.metadata_editor.proofs.draft.Draft.set_items.Goals as goal
 
 pub invariant_of-self : goal.invariant_of-self
 invariant_of-self c = (

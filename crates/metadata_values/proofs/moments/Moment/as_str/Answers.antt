@@ -1,8 +1,8 @@
 use Rattle.std.proofs.Common.{◌≡◌, true, codes, refl, IsUtf8, IsAscii, rules}
 use Rattle.std.proofs.lemmas.Str.{IsUtf8-from_ascii}
-use Rattle.definitions.specs.Moments.{is_moment}
-use Rattle.stamps.proofs.Forms.{moment-form, has_form-ascii}
-use Rattle.stamps.proofs.moments.Moment.as_str.Goals as goal
+use Rattle.spec_api.specs.Moments.{is_moment}
+use Rattle.metadata_values.proofs.Forms.{moment-form, has_form-ascii}
+use Rattle.metadata_values.proofs.moments.Moment.as_str.Goals as goal
 
 pub unwrap-requires : goal.unwrap-requires
 unwrap-requires c =

@@ -1,7 +1,7 @@
 use Rattle.std.proofs.Common.{◌≡◌, true, codes, sym, rules}
-use Rattle.definitions.specs.Moments.{is_moment}
-use Rattle.stamps.proofs.Forms.{moment-form, has_form-length}
-use Rattle.stamps.proofs.moments.Moment.parse.Goals as goal
+use Rattle.spec_api.specs.Moments.{is_moment}
+use Rattle.metadata_values.proofs.Forms.{moment-form, has_form-length}
+use Rattle.metadata_values.proofs.moments.Moment.parse.Goals as goal
 
 pub copy_from_slice-requires : goal.copy_from_slice-requires
 copy_from_slice-requires c =

@@ -1,6 +1,6 @@
 use Rattle.std.proofs.Common.{refl, inr, sym, ap, ◌∙◌, string_bytes, rules, ◌≡◌}
 use Rattle.serde_json.specs.View.{view}
-use Rattle.definitions.specs.PageTokens.{token_text}
+use Rattle.spec_api.specs.PageTokens.{token_text}
 use Rattle.pages.specs.Read.{lent_token}
 use Rattle.pages.proofs.TokenReading.{no_members, other_text}
 use Rattle.pages.proofs.tokens.Token.read.Goals as goal

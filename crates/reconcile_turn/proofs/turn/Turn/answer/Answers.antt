@@ -1,5 +1,5 @@
-use Rattle.workers.proofs.Turning.{answer_invariant, answer_view}
-use Rattle.workers.proofs.turn.Turn.answer.Goals as goal
+use Rattle.reconcile_turn.proofs.Turning.{answer_invariant, answer_view}
+use Rattle.reconcile_turn.proofs.turn.Turn.answer.Goals as goal
 
 pub invariant_of-self-2 : goal.invariant_of-self-2
 invariant_of-self-2 c =

@@ -1,13 +1,13 @@
 use Rattle.std.proofs.Common.{◌≡◌, ◌∙◌, ◌<◌, ◌^◌, List, length, map, filter, Some, option_map, sym, ap, subst}
 use Rattle.std.specs.Arc.{arc_value}
-use Rattle.controllers.specs.Commands as commands
-use Rattle.control_desk.specs.Seen.{owner_of}
-use Rattle.reconciling.specs.Turns.{owner, creates_pod}
-use Rattle.turns.specs.Commands.{command_of, commands_of}
-use Rattle.turn_parts.specs.Pods.{commands_lent}
-use Rattle.turn_parts.proofs.Phases.{few_creations}
-use Rattle.workers.proofs.Turning.{planned_now}
-use Rattle.workers.proofs.turn.Turn.expected.Goals as goal
+use Rattle.spec_client_go.specs.Commands as commands
+use Rattle.work_board.specs.Seen.{owner_of}
+use Rattle.spec_sim_control_plane.specs.Turns.{owner, creates_pod}
+use Rattle.reconcile_types.specs.Commands.{command_of, commands_of}
+use Rattle.reconcile_parts.specs.Pods.{commands_lent}
+use Rattle.reconcile_parts.proofs.Phases.{few_creations}
+use Rattle.reconcile_turn.proofs.Turning.{planned_now}
+use Rattle.reconcile_turn.proofs.turn.Turn.expected.Goals as goal
 
 pub expected_of-requires : goal.expected_of-requires
 expected_of-requires c =

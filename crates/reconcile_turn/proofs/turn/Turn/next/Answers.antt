@@ -2,18 +2,18 @@ use Rattle.std.proofs.Common.{◌≡◌, ◌∙◌, ◌&&◌, false, not, ap, su
 use Rattle.std.proofs.lemmas.List.{length-map}
 use Rattle.std.specs.Global.{Global}
 use Rattle.std.specs.declared.sync.Arc.{Arc}
-use Rattle.reconciling.specs.NextSteps.{issuing}
-use Rattle.turns.specs.declared.commands.Plan.{Plan}
-use Rattle.turn_parts.specs.NextCommands.{IsCommandNext}
-use Rattle.turn_parts.specs.Seen.{answer_of}
-use Rattle.turn_parts.specs.declared.answers.Answer.{Answer}
+use Rattle.spec_sim_control_plane.specs.NextSteps.{issuing}
+use Rattle.reconcile_types.specs.declared.commands.Plan.{Plan}
+use Rattle.reconcile_parts.specs.NextCommands.{IsCommandNext}
+use Rattle.reconcile_parts.specs.Seen.{answer_of}
+use Rattle.reconcile_parts.specs.declared.answers.CommandAnswer.{CommandAnswer}
 use Rattle.std.specs.Arc.{arc_value}
-use Rattle.turns.specs.Commands.{commands_of}
-use Rattle.turn_parts.specs.Answers.{answers_of}
-use Rattle.turn_parts.proofs.Phases.{next_expects, next_command}
-use Rattle.workers.proofs.Turning.{planned_now, has_expected_now}
-use Rattle.workers.proofs.turn.Turn.next.Goals as goal
-use Rattle.workers.proofs.turn.Turn.next.Goals.{else-expects_pods-via-then-expects_pods+else-not-self, else-expects_pods-via-else-expects_pods}
+use Rattle.reconcile_types.specs.Commands.{commands_of}
+use Rattle.reconcile_parts.specs.Answers.{answers_of}
+use Rattle.reconcile_parts.proofs.Phases.{next_expects, next_command}
+use Rattle.reconcile_turn.proofs.Turning.{planned_now, has_expected_now}
+use Rattle.reconcile_turn.proofs.turn.Turn.next.Goals as goal
+use Rattle.reconcile_turn.proofs.turn.Turn.next.Goals.{else-expects_pods-via-then-expects_pods+else-not-self, else-expects_pods-via-else-expects_pods}
 
 pub returns-then-not-self : goal.returns-then-not-self
 returns-then-not-self c =
@@ -36,7 +36,7 @@ returns-else-expects_pods c =
       | else-expects_pods-via-then-expects_pods+else-not-self w ↦ grind (arith, w.if-expects_pods, w.if-not-self)
       | else-expects_pods-via-else-expects_pods w ↦ grind (arith, w.if-expects_pods)
     ] in
-    let len : c.len-in-Planned.result ≡ length (answers_of c.self.inside.answers.items) = omega (arith, length-map c.self.inside.answers.items (λ (a : Arc Answer Global). answer_of (arc_value a))) in
+    let len : c.len-in-Planned.result ≡ length (answers_of c.self.inside.answers.items) = omega (arith, length-map c.self.inside.answers.items (λ (a : Arc CommandAnswer Global). answer_of (arc_value a))) in
     next_command c.next_command.result t cs b (answers_of c.self.inside.answers.items) c.self.inside.is_accepted c.len-in-Planned.result p.is_in p.issues p.fits p.accepted
     (nothing b t.has_expected c.self.inside.has_expected (has_expected_now c.self.inside t c.self.view_is) none) len
     (subst (λ (p : Plan). IsCommandNext c.next_command.result (issuing c.self.inside.is_accepted (drop c.len-in-Planned.result (commands_of p)))) c.deref.ensures c.next_command.ensures)

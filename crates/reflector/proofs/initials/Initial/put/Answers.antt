@@ -1,6 +1,6 @@
 use Rattle.std.proofs.Common.{◌≡◌, ap, ◌∙◌}
-use Rattle.controllers.specs.Reflectors.{put_step, name_in, Initial, played}
-use Rattle.keys.specs.Keys.{key_of}
+use Rattle.spec_client_go.specs.Reflectors.{put_step, name_in, Initial, played}
+use Rattle.object_keys.specs.Keys.{key_of}
 use Rattle.reflector.proofs.Playing.{put_seen, put_kinds}
 use Rattle.reflector.proofs.initials.Initial.put.Goals as goal
 

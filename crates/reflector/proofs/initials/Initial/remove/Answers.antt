@@ -1,5 +1,5 @@
 use Rattle.std.proofs.Common.{ap, ◌∙◌}
-use Rattle.controllers.specs.Reflectors.{remove_step, Initial, played}
+use Rattle.spec_client_go.specs.Reflectors.{remove_step, Initial, played}
 use Rattle.reflector.proofs.Playing.{removed_seen, removed_kinds}
 use Rattle.reflector.proofs.initials.Initial.remove.Goals as goal
 

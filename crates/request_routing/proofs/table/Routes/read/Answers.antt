@@ -2,14 +2,14 @@ use Rattle.std.proofs.Common.{◌≡◌, refl, sym, ap, ◌∙◌, subst, Some, 
 use Rattle.matchit.specs.Router.{RouteOf}
 use Rattle.matchit.specs.Params.{walk, named, AllText}
 use Rattle.matchit.specs.Seek.{first}
-use Rattle.definitions.specs.Targets.{segments}
-use Rattle.definitions.proofs.PathForms.{Form, form_of, route_of, by_form}
-use Rattle.routes.specs.Table.{table}
-use Rattle.routes.specs.Seen.{assembled}
-use Rattle.routes.specs.declared.entries.Entry.{Entry}
-use Rattle.routes.proofs.Plain.{AreBytes}
-use Rattle.routes.proofs.Texts.{Reads, reads, bytes-from, now-of, assembled-reads, texts-reads}
-use Rattle.routes.proofs.table.Routes.read.Goals as goal
+use Rattle.spec_api.specs.Targets.{segments}
+use Rattle.spec_api.proofs.PathForms.{Form, form_of, route_of, by_form}
+use Rattle.request_routing.specs.Table.{table}
+use Rattle.request_routing.specs.Seen.{assembled}
+use Rattle.request_routing.specs.declared.entries.RouteEntry.{RouteEntry}
+use Rattle.request_routing.proofs.Plain.{AreBytes}
+use Rattle.request_routing.proofs.Texts.{Reads, reads, bytes-from, now-of, assembled-reads, texts-reads}
+use Rattle.request_routing.proofs.table.Routes.read.Goals as goal
 
 none : (path : List ℕ) (o : Option Form) → Reads path None o → None ≡ option_and_then route_of o
 none path None h = refl
@@ -21,7 +21,7 @@ returns-in_default c =
     let bytes : AreBytes path = bytes-from path (λ i. let f : Fits w8 (get_or path i 0) = c.type_inv.path i in omega arith) in
     let h : Reads path (first table path) (form_of (segments path)) = reads path bytes c.utf8.path in
     let e : first table path ≡ None = ap (λ z. first z path) (sym c.args.self.now.whole) ∙ c.in_default.ensures.missing in
-    let P : Option (RouteOf Entry) → Type 0 = λ z. Reads path z (form_of (segments path)) in
+    let P : Option (RouteOf RouteEntry) → Type 0 = λ z. Reads path z (form_of (segments path)) in
     none path (form_of (segments path)) (subst P e h) ∙ sym (by_form path)
 
 pub returns : goal.returns
@@ -30,9 +30,9 @@ returns c =
     let found = c.in-Ok.found in
     let bytes : AreBytes path = bytes-from path (λ i. let f : Fits w8 (get_or path i 0) = c.type_inv.path i in omega arith) in
     let h : Reads path (first table path) (form_of (segments path)) = reads path bytes c.utf8.path in
-    let r : RouteOf Entry = record { pattern = found.params.pattern.now; text = found.params.text.now; names = found.params.names.now; value = found.value.now } in
+    let r : RouteOf RouteEntry = record { pattern = found.params.pattern.now; text = found.params.text.now; names = found.params.names.now; value = found.value.now } in
     let e : first table path ≡ Some r = ap (λ z. first z path) (sym c.args.self.now.whole) ∙ c.in-Ok.ensures.found in
-    let P : Option (RouteOf Entry) → Type 0 = λ z. Reads path z (form_of (segments path)) in
+    let P : Option (RouteOf RouteEntry) → Type 0 = λ z. Reads path z (form_of (segments path)) in
     let known : Reads path (Some r) (form_of (segments path)) = subst P e h in
     let same : found.params.path.now ≡ path = c.in-Ok.ensures.path in
     let moved : walk r.pattern r.text path r.names 0 0 ≡ walk r.pattern r.text found.params.path.now r.names 0 0 = ap (λ z. walk r.pattern r.text z r.names 0 0) (sym same) in

@@ -1,5 +1,5 @@
 use Rattle.std.proofs.Common.{length, sym, ap, ◌∙◌}
-use Rattle.definitions.specs.History.{History, writes}
+use Rattle.spec_api.specs.History.{History, writes}
 use Rattle.revisions.proofs.Histories.{length-writes}
 use Rattle.revisions.proofs.journal.Journal.len.Goals as goal
 

@@ -1,5 +1,5 @@
-use Rattle.desk.proofs.Windows.{stands_compacted}
-use Rattle.desk.proofs.servers.Server.compact.Goals as goal
+use Rattle.server.proofs.Windows.{stands_compacted}
+use Rattle.server.proofs.servers.Server.compact.Goals as goal
 
 pub invariant_of-self : goal.invariant_of-self
 invariant_of-self c =

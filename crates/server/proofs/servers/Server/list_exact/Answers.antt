@@ -1,14 +1,14 @@
 use Rattle.std.proofs.Common.{◌≡◌, map, ap, sym, subst, ◌∙◌}
 use Rattle.std.specs.List.Sorted.{IsStrictlySortedBy}
 use Rattle.std.specs.Map.{keys_of}
-use Rattle.definitions.specs.Keys.{key_cmp}
-use Rattle.definitions.specs.History.{viewed}
-use Rattle.definitions.proofs.PutLaws.{sorted_from}
+use Rattle.spec_api.specs.Keys.{key_cmp}
+use Rattle.spec_api.specs.History.{viewed}
+use Rattle.spec_api.proofs.PutLaws.{sorted_from}
 use Rattle.meta.specs.Members.{member_of}
 use Rattle.selector.specs.Views.{view_of}
-use Rattle.desk.proofs.Windows.{ascending_from}
-use Rattle.desk.proofs.ListedMembers.{viewed_ascending, earlier_in_place}
-use Rattle.desk.proofs.servers.Server.list_exact.Goals as goal
+use Rattle.server.proofs.Windows.{ascending_from}
+use Rattle.server.proofs.ListedMembers.{viewed_ascending, earlier_in_place}
+use Rattle.server.proofs.servers.Server.list_exact.Goals as goal
 
 pub list_at-requires : goal.list_at-requires
 list_at-requires c =

@@ -1,8 +1,8 @@
 use Rattle.std.proofs.Common.{◌≡◌, ap, arith}
-use Rattle.server_state.specs.Servers.{Server}
+use Rattle.spec_server.specs.Servers.{Server}
 use Rattle.watch_cache.specs.Changes.{change_seen}
-use Rattle.desk.proofs.Windows.{stands_recorded}
-use Rattle.desk.proofs.servers.Server.record.Goals as goal
+use Rattle.server.proofs.Windows.{stands_recorded}
+use Rattle.server.proofs.servers.Server.record.Goals as goal
 
 pub invariant_of-self : goal.invariant_of-self
 invariant_of-self c =

@@ -1,10 +1,10 @@
 use Rattle.std.proofs.Common.{◌≡◌, false, subst}
-use Rattle.server_state.specs.Servers.{Server}
-use Rattle.definitions.specs.Verbs.{overflows}
+use Rattle.spec_server.specs.Servers.{Server}
+use Rattle.spec_api.specs.Verbs.{overflows}
 use Rattle.meta.specs.Writes.{write_of}
-use Rattle.object_requests.specs.Requests.{request_of}
-use Rattle.desk.proofs.Served.{served_room}
-use Rattle.desk.proofs.servers.Server.serve.Goals as goal
+use Rattle.request_types.specs.Requests.{request_of}
+use Rattle.server.proofs.Served.{served_room}
+use Rattle.server.proofs.servers.Server.serve.Goals as goal
 
 pub take-requires : goal.take-requires
 take-requires c =

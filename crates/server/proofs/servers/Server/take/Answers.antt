@@ -1,6 +1,6 @@
 use Rattle.meta.specs.Writes.{write_of}
-use Rattle.desk.proofs.Windows.{stands_written}
-use Rattle.desk.proofs.servers.Server.take.Goals as goal
+use Rattle.server.proofs.Windows.{stands_written}
+use Rattle.server.proofs.servers.Server.take.Goals as goal
 
 pub invariant_of-self-2 : goal.invariant_of-self-2
 invariant_of-self-2 c =

@@ -1,13 +1,13 @@
 use Rattle.std.proofs.Common.{◌≡◌, ◌<◌, ◌+◌, length, map, take, ap, sym, ◌∙◌, Ok, arith}
 use Rattle.std.proofs.lemmas.List.{length-map, take-map}
-use Rattle.definitions.specs.Versions.{last_change}
-use Rattle.server_state.specs.Servers.{window_of}
-use Rattle.server_state.specs.Recorded.{recorded_since}
+use Rattle.spec_api.specs.Versions.{last_change}
+use Rattle.spec_server.specs.Servers.{window_of}
+use Rattle.spec_server.specs.Recorded.{recorded_since}
 use Rattle.revisions.specs.Events.{event_seen}
 use Rattle.selector.specs.Views.{view_of}
 use Rattle.watch_cache.specs.Served.{Serves}
-use Rattle.desk.proofs.Watches.{given_part}
-use Rattle.desk.proofs.servers.Server.watch_from.Goals as goal
+use Rattle.server.proofs.Watches.{given_part}
+use Rattle.server.proofs.servers.Server.watch_from.Goals as goal
 
 pub returns : goal.returns
 returns c =

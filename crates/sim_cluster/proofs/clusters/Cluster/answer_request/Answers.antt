@@ -1,8 +1,8 @@
 use Rattle.std.proofs.Common.{subst}
-use Rattle.requests.specs.Requests.{request_of}
-use Rattle.cluster.specs.Standing.{Stands}
-use Rattle.cluster.proofs.Requests.{answer_read}
-use Rattle.cluster.proofs.clusters.Cluster.answer_request.Goals as goal
+use Rattle.request_parts.specs.Requests.{request_of}
+use Rattle.sim_cluster.specs.Standing.{Stands}
+use Rattle.sim_cluster.proofs.Requests.{answer_read}
+use Rattle.sim_cluster.proofs.clusters.Cluster.answer_request.Goals as goal
 
 pub returns-clause-read : goal.returns-clause-read
 returns-clause-read c =

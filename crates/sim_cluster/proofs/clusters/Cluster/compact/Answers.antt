@@ -1,5 +1,5 @@
-use Rattle.cluster.proofs.Answered.{cluster_of, standing_compacted}
-use Rattle.cluster.proofs.clusters.Cluster.compact.Goals as goal
+use Rattle.sim_cluster.proofs.Answered.{cluster_of, standing_compacted}
+use Rattle.sim_cluster.proofs.clusters.Cluster.compact.Goals as goal
 
 pub invariant_of-self-2 : goal.invariant_of-self-2
 invariant_of-self-2 c =

@@ -1,8 +1,8 @@
-use Rattle.definitions.specs.declared.kinds.Kind.TheVariants.{ConfigMap, Pod, ReplicaSet, Deployment}
-use Rattle.followers.specs.Outcomes.{outcome_of}
-use Rattle.steps.specs.Steps.{move_of}
-use Rattle.cluster.proofs.Answered.{cluster_of, lists_at, kept_standing, cluster_moved, outcome_moved}
-use Rattle.cluster.proofs.clusters.Cluster.moves.Goals as goal
+use Rattle.spec_api.specs.declared.kinds.Kind.TheVariants.{ConfigMap, Pod, ReplicaSet, Deployment}
+use Rattle.sim_followers.specs.Outcomes.{outcome_of}
+use Rattle.sim_steps.specs.Steps.{move_of}
+use Rattle.sim_cluster.proofs.Answered.{cluster_of, lists_at, kept_standing, cluster_moved, outcome_moved}
+use Rattle.sim_cluster.proofs.clusters.Cluster.moves.Goals as goal
 
 pub make-requires : goal.make-requires
 make-requires c =

@@ -1,5 +1,5 @@
-use Rattle.cluster.proofs.Answered.{standing_opened}
-use Rattle.cluster.proofs.clusters.Cluster.open.Goals as goal
+use Rattle.sim_cluster.proofs.Answered.{standing_opened}
+use Rattle.sim_cluster.proofs.clusters.Cluster.open.Goals as goal
 
 pub invariant_of-result : goal.invariant_of-result
 invariant_of-result c =

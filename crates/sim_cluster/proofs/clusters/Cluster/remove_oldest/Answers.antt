@@ -1,7 +1,7 @@
-use Rattle.definitions.specs.declared.kinds.Kind.TheVariants.{ConfigMap, Pod, ReplicaSet, Deployment}
-use Rattle.cluster.proofs.Answered.{cluster_of}
-use Rattle.cluster.proofs.Handling.{standing_handled}
-use Rattle.cluster.proofs.clusters.Cluster.remove_oldest.Goals as goal
+use Rattle.spec_api.specs.declared.kinds.Kind.TheVariants.{ConfigMap, Pod, ReplicaSet, Deployment}
+use Rattle.sim_cluster.proofs.Answered.{cluster_of}
+use Rattle.sim_cluster.proofs.Handling.{standing_handled}
+use Rattle.sim_cluster.proofs.clusters.Cluster.remove_oldest.Goals as goal
 
 pub invariant_of-self : goal.invariant_of-self
 invariant_of-self c =

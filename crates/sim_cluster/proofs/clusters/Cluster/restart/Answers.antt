@@ -1,5 +1,5 @@
-use Rattle.cluster.proofs.Answered.{cluster_of, standing_restarted}
-use Rattle.cluster.proofs.clusters.Cluster.restart.Goals as goal
+use Rattle.sim_cluster.proofs.Answered.{cluster_of, standing_restarted}
+use Rattle.sim_cluster.proofs.clusters.Cluster.restart.Goals as goal
 
 pub invariant_of-self : goal.invariant_of-self
 invariant_of-self c =

@@ -1,8 +1,8 @@
 use Rattle.std.proofs.Common.{subst, map}
-use Rattle.steps.specs.Steps.{step_of}
-use Rattle.cluster.specs.Standing.{Stands}
-use Rattle.cluster.proofs.Headlines.{shown_run, risen_run, replaced_run}
-use Rattle.cluster.proofs.clusters.Cluster.run.Goals as goal
+use Rattle.sim_steps.specs.Steps.{step_of}
+use Rattle.sim_cluster.specs.Standing.{Stands}
+use Rattle.sim_cluster.proofs.Headlines.{shown_run, risen_run, replaced_run}
+use Rattle.sim_cluster.proofs.clusters.Cluster.run.Goals as goal
 
 pub returns-clause-lists : goal.returns-clause-lists
 returns-clause-lists c =

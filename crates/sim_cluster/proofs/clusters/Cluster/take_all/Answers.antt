@@ -1,10 +1,10 @@
 use Rattle.std.proofs.Common.{[], refl}
-use Rattle.steps.specs.Steps.{step_of}
-use Rattle.steps.specs.declared.steps.Step.{Step}
-use Rattle.steps.specs.declared.steps.Step.TheVariants.{Request}
-use Rattle.cluster.specs.ClusterStates.{step, run}
-use Rattle.cluster.proofs.Taking.{next_taken}
-use Rattle.cluster.proofs.clusters.Cluster.take_all.Goals as goal
+use Rattle.sim_steps.specs.Steps.{step_of}
+use Rattle.sim_steps.specs.declared.steps.Step.{Step}
+use Rattle.sim_steps.specs.declared.steps.Step.TheVariants.{Request}
+use Rattle.sim_cluster.specs.ClusterStates.{step, run}
+use Rattle.sim_cluster.proofs.Taking.{next_taken}
+use Rattle.sim_cluster.proofs.clusters.Cluster.take_all.Goals as goal
 
 pub loop-taken-preserved : goal.loop-taken-preserved
 loop-taken-preserved c =

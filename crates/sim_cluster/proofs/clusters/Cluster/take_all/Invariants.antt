@@ -1,7 +1,7 @@
 use Rattle.std.proofs.Common.{◌≡◌, map, take}
-use Rattle.steps.specs.Steps.{step_of}
-use Rattle.cluster.specs.ClusterStates.{run}
-use Rattle.cluster.proofs.clusters.Cluster.take_all.Given as goal
+use Rattle.sim_steps.specs.Steps.{step_of}
+use Rattle.sim_cluster.specs.ClusterStates.{run}
+use Rattle.sim_cluster.proofs.clusters.Cluster.take_all.Given as goal
 
 -- the steps so far were taken
 abbrev pub invariant-loop-taken : goal.invariant-loop-taken

@@ -1,10 +1,10 @@
 use Rattle.std.proofs.Common.{option_map, subst, sym}
 use Rattle.meta.specs.Writes.{write_of}
-use Rattle.cluster.specs.ClusterStates.{ClusterState}
-use Rattle.cluster.specs.Requested.{IsWriteOf}
-use Rattle.cluster.proofs.Answered.{cluster_of}
-use Rattle.cluster.proofs.Requests.{room_for, standing_taken}
-use Rattle.cluster.proofs.clusters.Cluster.take_write.Goals as goal
+use Rattle.sim_cluster.specs.ClusterStates.{ClusterState}
+use Rattle.sim_cluster.specs.Requested.{IsWriteOf}
+use Rattle.sim_cluster.proofs.Answered.{cluster_of}
+use Rattle.sim_cluster.proofs.Requests.{room_for, standing_taken}
+use Rattle.sim_cluster.proofs.clusters.Cluster.take_write.Goals as goal
 
 pub take-requires : goal.take-requires
 take-requires c =

@@ -1,12 +1,12 @@
 use Rattle.std.proofs.Common.{◌≡◌, ◌∙◌, sym, ap, subst, option_map, Some}
-use Rattle.reconciling.specs.Managers.{Manager}
-use Rattle.steps.specs.Actions.{delivery_of}
-use Rattle.managers.specs.Issuing.{coming_of}
-use Rattle.worker_slots.specs.Slots.{turn_of}
-use Rattle.managers.proofs.Issues.{slot_within, writes_it, manager_made, told_made, cluster_made}
-use Rattle.managers.specs.Outcomes.{outcome_of}
-use Rattle.managers.specs.declared.told_outcomes.ToldOutcome.{ToldOutcome}
-use Rattle.managers.proofs.manager.Manager.issue.Goals as goal
+use Rattle.spec_sim_control_plane.specs.Managers.{Manager}
+use Rattle.sim_steps.specs.Actions.{delivery_of}
+use Rattle.sim_manager.specs.Issuing.{coming_of}
+use Rattle.sim_worker_slots.specs.Slots.{turn_of}
+use Rattle.sim_manager.proofs.Issues.{slot_within, writes_it, manager_made, told_made, cluster_made}
+use Rattle.sim_manager.specs.Outcomes.{outcome_of}
+use Rattle.sim_manager.specs.declared.told_outcomes.ToldOutcome.{ToldOutcome}
+use Rattle.sim_manager.proofs.manager.Manager.issue.Goals as goal
 
 pub make-requires-clause-write : goal.make-requires-clause-write
 make-requires-clause-write c =

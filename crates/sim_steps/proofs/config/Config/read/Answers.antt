@@ -1,6 +1,6 @@
 use Rattle.std.proofs.Common.{◌∙◌}
-use Rattle.steps.proofs.ByWords.{config_first, config_alone}
-use Rattle.steps.proofs.config.Config.read.Goals as goal
+use Rattle.sim_steps.proofs.ByWords.{config_first, config_alone}
+use Rattle.sim_steps.proofs.config.Config.read.Goals as goal
 
 pub returns-in-Some : goal.returns-in-Some
 returns-in-Some c = c.with_first.ensures ∙ config_first c.args.line.now c.in-Some.first.now c.in-Some.rest.now c.in-Some.ensures

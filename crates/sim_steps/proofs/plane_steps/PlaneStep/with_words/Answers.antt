@@ -1,7 +1,7 @@
 use Rattle.std.proofs.Common.{◌∙◌, ap, sym, List, ℕ, Option, option_map, Bor}
-use Rattle.reconciling.specs.StepLines.{works_as}
-use Rattle.steps.specs.PlaneSteps.{plane_step_by_words}
-use Rattle.steps.proofs.plane_steps.PlaneStep.with_words.Goals as goal
+use Rattle.spec_sim_control_plane.specs.StepLines.{works_as}
+use Rattle.sim_steps.specs.PlaneSteps.{plane_step_by_words}
+use Rattle.sim_steps.proofs.plane_steps.PlaneStep.with_words.Goals as goal
 
 pub returns-in-Some : goal.returns-in-Some
 returns-in-Some c =

@@ -1,6 +1,6 @@
 use Rattle.std.proofs.Common.{◌∙◌}
-use Rattle.steps.proofs.ByWords.{first, alone}
-use Rattle.steps.proofs.words.Words.read.Goals as goal
+use Rattle.sim_steps.proofs.ByWords.{first, alone}
+use Rattle.sim_steps.proofs.words.Words.read.Goals as goal
 
 pub returns-in-Some : goal.returns-in-Some
 returns-in-Some c = c.with.ensures ∙ first c.args.text.now c.in-Some.first.now c.in-Some.rest.now c.in-Some.ensures

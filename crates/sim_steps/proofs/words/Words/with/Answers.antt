@@ -1,5 +1,5 @@
-use Rattle.steps.proofs.ByWords.{two, three, more}
-use Rattle.steps.proofs.words.Words.with.Goals as goal
+use Rattle.sim_steps.proofs.ByWords.{two, three, more}
+use Rattle.sim_steps.proofs.words.Words.with.Goals as goal
 
 pub returns-in_default : goal.returns-in_default
 returns-in_default c = two c.args.first.now c.args.rest.now c.in_default.ensures

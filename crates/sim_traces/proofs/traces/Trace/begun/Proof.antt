@@ -25,12 +25,12 @@ use denote.Triple.Spec.{Meets, triple_of}
 use denote.Triple.Table.{entered}
 use denote.Triple.Walked.{says, Stays, stay_dropped, walk_of, ends_at, walk_Meets, Goes-dropped}
 use Rattle.bytes.proofs.Walks.{none, none_made}
-use Rattle.steps.specs.contracts.config.Config as Config
-use Rattle.traces.specs.Taken.{begun}
-use Rattle.traces.specs.contracts.traces.Trace as Trace
-use Rattle.traces.specs.contracts.traces.Trace.begun as f
-use Rattle.traces.proofs.traces.Trace.begun.Statement as stated
-use Rattle.traces.proofs.traces.Trace.begun.Code as code
+use Rattle.sim_steps.specs.contracts.config.Config as Config
+use Rattle.sim_traces.specs.Taken.{begun}
+use Rattle.sim_traces.specs.contracts.traces.Trace as Trace
+use Rattle.sim_traces.specs.contracts.traces.Trace.begun as f
+use Rattle.sim_traces.proofs.traces.Trace.begun.Statement as stated
+use Rattle.sim_traces.proofs.traces.Trace.begun.Code as code
 
 abbrev stayed : Stays f.ended.signature.params f.ended.kept
 stayed = (stay_dropped (RefOf (0 ∷ []) tt (plain (λ _. Config.the_row)) (λ _. tt)) yes, tt)

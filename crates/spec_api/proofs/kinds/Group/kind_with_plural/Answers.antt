@@ -2,8 +2,8 @@ use Rattle.std.proofs.Common.{rules, tests, ◌&&◌, ◌∙◌}
 use Rattle.std.proofs.lemmas.Iterator.{YieldsList-from_slice}
 use Rattle.std.proofs.lemmas.Iterator.Search.{find_from_yields_List}
 use Rattle.std.specs.Str.{bytes_eq}
-use Rattle.definitions.specs.Kinds.{kinds, text_of_group, group_name, plural}
-use Rattle.definitions.proofs.kinds.Group.kind_with_plural.Goals as goal
+use Rattle.spec_api.specs.Kinds.{kinds, text_of_group, group_name, plural}
+use Rattle.spec_api.proofs.kinds.Group.kind_with_plural.Goals as goal
 
 pub returns : goal.returns
 returns c =

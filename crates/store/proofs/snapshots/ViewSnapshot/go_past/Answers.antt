@@ -1,5 +1,5 @@
 use Rattle.std.proofs.Common.{◌∙◌}
-use Rattle.keys.specs.Keys.{key_of}
+use Rattle.object_keys.specs.Keys.{key_of}
 use Rattle.selector.specs.Views.{view_of}
 use Rattle.store.specs.Chunks.{after_key}
 use Rattle.store.proofs.Suffixes.{gone_past}

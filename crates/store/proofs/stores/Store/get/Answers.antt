@@ -1,7 +1,7 @@
 use Rattle.std.proofs.Common.{◌∙◌, ap, option_map}
-use Rattle.definitions.specs.History.{found}
-use Rattle.server_state.specs.Snapshots.{Snapshot}
-use Rattle.keys.specs.Keys.{key_of}
+use Rattle.spec_api.specs.History.{found}
+use Rattle.spec_server.specs.Snapshots.{Snapshot}
+use Rattle.object_keys.specs.Keys.{key_of}
 use Rattle.meta.specs.declared.stored.StoredObject.{StoredObject}
 use Rattle.store.proofs.SeenMaps.{option_map-copied}
 use Rattle.store.proofs.stores.Store.get.Goals as goal

@@ -1,7 +1,7 @@
 use Rattle.std.proofs.Common.{◌∙◌, ap}
-use Rattle.definitions.specs.History.{viewed}
-use Rattle.definitions.specs.Pages.{after_place}
-use Rattle.server_state.specs.Snapshots.{Snapshot}
+use Rattle.spec_api.specs.History.{viewed}
+use Rattle.spec_api.specs.Pages.{after_place}
+use Rattle.spec_server.specs.Snapshots.{Snapshot}
 use Rattle.selector.specs.Views.{view_of}
 use Rattle.store.specs.Chunks.{after_key}
 use Rattle.store.specs.Seen.{members_seen}

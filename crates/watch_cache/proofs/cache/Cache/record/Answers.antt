@@ -1,7 +1,7 @@
 use Rattle.std.proofs.Common.{◌≡◌, ◌∙◌, ◌≤◌, ◌<◌, List, map, sym, ap, subst, arith}
 use Rattle.circular_buffer.specs.Buffer.{Buffer}
-use Rattle.definitions.specs.Windows.{Change as Kept, IsRising, last_revision}
-use Rattle.server_state.specs.Recorded.{Window}
+use Rattle.spec_api.specs.Windows.{Change as Kept, IsRising, last_revision}
+use Rattle.spec_server.specs.Recorded.{Window}
 use Rattle.watch_cache.specs.Changes.{change_seen}
 use Rattle.watch_cache.specs.declared.changes.Change.{Change}
 use Rattle.watch_cache.proofs.Recorded.{rising_kept, kept_last, last_kept}

@@ -1,6 +1,6 @@
 use Rattle.std.proofs.Common.{rules, ◌≡◌, ◌<◌, length, get_or, set, ap, ◌∙◌}
 use Rattle.std.proofs.lemmas.List.Edits.{map_over_more}
-use Rattle.server_state.specs.Recorded.{compacted_to}
+use Rattle.spec_server.specs.Recorded.{compacted_to}
 use Rattle.watch_cache.proofs.caches.Caches.compact.Goals as goal
 
 pub loop-place-preserved : goal.loop-place-preserved

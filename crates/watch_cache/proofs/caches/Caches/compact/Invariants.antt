@@ -1,5 +1,5 @@
 use Rattle.std.proofs.Common.{◌≡◌, ◌++◌, map, take, drop}
-use Rattle.server_state.specs.Recorded.{compacted_to}
+use Rattle.spec_server.specs.Recorded.{compacted_to}
 use Rattle.watch_cache.proofs.caches.Caches.compact.Given as goal
 
 -- the floors of the caches so far are moved

@@ -1,5 +1,5 @@
 use Rattle.std.proofs.Common.{◌≡◌, map, take}
-use Rattle.server_state.specs.Recorded.{opened}
+use Rattle.spec_server.specs.Recorded.{opened}
 use Rattle.watch_cache.proofs.caches.Caches.new.Given as goal
 
 -- there is a cache of each kind so far

@@ -1,7 +1,7 @@
 use Rattle.std.proofs.Common.{rules, ◌≡◌, ◌==◌, set, get_or, cond, sym, ap, ◌∙◌}
-use Rattle.definitions.specs.Kinds.{rank}
-use Rattle.server_state.specs.Codes.{window_at}
-use Rattle.server_state.specs.Recorded.{recorded}
+use Rattle.spec_api.specs.Kinds.{rank}
+use Rattle.spec_server.specs.Codes.{window_at}
+use Rattle.spec_server.specs.Recorded.{recorded}
 use Rattle.watch_cache.specs.Changes.{change_seen}
 use Rattle.watch_cache.proofs.KindWindows.{at_place, at_set}
 use Rattle.watch_cache.proofs.caches.Caches.record.Goals as goal

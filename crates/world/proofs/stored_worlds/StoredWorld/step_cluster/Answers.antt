@@ -1,4 +1,4 @@
-use Rattle.steps.specs.Steps.{step_of}
+use Rattle.sim_steps.specs.Steps.{step_of}
 use Rattle.world.proofs.Taken.{world_of, restarted_after, kept_after, stands_clustered}
 use Rattle.world.proofs.stored_worlds.StoredWorld.step_cluster.Goals as goal
 

@@ -1,4 +1,4 @@
-use Rattle.steps.specs.Actions.{action_of}
+use Rattle.sim_steps.specs.Actions.{action_of}
 use Rattle.world.proofs.Asked.{asked}
 use Rattle.world.proofs.Taken.{world_of, stands_acted}
 use Rattle.world.proofs.stored_worlds.StoredWorld.work.Goals as goal

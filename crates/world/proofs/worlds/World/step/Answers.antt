@@ -1,5 +1,5 @@
 use Rattle.std.proofs.Common.{subst}
-use Rattle.steps.specs.PlaneSteps.{plane_step_of}
+use Rattle.sim_steps.specs.PlaneSteps.{plane_step_of}
 use Rattle.world.specs.Standing.{Stands}
 use Rattle.world.specs.Outcomes.{outcome_of}
 use Rattle.world.proofs.Headlines.{headline_after}

@@ -1,4 +1,4 @@
-use Rattle.steps.specs.PlaneSteps.{plane_step_of}
+use Rattle.sim_steps.specs.PlaneSteps.{plane_step_of}
 use Rattle.world.proofs.Stood.{stands_taken}
 use Rattle.world.proofs.worlds.World.take.Goals as goal
 

@@ -1,10 +1,10 @@
 use Rattle.std.proofs.Common.{[], refl}
-use Rattle.steps.specs.PlaneSteps.{plane_step_of}
-use Rattle.steps.specs.declared.plane_steps.PlaneStep.{PlaneStep}
-use Rattle.steps.specs.declared.plane_steps.PlaneStep.TheVariants.{InCluster}
-use Rattle.steps.specs.declared.steps.Step.TheVariants.{Request}
+use Rattle.sim_steps.specs.PlaneSteps.{plane_step_of}
+use Rattle.sim_steps.specs.declared.plane_steps.PlaneStep.{PlaneStep}
+use Rattle.sim_steps.specs.declared.plane_steps.PlaneStep.TheVariants.{InCluster}
+use Rattle.sim_steps.specs.declared.steps.Step.TheVariants.{Request}
 use Rattle.world.specs.WorldStates.{step, run}
-use Rattle.cluster.proofs.Taking.{next_taken}
+use Rattle.sim_cluster.proofs.Taking.{next_taken}
 use Rattle.world.proofs.worlds.World.take_all.Goals as goal
 
 pub loop-taken-preserved : goal.loop-taken-preserved

@@ -1,5 +1,5 @@
 use Rattle.std.proofs.Common.{◌≡◌, map, take}
-use Rattle.steps.specs.PlaneSteps.{plane_step_of}
+use Rattle.sim_steps.specs.PlaneSteps.{plane_step_of}
 use Rattle.world.specs.WorldStates.{run}
 use Rattle.world.proofs.worlds.World.take_all.Given as goal
 

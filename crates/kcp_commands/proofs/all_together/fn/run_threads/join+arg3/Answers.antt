@@ -1,8 +1,8 @@
 use denote.Exit.{no}
 use denote.Param.{param}
 use denote.Param.Send.{IsSync, sendable, param_send, arg_send}
-use Rattle.commands.proofs.Sent.{captured_controllers}
-use Rattle.commands.proofs.all_together.fn.run_threads.join+arg3.Goals as goal
+use Rattle.kcp_commands.proofs.Sent.{captured_controllers}
+use Rattle.kcp_commands.proofs.all_together.fn.run_threads.join+arg3.Goals as goal
 
 pub join-requires-send-F : goal.join-requires-send-F
 join-requires-send-F g c κs within =
