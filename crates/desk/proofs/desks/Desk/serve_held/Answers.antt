@@ -12,12 +12,12 @@ use Rattle.desk.proofs.desks.Desk.serve_held.Goals as goal
 pub give-requires-clause-follows : goal.give-requires-clause-follows
 give-requires-clause-follows g c =
     let v = known c.args.pass.now in
-    writes_follow g.A.Asking.MayAsk v.seen v.name g.M.Change.entry (request_of c.args.request) c.args.moment c.requires.asked c.as_bytes.ensures.moment c.requires.entry
+    writes_follow g.A.Asking.MayAsk v.seen v.name g.M.EntryMade.entry (request_of c.args.request) c.args.moment c.requires.asked c.as_bytes.ensures.moment c.requires.entry
 
 pub give-requires-clause-state : goal.give-requires-clause-state
 give-requires-clause-state g c opening so =
     let v = known c.args.pass.now in
-    gives_write c.args.self.now.window v.seen v.name g.M.Change.entry c.args.held c.serve.new.held opening v.opening (request_of c.args.request) c.args.moment c.requires.pass.1 c.requires.pass.3 c.in-Ok.ensures.ok
+    gives_write c.args.self.now.window v.seen v.name g.M.EntryMade.entry c.args.held c.serve.new.held opening v.opening (request_of c.args.request) c.args.moment c.requires.pass.1 c.requires.pass.3 c.in-Ok.ensures.ok
     c.requires.entry so
 
 pub returns-in-Ok-clause-reply : goal.returns-in-Ok-clause-reply
