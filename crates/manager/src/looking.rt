@@ -1,8 +1,4 @@
 //! What a thread looks at.
-ghost use Rattle.std.specs.Prelude.{◌≡◌, IfOk, IfSome};
-ghost use Rattle.manager.specs.Looked.{map_known, KnowsMore};
-
-use core::mem::replace_with;
 use indexer::Indexed;
 use informer::Lister;
 use manager_worker::Looking;
@@ -16,33 +12,10 @@ pub struct Listers {
     listers: Looks<Lister>,
 }
 
-/// Returns the lister, and a copy of what is published, which shares the objects. None where the informer is closed. The error is running
-/// out of memory.
-fn copy_of_published(lister: Lister) -> (Lister, Result<Option<Indexed>, AllocError>)
-    ensures found { IfOk result.1 (λ found. IfSome found (λ map. map ≡ map_known result.0)) }
-    ensures knows { KnowsMore lister result.0 }
-{
-    match lister.look() {
-        Ok(look) => {
-            let copy = look.indexed().try_copy();
-            (look.leave(), copy.map(Some))
-        }
-        Err(lister) => (lister, Ok(None)),
-    }
-}
-
-/// Returns a copy of what is published, as a lister sees it. It waits for nobody. None where the informer is closed. The error is running
-/// out of memory.
-fn copy(lister: &mut Lister) -> Result<Option<Indexed>, AllocError>
-    ensures found { IfOk result (λ found. IfSome found (λ map. map ≡ map_known lister.new)) }
-    ensures knows { KnowsMore lister.old lister.new }
-{
-    replace_with(lister, (), |lister, ()| copy_of_published(lister))
-}
-
 impl Listers {
     ghost use Rattle.std.specs.Prelude.{◌≡◌, IfOk, IfSome};
-    ghost use Rattle.manager.specs.Looked.{of_kind, with_kind, map_known, KnowsMore, AreKnown};
+    ghost use Rattle.informer.specs.Looked.{map_known, KnowsMore};
+    ghost use Rattle.manager.specs.Looked.{of_kind, with_kind, AreKnown};
 
     /// Returns the listers of a thread.
     pub fn new(
@@ -71,10 +44,10 @@ impl Listers {
         ensures others { self.new.listers ≡ with_kind kind (of_kind kind self.new.listers) self.old.listers }
     {
         match kind {
-            Kind::ConfigMap => copy(&mut self.listers.config_maps),
-            Kind::Pod => copy(&mut self.listers.pods),
-            Kind::ReplicaSet => copy(&mut self.listers.replica_sets),
-            Kind::Deployment => copy(&mut self.listers.deployments),
+            Kind::ConfigMap => self.listers.config_maps.copy(),
+            Kind::Pod => self.listers.pods.copy(),
+            Kind::ReplicaSet => self.listers.replica_sets.copy(),
+            Kind::Deployment => self.listers.deployments.copy(),
         }
     }
 

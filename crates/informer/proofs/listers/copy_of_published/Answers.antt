@@ -1,8 +1,8 @@
 use Rattle.std.proofs.Common.{subst, sym}
 use Rattle.informer.specs.Knowing.{StartsWithAll, latest}
 use Rattle.informer.specs.Listers.{known}
-use Rattle.manager.specs.Looked.{has_seen, as_before}
-use Rattle.manager.proofs.looking.copy_of_published.Goals as goal
+use Rattle.informer.specs.Looked.{has_seen, as_before}
+use Rattle.informer.proofs.listers.copy_of_published.Goals as goal
 
 -- what a look has seen the lister knows then
 pub returns-in-Ok-clause-knows : goal.returns-in-Ok-clause-knows
