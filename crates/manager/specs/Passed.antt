@@ -1,8 +1,5 @@
--- How much time passes on a clock, and how much the steps of a board let pass.
+-- How much time the steps of a board let pass.
 use Rattle.std.specs.Prelude.{ℕ, ◌+◌, List, [], ◌∷◌}
-use Rattle.clocks.specs.declared.stopwatch.Stopwatch.{Stopwatch}
-use Rattle.manager.specs.declared.timing.Wall.{Wall}
-use Rattle.tcp_client.specs.Clocks.{stopwatch_of}
 use Rattle.control_desk.specs.Steps.{Step, take, finish, requeue, observe, expect_creations, expect_deletions, forget, tick}
 
 abbrev pub milliseconds_of : Step → ℕ
@@ -19,7 +16,3 @@ milliseconds_of (tick n) = n
 abbrev pub passed_in : List Step → ℕ
 passed_in [] = 0
 passed_in (e ∷ es) = milliseconds_of e + passed_in es
-
--- how long a clock went on
-abbrev pub stopwatch_at : {R : Type 0} → Wall R → Stopwatch
-stopwatch_at w = stopwatch_of w.clock

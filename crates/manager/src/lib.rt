@@ -9,7 +9,6 @@ pub mod members;
 pub mod reflecting;
 pub mod running;
 pub mod ticking;
-pub mod timing;
 
 pub use manager_worker::{Gate, Open, Signals};
 pub use running::{Apis, run};

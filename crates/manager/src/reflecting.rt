@@ -4,8 +4,8 @@ ghost use Rattle.spec_client_go.specs.Reflectors.{begun_streaming};
 ghost use Rattle.manager.specs.Followed.{reflector_of};
 
 use crate::handling::Handler;
-use crate::timing::Wall;
 use api_client::Api;
+use cancellable_reader::StoppableClock;
 use informer::SharedInformer;
 use list_and_watch::{Follower, follow};
 use manager_worker::Signals;
@@ -52,7 +52,7 @@ impl<'a, R: Wait + Clock, A: Api + Drop> Reflecting<'a, R, A> {
 
     /// Follows the kind until all is to stop.
     pub fn run(&mut self) {
-        let mut wall = Wall::new(self.rt, &self.signals.stop);
+        let mut clock = StoppableClock::new(self.rt, &self.signals.stop);
         let Reflecting {
             alloc,
             kind,
@@ -61,6 +61,6 @@ impl<'a, R: Wait + Clock, A: Api + Drop> Reflecting<'a, R, A> {
             handler,
             ..
         } = self;
-        follow(*alloc, *kind, follower, api, &mut wall, handler);
+        follow(*alloc, *kind, follower, api, &mut clock, handler);
     }
 }

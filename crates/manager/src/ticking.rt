@@ -3,7 +3,7 @@ ghost use Rattle.std.specs.Prelude.{◌≤◌};
 ghost use Rattle.control_desk.specs.Desks.{known, IsPassAt};
 ghost use Rattle.manager.specs.Passed.{passed_in};
 
-use crate::timing::Wall;
+use cancellable_reader::StoppableClock;
 use control_desk::{ControlDesk, WorkPass};
 use manager_worker::Signals;
 use std::alloc::AllocError;
@@ -119,12 +119,12 @@ impl<'a, R: Wait + Clock> Ticker<'a, R> {
 
     /// Lets time pass as the clock shows it, until all is to stop.
     pub fn run(&mut self) {
-        let mut wall = Wall::new(self.rt, &self.signals.stop);
+        let mut clock = StoppableClock::new(self.rt, &self.signals.stop);
         for _ in self.rt.forever() {
             if self.signals.stop.rest(self.rt, TICK_MILLISECONDS) {
                 return;
             }
-            let _ = self.tick(wall.millis());
+            let _ = self.tick(clock.milliseconds());
             let _ = self.wake_in_time();
             self.announce();
         }

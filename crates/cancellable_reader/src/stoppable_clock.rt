@@ -1,4 +1,4 @@
-//! The clock of the machine, and waits that a stop ends.
+//! The clock of the machine, with pauses that a stop ends.
 use list_and_watch::{Onward, Timer};
 use std::sync::Wait;
 use std::time::Clock;
@@ -7,21 +7,21 @@ use wakeups::Stop;
 
 /// The clock of the machine, and how long it went on since this was made. Who pauses by it wakes when all is to stop.
 #[derive(Drop)]
-pub struct Wall<'a, R> {
+pub struct StoppableClock<'a, R> {
     rt: &'a R,
     stop: &'a Stop,
     clock: WallClock<'a, R>,
 }
 
-impl<'a, R: Clock> Wall<'a, R> {
+impl<'a, R: Clock> StoppableClock<'a, R> {
     ghost use Rattle.std.specs.Prelude.{◌≡◌, ◌-◌, ◌/◌, ◌^◌, min};
     ghost use Rattle.clocks.specs.Stopwatches.{passed_in};
-    ghost use Rattle.manager.specs.Passed.{stopwatch_at};
+    ghost use Rattle.cancellable_reader.specs.Clocks.{stopwatch_at};
     ghost use Rattle.tcp_client.specs.Clocks.{LooksAgain};
 
     /// Returns a clock that begins now.
-    pub fn new(rt: &'a R, stop: &'a Stop) -> Wall<'a, R> {
-        Wall {
+    pub fn new(rt: &'a R, stop: &'a Stop) -> StoppableClock<'a, R> {
+        StoppableClock {
             rt,
             stop,
             clock: WallClock::new(rt),
@@ -30,17 +30,17 @@ impl<'a, R: Clock> Wall<'a, R> {
 
     /// Returns how many milliseconds the clock went on since this was made: where it falls back, or shows no instant, none pass, and they are
     /// counted on from there.
-    pub fn millis(&mut self) -> u64
+    pub fn milliseconds(&mut self) -> u64
         ensures looks { LooksAgain (stopwatch_at self.old) (stopwatch_at self.new) }
-        ensures millis { result ≡ min (passed_in (stopwatch_at self.new) / 1_000_000) (2 ^ 64 - 1) }
+        ensures milliseconds { result ≡ min (passed_in (stopwatch_at self.new) / 1_000_000) (2 ^ 64 - 1) }
     {
         self.clock.milliseconds()
     }
 }
 
-impl<R: Wait + Clock> Timer for Wall<'_, R> {
+impl<R: Wait + Clock> Timer for StoppableClock<'_, R> {
     fn now(&mut self) -> u64 {
-        self.millis()
+        self.milliseconds()
     }
 
     fn pause(&mut self, milliseconds: u64) -> Onward {
