@@ -4,6 +4,7 @@
 pub(crate) mod changes;
 pub(crate) mod copies;
 pub mod informers;
+pub mod kind_listers;
 pub mod listers;
 pub(crate) mod published;
 pub(crate) mod rules;
@@ -14,6 +15,7 @@ pub(crate) mod views;
 
 pub use indexer::{Indexed, Shift};
 pub use informers::Informer;
+pub use kind_listers::Listers;
 pub use listers::{Lister, Look};
 pub use plain_informer::{PlainInformer, Publishing, keys_of};
 pub use reconcile_types::{Command, Entry, Hand, Looks, Plan, Seen};

@@ -2,9 +2,9 @@
 ghost use Rattle.control_desk.specs.Desks.{IsPassAt};
 
 use crate::changes::Handling;
-use crate::looking::Listers;
 use control_desk::{ControlDesk, WorkPass};
 use indexer::{Indexed, Shift};
+use informer::Listers;
 use list_and_watch::{Onward, Sink, shows_other_server};
 use manager_worker::Signals;
 use reconcile_types::Looks;

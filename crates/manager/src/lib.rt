@@ -4,7 +4,6 @@
 
 pub(crate) mod changes;
 pub mod handling;
-pub mod looking;
 pub mod members;
 pub mod reflecting;
 pub mod running;

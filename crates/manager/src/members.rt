@@ -1,8 +1,8 @@
 //! The threads of a manager.
-use crate::looking::Listers;
 use crate::reflecting::Reflecting;
 use crate::ticking::Ticker;
 use api_client::Api;
+use informer::Listers;
 use manager_worker::{Gate, Worker};
 use std::sync::Wait;
 use std::time::Clock;

@@ -3,13 +3,12 @@ ghost use Rattle.std.specs.Prelude.{◌≡◌, ◌<◌, ◌^◌, ◌+◌, IfOk, 
 ghost use Rattle.control_desk.specs.Desks.{IsNewAt};
 
 use crate::handling::Handler;
-use crate::looking::Listers;
 use crate::members::ManagerThread;
 use crate::reflecting::Reflecting;
 use crate::ticking::Ticker;
 use api_client::Api;
 use control_desk::{ControlDesk, WorkPass};
-use informer::{Informer, SharedInformer};
+use informer::{Informer, Listers, SharedInformer};
 use manager_worker::{Gate, Signals, Tools, Worker};
 use reconcile_types::Looks;
 use spec_api::kinds::Kind;

@@ -1,7 +1,6 @@
-//! What a thread looks at.
+//! The listers of a thread.
+use crate::listers::Lister;
 use indexer::Indexed;
-use informer::Lister;
-use manager_worker::Looking;
 use reconcile_types::Looks;
 use spec_api::kinds::Kind;
 use std::alloc::AllocError;
@@ -9,13 +8,13 @@ use std::alloc::AllocError;
 /// The listers of a thread, one for each kind.
 #[derive(Drop)]
 pub struct Listers {
-    listers: Looks<Lister>,
+    /// One of each kind.
+    pub listers: Looks<Lister>,
 }
 
 impl Listers {
     ghost use Rattle.std.specs.Prelude.{◌≡◌, IfOk, IfSome};
-    ghost use Rattle.informer.specs.Looked.{map_known, KnowsMore};
-    ghost use Rattle.manager.specs.Looked.{of_kind, with_kind, AreKnown};
+    ghost use Rattle.informer.specs.Looked.{of_kind, with_kind, map_known, KnowsMore, AreKnown};
 
     /// Returns the listers of a thread.
     pub fn new(
@@ -38,7 +37,7 @@ impl Listers {
 
     /// Returns a copy of what is published of a kind. It waits for nobody. None where its informer is closed. The error is running out of
     /// memory.
-    fn copy(&mut self, kind: Kind) -> Result<Option<Indexed>, AllocError>
+    pub fn copy(&mut self, kind: Kind) -> Result<Option<Indexed>, AllocError>
         ensures found { IfOk result (λ found. IfSome found (λ map. map ≡ map_known (of_kind kind self.new.listers))) }
         ensures knows { KnowsMore (of_kind kind self.old.listers) (of_kind kind self.new.listers) }
         ensures others { self.new.listers ≡ with_kind kind (of_kind kind self.new.listers) self.old.listers }
@@ -70,11 +69,5 @@ impl Listers {
             )),
             _ => Ok(None),
         }
-    }
-}
-
-impl Looking for Listers {
-    fn published(&mut self, kind: Kind) -> Result<Option<Indexed>, AllocError> {
-        self.copy(kind)
     }
 }
