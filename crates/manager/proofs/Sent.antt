@@ -39,7 +39,7 @@ use Rattle.manager_worker.specs.contracts.signals.Signals as Signals
 use Rattle.manager_worker.specs.contracts.working.Worker as Worker
 use Rattle.manager.proofs.ticking.Ticker.TheSendSync as ticker_of
 use Rattle.manager.specs.contracts.handling.Handler as Handler
-use Rattle.manager.specs.contracts.looking.Listers as Listers
+use Rattle.informer.specs.contracts.kind_listers.Listers as Listers
 use Rattle.manager.specs.contracts.members.ManagerThread as Member
 use Rattle.manager.specs.contracts.reflecting.Reflecting as Reflecting
 use Rattle.manager.specs.contracts.ticking.Ticker as Ticker
