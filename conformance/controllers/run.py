@@ -5,8 +5,8 @@ A Deployment is made, rolled, scaled and deleted by each policy, where the scrip
 and releases pods; 20 ReplicaSets are declared at once, undisturbed, while the server is killed and started again, and while a proxy cuts
 connections, and no list of pods ever shows a pod too many of a set; each kind of command is lost once on its way, or its reply; a server is
 started anew behind a proxy, and known as another one; what is not understood is told of; workers are woken though the clock stands still;
-commands are answered 503 for a while; streams of initial events are given, and refused; and watches fall silent. Each scenario begins with
-nothing.
+commands are answered 503 for a while, and as conflicts, which is told of; streams of initial events are given, and refused; a stand-in for a Kubernetes API server takes each
+request of a rollout; and watches fall silent. Each scenario begins with nothing.
 
 Nothing has to happen within a certain time but that of `--limit`, which is long. In short, answers and watches are cut, but no requests:
 a controller that cannot know whether a create has arrived waits 300 seconds for the pod.
@@ -24,6 +24,7 @@ import time
 sys.dont_write_bytecode = True
 sys.path[:0] = [str(pathlib.Path(__file__).resolve().parent)]
 import adoptions
+import cluster_rollouts
 import hurried
 import losing
 import refusing
@@ -58,8 +59,10 @@ def scenarios(asked):
         "not-understood": lambda: understanding.not_understood(program),
         "workers-are-woken": lambda: waking.woken(program),
         "refused-for-now": lambda: refusing.refused_for_now(program),
+        "conflicts-are-told": lambda: refusing.conflicts(program),
         "streams-given": lambda: streaming.streamed(program),
         "streams-refused": lambda: streaming.streams_refused(program, [400, 422]),
+        "at-a-cluster": lambda: cluster_rollouts.at_a_cluster(program),
         "commands-lost": lambda: losing.lost_by(program, [1, 4], is_short=few),
         "commands-lost-hurried": lambda: hurried.lost_by_seeds(program, asked.seed, 4 if few else 200),
     } | ({} if few else long_scenarios(program, asked.seed))

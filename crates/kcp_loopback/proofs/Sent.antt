@@ -26,6 +26,7 @@ use Rattle.kcp_loopback.specs.contracts.heard.Heard as Heard
 use Rattle.kcp_loopback.specs.contracts.telling.Teller as Teller
 use Rattle.kcp_loopback.specs.contracts.other_server.OtherServer as OtherServer
 use Rattle.kcp_loopback.specs.contracts.own_server.OwnServer as OwnServer
+use Rattle.kcp_loopback.proofs.reach.Reach.TheSendSync as reach_of
 use Rattle.kcp_loopback.specs.contracts.reach.Reach as Reach
 use Rattle.cancellable_reader.proofs.patient.Patient.TheSendSync as patient
 use Rattle.cancellable_reader.specs.contracts.patient.Patient as Patient
@@ -86,7 +87,7 @@ module _ (a : NamedLft) (R : RattleType) (r : IsSync R) where
   port = search (sendable)
 
   lent_reach : IsSend (as_row (Field.shr_ref_field a Reach.the_row tt))
-  lent_reach = search (heap.crosses, sendable) depth 20
+  lent_reach = search (reach_of.the_sync, heap.crosses, sendable) depth 20
 
   pub connector : IsSend (Connector.the_row a R)
   connector = declared_send (Connector.the_type a R) (runtime, (alloc, (port, (lent_stop, (lent_reach, tt)))))

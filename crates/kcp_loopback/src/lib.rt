@@ -9,6 +9,7 @@ pub mod other_server;
 pub mod own_server;
 pub mod reach;
 pub mod ringing;
+pub(crate) mod strife;
 pub mod telling;
 pub mod trouble;
 

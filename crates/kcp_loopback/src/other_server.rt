@@ -22,6 +22,11 @@ pub struct OtherServer<'a, R, A: Api + Drop> {
     api: A,
 }
 
+/// Returns whether a request is to change something.
+fn is_write(request: &Request) -> bool {
+    !matches!(request, Request::Get(_) | Request::List(_))
+}
+
 impl<'a, R, A: Api + Drop> OtherServer<'a, R, A> {
     /// Returns the server that an API asks and to which this connects.
     pub fn new(connector: LoopbackConnector<'a, R>, api: A) -> OtherServer<'a, R, A> {
@@ -40,6 +45,13 @@ impl<R: Net<Stream = TcpStream> + Eprint, A: Api + Drop> OtherServer<'_, R, A> {
             Answer::NotSent => {}
         }
         answer
+    }
+
+    /// Notes the code that a write was answered with.
+    fn note_written(&self, answer: &Answer) {
+        if let Answer::Replied(reply) = answer {
+            self.connector.teller().note_written(reply.code);
+        }
     }
 
     /// Looks at the server where a watch was asked for and nothing was answered, and notes the code that it was answered with. A reply of success
@@ -64,6 +76,9 @@ impl<R: Net<Stream = TcpStream> + Eprint, A: Api + Drop> Api for OtherServer<'_,
 
     fn call(&mut self, alloc: Global, request: &Request) -> Answer {
         let answer = self.api.call(alloc, request);
+        if is_write(request) {
+            self.note_written(&answer);
+        }
         self.looked_after(answer)
     }
 

@@ -1,4 +1,5 @@
 //! Whether a server is there.
+use crate::strife::Strife;
 use crate::trouble::{NO_REPLY, Trouble, UNREADABLE};
 use std::sync::atomic::{AtomicU64, Ordering};
 
@@ -22,6 +23,8 @@ pub struct Reach {
     found: AtomicU64,
     /// The number of the trouble that was said last, until it was said that it is over.
     said: AtomicU64,
+    /// Whether it refuses writes as conflicts again and again.
+    pub(crate) strife: Strife,
 }
 
 impl Reach {
@@ -30,6 +33,7 @@ impl Reach {
         Reach {
             found: AtomicU64::new(UNREACHED),
             said: AtomicU64::new(WELL),
+            strife: Strife::new(),
         }
     }
 

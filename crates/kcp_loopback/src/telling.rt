@@ -7,6 +7,12 @@ use std::alloc::{AllocError, Global};
 /// The first status code by which a server says that it has failed.
 const FIRST_FAILURE: u16 = 500;
 
+/// The status code of a write that does not fit what is there (RFC 9110, 409 Conflict).
+const CONFLICT: u16 = 409;
+
+/// The first status code above those of success (RFC 9110, Redirection 3xx).
+const FIRST_REDIRECTION: u16 = 300;
+
 /// How many bytes are shown of what is not understood.
 const MOST_SHOWN: usize = 100;
 
@@ -96,6 +102,19 @@ impl<R: Eprint> Teller<'_, R> {
             self.note(Trouble::Fails(code));
         } else if self.reach.answers_again() {
             self.say("answers again");
+        }
+    }
+
+    /// Notes a status code that a write was answered with.
+    pub(crate) fn note_written(&self, code: u16) {
+        if code == CONFLICT {
+            if self.reach.strife.note_conflict() {
+                self.say(
+                    "refuses writes as conflicts again and again, as where another controller manager works",
+                );
+            }
+        } else if code < FIRST_REDIRECTION {
+            self.reach.strife.note_taken();
         }
     }
 
