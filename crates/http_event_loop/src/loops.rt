@@ -90,7 +90,13 @@ impl Loops {
         self.open.enter();
     }
 
-    /// Counts a connection no longer. After the last that is no watch all loops are to stop; where there was no room the loop that accepts is to know.
+    /// Notes that the system refused to accept a connection, and returns whether that was noted, and no connection has ended since.
+    pub(crate) fn refuse(&self) -> bool {
+        self.open.refuse()
+    }
+
+    /// Counts a connection no longer, whose descriptor is free by now. After the last that is no watch all loops are to stop; where one waits to
+    /// be accepted for want of room or of a descriptor, the loop that accepts is woken.
     pub(crate) fn leave(&self) {
         if self.open.leave() {
             self.wake_all();
