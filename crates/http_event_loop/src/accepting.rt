@@ -125,10 +125,14 @@ impl Accepting {
         self.share = SHARE;
     }
 
-    /// Returns the number of the loop that is given the next connection of the round, of so many: after the own one the others by turns.
-    pub(crate) fn take_place(&mut self, own: usize, count: usize) -> usize {
+    /// Returns the number of the loop that is given the next connection of the round: after the own one those that have nothing to do, and then
+    /// the others by turns.
+    pub(crate) fn take_place(&mut self, own: usize, loops: &Loops) -> usize {
         if self.share == 0 {
-            self.place = self.take_turn(own, count);
+            self.place = match loops.free() {
+                Some(number) => number,
+                None => self.take_turn(own, loops.count()),
+            };
             self.share = SHARE;
         }
         self.share -= 1;

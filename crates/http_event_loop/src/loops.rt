@@ -80,6 +80,11 @@ impl Loops {
         self.wakes.get(number)
     }
 
+    /// Returns the number of a loop that has nothing to do: the first one, so that no more are woken than are needed.
+    pub(crate) fn free(&self) -> Option<usize> {
+        self.wakes.iter().position(Wakes::is_free)
+    }
+
     /// Returns whether one more connection may be open.
     pub(crate) fn has_room(&self) -> bool {
         self.open.has_room()

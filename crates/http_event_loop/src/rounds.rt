@@ -78,6 +78,14 @@ impl<'a> Rounds<'a> {
         })
     }
 
+    /// Waits for events, for no longer than this, as all loops may know.
+    fn await_events(&self, poll: &mut Poll, events: &mut Events, millis: u64) -> io::Result<()> {
+        self.wakes.say_waiting(true);
+        let outcome = wait(poll, events, millis);
+        self.wakes.say_waiting(false);
+        outcome
+    }
+
     /// Returns how many milliseconds the loop may wait for events.
     fn longest_wait(&self) -> u64 {
         if self.connections.is_behind() {
@@ -128,7 +136,7 @@ impl<'a> Rounds<'a> {
             let Some(stream) = accepting.accept(self.loops) else {
                 break;
             };
-            let number = accepting.take_place(self.number, self.loops.count());
+            let number = accepting.take_place(self.number, self.loops);
             let given = Given::accepted(stream, self.tick.now);
             self.give(rt, registry, number, given, asker);
         }
@@ -268,7 +276,7 @@ impl<'a> Rounds<'a> {
     ) -> io::Result<()>
         ensures { HasAsked S.Calls S.Lists S.Begins S.Watches asker.old asker.new }
     {
-        wait(poll, events, self.longest_wait())?;
+        self.await_events(poll, events, self.longest_wait())?;
         self.tick = Tick::now(rt)?;
         let is_called = self.heed(events, asker);
         self.take_in(rt, poll.registry(), accepting, is_called, asker);

@@ -61,6 +61,7 @@ pub(crate) struct Wakes {
     waker: Waker,
     inbox: ArrayQueue<Given>,
     is_given: AtomicU64,
+    is_waiting: AtomicU64,
     config_maps: KindWake,
     pods: KindWake,
     replica_sets: KindWake,
@@ -74,6 +75,7 @@ impl Wakes {
             waker: Waker::new(poll.registry(), WAKER)?,
             inbox: ArrayQueue::new(alloc, INBOX)?,
             is_given: AtomicU64::new(0),
+            is_waiting: AtomicU64::new(0),
             config_maps: KindWake::new(),
             pods: KindWake::new(),
             replica_sets: KindWake::new(),
@@ -111,6 +113,17 @@ impl Wakes {
             self.wake();
         }
         Ok(())
+    }
+
+    /// Says that the loop waits for events, or no longer.
+    pub(crate) fn say_waiting(&self, is_waiting: bool) {
+        self.is_waiting
+            .store(u64::from(is_waiting), Ordering::SeqCst);
+    }
+
+    /// Returns whether the loop waits for events and was given nothing: it begins at once with what it is given.
+    pub(crate) fn is_free(&self) -> bool {
+        self.is_waiting.load(Ordering::SeqCst) != 0 && self.is_given.load(Ordering::SeqCst) == 0
     }
 
     /// Begins to take what the loop was given: who gives it more wakes it again.
