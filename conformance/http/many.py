@@ -252,9 +252,9 @@ def beside_an_idle_watch(program, asked):
 
 
 def handed_on(program, asked):
-    """Two loops, of which one hands every second connection to the other: it is answered at once, too."""
+    """Two loops, of which the one that accepts hands lists to the other: they are answered at once, too."""
     with serving(program, "--threads", "2") as server:
-        return within(statistics.median(got(server.port) + got(server.port) for _ in range(20)), 0.01, "two lists, one at each loop, at the median,")
+        return within(statistics.median(got(server.port) + got(server.port) for _ in range(20)), 0.01, "two lists, handed to the other loop, at the median,")
 
 
 def idle_watches_end(program, asked):

@@ -16,6 +16,10 @@ use Rattle.http_event_loop.specs.declared.asker.Asker.{Asker}
 abbrev pub IsNewAsker : {S L : Type 0} → S → Asker S L → Type 0
 IsNewAsker s a = (a.site ≡ s) × (a.taken.count ≡ 0) × (a.asked ≡ 0)
 
+-- between the two as many turns were taken as was asked, or more
+abbrev pub IsPaid : {S L : Type 0} → Asker S L → Asker S L → Type 0
+IsPaid a b = b.asked + a.taken.count ≤ a.asked + b.taken.count
+
 module _ {S : Type 0} (calls : S → Request → List ℕ → Outcome → S → Type 0) (lists : S → View → ListOptions → Outcome → S → Type 0)
     (begins : S → View → Option ℕ → Result Listed Refusal → S → Type 0) (watches : S → View → ℕ → ℕ → Look → S → Type 0) where
   -- what one connection asks is done at some moment: a request, a list, or the beginning of a watch

@@ -8,6 +8,10 @@ use std::io::ErrorKind;
 /// The token of the listener.
 pub(crate) const LISTENER: Token = Token(usize::MAX);
 
+/// How many of the connections that are accepted in a round one loop is given before the next one: few, since one may ask for what takes long,
+/// and more than one, since a loop is woken once for all.
+const SHARE: usize = 4;
+
 /// A listener whose connections loops answer, and how many at most, if they are counted.
 #[derive(Drop)]
 pub struct Listening {
@@ -15,13 +19,29 @@ pub struct Listening {
     pub limit: Option<u64>,
 }
 
-/// What accepts connections, and to which loop the next one is handed.
+/// What accepts connections, and to which loop each is given.
 #[derive(Drop)]
 pub(crate) struct Accepting {
     listener: TcpListener,
     /// How many more are accepted, if they are counted.
     left: Option<u64>,
-    next: usize,
+    /// The loop whose turn it was last.
+    turn: usize,
+    /// The loop that is given the next connection of the round, if its share has some left.
+    place: usize,
+    /// How many more that one is given.
+    share: usize,
+    /// Whether a connection may wait that no event will tell of: there was no room for it, or the system refused to accept it.
+    is_held_up: bool,
+}
+
+/// Returns the number after this one, of so many; after the last it is the first.
+fn following(number: usize, count: usize) -> usize {
+    if number < count.saturating_sub(1) {
+        number + 1
+    } else {
+        0
+    }
 }
 
 impl Accepting {
@@ -35,13 +55,18 @@ impl Accepting {
         Ok(Accepting {
             listener,
             left: limit,
-            next: 0,
+            turn: 0,
+            place: 0,
+            share: 0,
+            is_held_up: false,
         })
     }
 
-    /// Returns the next connection; none where none waits, there is no room, or the system has no descriptor for it.
+    /// Returns the next connection; none where none waits, there is no room, or the system refuses it, as where it has no descriptor for it. After
+    /// a refusal it is tried once more, as a connection may have ended before the refusal was noted.
     pub(crate) fn accept(&mut self, loops: &Loops) -> Option<TcpStream> {
-        if self.is_over() || !loops.has_room() {
+        self.is_held_up = !loops.has_room();
+        if self.is_over() || self.is_held_up {
             return None;
         }
         for _ in 0..u64::MAX {
@@ -53,7 +78,13 @@ impl Accepting {
                 }
                 Err(error) => match error.kind() {
                     ErrorKind::Interrupted | ErrorKind::ConnectionAborted => {}
-                    _ => return None,
+                    ErrorKind::WouldBlock => return None,
+                    _ => {
+                        self.is_held_up = true;
+                        if loops.refuse() {
+                            return None;
+                        }
+                    }
                 },
             }
         }
@@ -72,10 +103,39 @@ impl Accepting {
         self.left == Some(0)
     }
 
-    /// Returns the number of the loop that is handed the next connection, of so many.
-    pub(crate) fn take_turn(&mut self, count: usize) -> usize {
-        let turn = if self.next < count { self.next } else { 0 };
-        self.next = turn + 1;
-        turn
+    /// Returns whether a connection may wait that no event will tell of: it is to be tried again.
+    pub(crate) fn is_held_up(&self) -> bool {
+        self.is_held_up
+    }
+
+    /// Returns the number of the loop whose turn it is, of so many: another than the own, if there is one.
+    pub(crate) fn take_turn(&mut self, own: usize, count: usize) -> usize {
+        let next = following(self.turn, count);
+        self.turn = if next == own {
+            following(next, count)
+        } else {
+            next
+        };
+        self.turn
+    }
+
+    /// Begins a round with the share of the own loop.
+    pub(crate) fn begin_round(&mut self, own: usize) {
+        self.place = own;
+        self.share = SHARE;
+    }
+
+    /// Returns the number of the loop that is given the next connection of the round: after the own one those that have nothing to do, and then
+    /// the others by turns.
+    pub(crate) fn take_place(&mut self, own: usize, loops: &Loops) -> usize {
+        if self.share == 0 {
+            self.place = match loops.free() {
+                Some(number) => number,
+                None => self.take_turn(own, loops.count()),
+            };
+            self.share = SHARE;
+        }
+        self.share -= 1;
+        self.place
     }
 }

@@ -1,5 +1,5 @@
 //! What a loop asks its server.
-ghost use Rattle.std.specs.Prelude.{◌≡◌, ◌<◌, ◌+◌, ℕ, List, true, false};
+ghost use Rattle.std.specs.Prelude.{◌≡◌, ◌<◌, ◌≤◌, ◌+◌, ℕ, List, true, false};
 ghost use Rattle.request_decoding.specs.Asked.{asked_seen};
 ghost use Rattle.http_connection.specs.Looking.{LooksFrom};
 ghost use Rattle.http_connection.specs.Phases.{Answers, Stands};
@@ -51,6 +51,8 @@ impl<S: Site, L: Ledger> Asker<'_, S, L> {
     #[tactic(auto, using(crate::proofs::Chains::asks_one, crate::proofs::Chains::asks_nothing))]
     pub fn answer(&mut self, alloc: Global, asked: Asked, moment: Moment) -> ConnectionPhase
         ensures asked { HasAsked S.Calls S.Lists S.Begins S.Watches self.old self.new }
+        ensures once { self.new.asked ≤ self.old.asked + 1 }
+        ensures taken { self.new.taken ≡ self.old.taken }
         ensures counts { self.old.asked < self.old.taken.count → self.new.asked ≡ self.old.asked + 1 }
         ensures answers { self.old.asked < self.old.taken.count
             → Answers S.Calls S.Lists S.Begins S.Watches moment self.old.site self.new.site (asked_seen asked) result }

@@ -1,12 +1,15 @@
 //! A connection that a loop holds.
+ghost use Rattle.std.specs.Prelude.{◌≡◌, ◌≤◌, ◌+◌};
 ghost use Rattle.http_event_loop.specs.Asked.{HasAsked};
 
 use crate::asker::Asker;
+use crate::begun::Begun;
 use crate::deadlines::seconds;
+use crate::given::Given;
 use crate::ticks::Tick;
 use api::Served;
 use http_backend::Site;
-use http_connection::{Arriving, ConnectionPhase, end_watch, turn};
+use http_connection::{ConnectionPhase, end_watch, turn};
 use mio::event::Event;
 use mio::net::TcpStream;
 use request_routing::table::Routes;
@@ -69,17 +72,43 @@ fn has_taken(before: Option<(usize, usize)>, now: Option<(usize, usize)>) -> boo
 }
 
 impl Held {
-    /// Returns a connection of which nothing was read.
-    pub(crate) fn new(alloc: Global, stream: TcpStream, now: Instant) -> Held {
+    /// Returns a connection that the loop is given.
+    pub(crate) fn new(alloc: Global, given: Given) -> Held {
+        let Given {
+            stream,
+            begun,
+            since,
+        } = given;
         Held {
             stream,
-            phase: ConnectionPhase::Reading(Arriving::new(alloc)),
-            since: now,
-            took: now,
+            phase: begun.into_phase(alloc),
+            since,
+            took: since,
             watched: None,
             place: 0,
             is_due: false,
             left: None,
+        }
+    }
+
+    /// Returns the connection to be given to another loop, if it is for one. Else hands it back.
+    pub(crate) fn into_given(self) -> Result<Given, Held> {
+        let mut held = self;
+        match Begun::of_phase(held.take_phase()) {
+            Ok(begun) => Ok(held.begun(begun)),
+            Err(phase) => {
+                held.phase = phase;
+                Err(held)
+            }
+        }
+    }
+
+    /// Returns the connection to be given to another loop, as far as it has come.
+    fn begun(self, begun: Begun) -> Given {
+        Given {
+            stream: self.stream,
+            begun,
+            since: self.since,
         }
     }
 
@@ -88,8 +117,8 @@ impl Held {
         std::mem::replace(&mut self.phase, ConnectionPhase::Answering)
     }
 
-    /// Reads and writes as far as that goes now.
-    fn turn<S: Site>(&mut self, alloc: Global, routes: &Routes, now: Instant) {
+    /// Reads and writes as far as that goes now, and asks nothing.
+    pub(crate) fn turn<S: Site>(&mut self, alloc: Global, routes: &Routes, now: Instant) {
         if self.phase.is_over() {
             return;
         }
@@ -112,7 +141,9 @@ impl Held {
         asker: &mut Asker<'_, S, L>,
         tick: &Tick,
     )
-        ensures { HasAsked S.Calls S.Lists S.Begins S.Watches asker.old asker.new }
+        ensures asked { HasAsked S.Calls S.Lists S.Begins S.Watches asker.old asker.new }
+        ensures once { asker.new.asked ≤ asker.old.asked + 1 }
+        ensures taken { asker.new.taken ≡ asker.old.taken }
     {
         self.turn::<S>(alloc, routes, tick.now);
         match self.take_phase() {

@@ -9,9 +9,12 @@
 pub mod accepting;
 pub mod asker;
 pub mod asking;
+mod beginnings;
+mod begun;
 pub mod counting;
 pub mod deadlines;
 pub mod event_loop;
+mod given;
 mod held;
 pub mod loops;
 mod open_connections;

@@ -80,6 +80,11 @@ impl Loops {
         self.wakes.get(number)
     }
 
+    /// Returns the number of a loop that has nothing to do: the first one, so that no more are woken than are needed.
+    pub(crate) fn free(&self) -> Option<usize> {
+        self.wakes.iter().position(Wakes::is_free)
+    }
+
     /// Returns whether one more connection may be open.
     pub(crate) fn has_room(&self) -> bool {
         self.open.has_room()
@@ -90,7 +95,13 @@ impl Loops {
         self.open.enter();
     }
 
-    /// Counts a connection no longer. After the last that is no watch all loops are to stop; where there was no room the loop that accepts is to know.
+    /// Notes that the system refused to accept a connection, and returns whether that was noted, and no connection has ended since.
+    pub(crate) fn refuse(&self) -> bool {
+        self.open.refuse()
+    }
+
+    /// Counts a connection no longer, whose descriptor is free by now. After the last that is no watch all loops are to stop; where one waits to
+    /// be accepted for want of room or of a descriptor, the loop that accepts is woken.
     pub(crate) fn leave(&self) {
         if self.open.leave() {
             self.wake_all();

@@ -9,13 +9,10 @@ use crate::ticks::Tick;
 use crate::wakes::Wakes;
 use http_backend::Site;
 use mio::event::Event;
-use mio::net::TcpStream;
-use mio::{Interest, Registry, Token};
 use request_routing::table::Routes;
 use slab::Slab;
 use spec_api::kinds::Kind;
 use std::alloc::Global;
-use std::sync::Wait;
 use std::sync::ledger::Ledger;
 use std::time::Instant;
 
@@ -28,11 +25,11 @@ const MOST_LAST_LOOKS: usize = 64;
 /// The connections of a loop, and the turns of those that watch.
 #[derive(Drop)]
 pub(crate) struct Connections<'a> {
-    alloc: Global,
-    routes: &'a Routes,
-    loops: &'a Loops,
+    pub(crate) alloc: Global,
+    pub(crate) routes: &'a Routes,
+    pub(crate) loops: &'a Loops,
     wakes: &'a Wakes,
-    held: Slab<Held>,
+    pub(crate) held: Slab<Held>,
     rota: Rota,
     /// Whether some watch is to be looked at once more before the loop waits.
     is_behind: bool,
@@ -72,45 +69,6 @@ impl<'a> Connections<'a> {
         self.is_behind
     }
 
-    /// Holds a connection, whose bytes are then awaited.
-    #[tactic(auto, using(crate::proofs::Chains::asks_on, crate::proofs::Chains::takes))]
-    pub(crate) fn hold<S: Site, L: Ledger, R: Wait>(
-        &mut self,
-        rt: &R,
-        registry: &Registry,
-        stream: TcpStream,
-        asker: &mut Asker<'_, S, L>,
-        now: Instant,
-    )
-        ensures { HasAsked S.Calls S.Lists S.Begins S.Watches asker.old asker.new }
-    {
-        if !asker.take(rt) || !self.is_held(registry, stream, now) {
-            self.loops.leave();
-        }
-    }
-
-    /// Holds a connection, if there is room and the system takes it.
-    fn is_held(&mut self, registry: &Registry, stream: TcpStream, now: Instant) -> bool {
-        if stream.set_nodelay(true).is_err() {
-            return false;
-        }
-        let Ok(key) = self.held.insert(Held::new(self.alloc, stream, now)) else {
-            return false;
-        };
-        let Some(held) = self.held.get_mut(key) else {
-            return false;
-        };
-        let both = Interest::READABLE | Interest::WRITABLE;
-        if registry
-            .register(&mut held.stream, Token(key), both)
-            .is_ok()
-        {
-            return true;
-        }
-        let _ = self.held.try_remove(key);
-        false
-    }
-
     /// Lets a connection go on of which the system reports something.
     #[tactic(auto, using(crate::proofs::Chains::asks_on, crate::proofs::Chains::asks_nothing))]
     pub(crate) fn go_on<S: Site, L: Ledger>(
@@ -130,7 +88,7 @@ impl<'a> Connections<'a> {
     }
 
     /// Takes note of where a connection stands: a watch that has opened takes turns, and one that is over no longer; who is over is let go.
-    fn settle(&mut self, key: usize, now: Instant) {
+    pub(crate) fn settle(&mut self, key: usize, now: Instant) {
         let Some(held) = self.held.get_mut(key) else {
             return;
         };
@@ -141,8 +99,8 @@ impl<'a> Connections<'a> {
         held.watched = is;
         self.is_behind = self.is_behind || (held.is_due && held.can_look());
         match (was, is) {
-            (None, Some(kind)) => self.begin(key, kind),
-            (Some(kind), None) => self.end(place, kind),
+            (None, Some(kind)) => self.watch(key, kind),
+            (Some(kind), None) => self.end_watch(place, kind),
             _ => {}
         }
         if !goes_on {
@@ -153,7 +111,7 @@ impl<'a> Connections<'a> {
 
     /// Gives a watch its turns; where there is no memory for them it is left. It is looked at once more, as others may have written before it
     /// was counted.
-    fn begin(&mut self, key: usize, kind: Kind) {
+    fn watch(&mut self, key: usize, kind: Kind) {
         let place = self.rota.len();
         let is_added = self.rota.add(key).is_ok();
         if is_added {
@@ -173,7 +131,7 @@ impl<'a> Connections<'a> {
     }
 
     /// Takes the watch at a place from its turns. Another one takes its place, and may have been passed over by then.
-    fn end(&mut self, place: usize, kind: Kind) {
+    fn end_watch(&mut self, place: usize, kind: Kind) {
         self.wakes.of(kind).leave();
         self.loops.leave_watch();
         let _ = self.rota.remove(place);

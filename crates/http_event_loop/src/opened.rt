@@ -4,12 +4,13 @@ use std::sync::atomic::{AtomicU64, Ordering};
 /// How many connections may be open, over all loops.
 const MOST_OPEN: u64 = 10_000;
 
-/// How many connections are open, over all loops, how many of them watch, and whether more will come.
+/// How many connections are open, over all loops, how many of them watch, and whether more will come and one was refused.
 #[derive(Drop)]
 pub(crate) struct Open {
     count: AtomicU64,
     watches: AtomicU64,
     is_last: AtomicU64,
+    is_refused: AtomicU64,
 }
 
 impl Open {
@@ -19,6 +20,7 @@ impl Open {
             count: AtomicU64::new(0),
             watches: AtomicU64::new(0),
             is_last: AtomicU64::new(0),
+            is_refused: AtomicU64::new(0),
         }
     }
 
@@ -32,9 +34,21 @@ impl Open {
         self.count.fetch_add(1, Ordering::SeqCst);
     }
 
-    /// Counts a connection no longer, and returns whether there was no room while it was.
+    /// Counts a connection no longer, and returns whether one waits that may now be accepted: there was no room for it, or it was refused.
     pub(crate) fn leave(&self) -> bool {
-        self.count.fetch_sub(1, Ordering::SeqCst) >= MOST_OPEN
+        let was_full = self.count.fetch_sub(1, Ordering::SeqCst) >= MOST_OPEN;
+        was_full || self.take_refused()
+    }
+
+    /// Notes that the system refused to accept a connection, and returns whether that was noted, and no connection has ended since.
+    pub(crate) fn refuse(&self) -> bool {
+        self.is_refused.swap(1, Ordering::SeqCst) != 0
+    }
+
+    /// Returns whether a refusal is noted, and forgets it.
+    fn take_refused(&self) -> bool {
+        self.is_refused.load(Ordering::SeqCst) != 0
+            && self.is_refused.swap(0, Ordering::SeqCst) != 0
     }
 
     /// Counts one of them as a watch.

@@ -3,13 +3,13 @@ ghost use Rattle.http_event_loop.specs.Asked.{HasAsked};
 
 use crate::accepting::{Accepting, LISTENER};
 use crate::asker::Asker;
+use crate::given::Given;
 use crate::loops::Loops;
 use crate::open_connections::Connections;
 use crate::ticks::Tick;
-use crate::wakes::{WAKER, Wakes};
+use crate::wakes::{INBOX, WAKER, Wakes};
 use http_backend::Site;
 use mio::event::Event;
-use mio::net::TcpStream;
 use mio::{Events, Poll, Registry};
 use std::io;
 use std::io::ErrorKind;
@@ -78,6 +78,14 @@ impl<'a> Rounds<'a> {
         })
     }
 
+    /// Waits for events, for no longer than this, as all loops may know.
+    fn await_events(&self, poll: &mut Poll, events: &mut Events, millis: u64) -> io::Result<()> {
+        self.wakes.say_waiting(true);
+        let outcome = wait(poll, events, millis);
+        self.wakes.say_waiting(false);
+        outcome
+    }
+
     /// Returns how many milliseconds the loop may wait for events.
     fn longest_wait(&self) -> u64 {
         if self.connections.is_behind() {
@@ -89,32 +97,30 @@ impl<'a> Rounds<'a> {
         }
     }
 
-    /// Hands a connection to the loop whose turn it is. One that has too many waiting leaves it here.
+    /// Gives a connection to the loop of this number. One that has too many waiting leaves it here.
     #[tactic(auto, using(crate::proofs::Chains::asks_on, crate::proofs::Chains::asks_nothing))]
-    fn hand_on<S: Site, L: Ledger, R: Wait>(
+    fn give<S: Site, L: Ledger, R: Wait>(
         &mut self,
         rt: &R,
         registry: &Registry,
         number: usize,
-        stream: TcpStream,
+        given: Given,
         asker: &mut Asker<'_, S, L>,
     )
         ensures { HasAsked S.Calls S.Lists S.Begins S.Watches asker.old asker.new }
     {
-        let mut stream = stream;
-        if number != self.number {
-            if let Some(wakes) = self.loops.wakes(number) {
-                match wakes.give(rt, stream) {
-                    Ok(()) => return,
-                    Err(back) => stream = back,
-                }
+        let mut given = given;
+        if let Some(wakes) = self.loops.wakes(number) {
+            match wakes.give(rt, given, number == self.number) {
+                Ok(()) => return,
+                Err(back) => given = back,
             }
         }
         self.connections
-            .hold(rt, registry, stream, asker, self.tick.now);
+            .begin(rt, registry, given, asker, &self.tick);
     }
 
-    /// Accepts all connections that wait and for which there is room.
+    /// Accepts all connections that wait and for which there is room, and gives some to this loop, and the others to others.
     #[tactic(auto, using(crate::proofs::Chains::asks_on, crate::proofs::Chains::asks_nothing))]
     pub(crate) fn accept_all<S: Site, L: Ledger, R: Wait>(
         &mut self,
@@ -125,33 +131,79 @@ impl<'a> Rounds<'a> {
     )
         ensures { HasAsked S.Calls S.Lists S.Begins S.Watches asker.old asker.new }
     {
+        accepting.begin_round(self.number);
         for _ in 0..u64::MAX {
             let Some(stream) = accepting.accept(self.loops) else {
                 break;
             };
-            let number = accepting.take_turn(self.loops.count());
-            self.hand_on(rt, registry, number, stream, asker);
+            let number = accepting.take_place(self.number, self.loops);
+            let given = Given::accepted(stream, self.tick.now);
+            self.give(rt, registry, number, given, asker);
         }
         if accepting.is_over() {
             self.loops.end();
         }
     }
 
-    /// Holds the connections that the loop was given.
+    /// Lets a connection begin that the loop accepted. One that is for another loop is given to the one whose turn it is.
+    #[tactic(auto, using(crate::proofs::Chains::asks_on, crate::proofs::Chains::asks_nothing))]
+    fn begin_accepted<S: Site, L: Ledger, R: Wait>(
+        &mut self,
+        rt: &R,
+        registry: &Registry,
+        accepting: &mut Accepting,
+        given: Given,
+        asker: &mut Asker<'_, S, L>,
+    )
+        ensures { HasAsked S.Calls S.Lists S.Begins S.Watches asker.old asker.new }
+    {
+        let returned = self
+            .connections
+            .begin_here(rt, registry, given, asker, &self.tick);
+        if let Some(given) = returned {
+            let number = accepting.take_turn(self.number, self.loops.count());
+            self.give(rt, registry, number, given, asker);
+        }
+    }
+
+    /// Lets a connection begin that the loop was given.
+    #[tactic(auto, using(crate::proofs::Chains::asks_on, crate::proofs::Chains::asks_nothing))]
+    fn begin<S: Site, L: Ledger, R: Wait>(
+        &mut self,
+        rt: &R,
+        registry: &Registry,
+        accepting: &mut Option<Accepting>,
+        given: Given,
+        asker: &mut Asker<'_, S, L>,
+    )
+        ensures { HasAsked S.Calls S.Lists S.Begins S.Watches asker.old asker.new }
+    {
+        if self.loops.count() > 1 {
+            if let Some(accepting) = accepting {
+                self.begin_accepted(rt, registry, accepting, given, asker);
+                return;
+            }
+        }
+        self.connections
+            .begin(rt, registry, given, asker, &self.tick);
+    }
+
+    /// Lets the connections begin that the loop was given, of which no more wait than an inbox has room for. For those that come meanwhile it is
+    /// woken again.
     #[tactic(auto, using(crate::proofs::Chains::asks_on, crate::proofs::Chains::asks_nothing))]
     fn take_given<S: Site, L: Ledger, R: Wait>(
         &mut self,
         rt: &R,
         registry: &Registry,
+        accepting: &mut Option<Accepting>,
         asker: &mut Asker<'_, S, L>,
     )
         ensures { HasAsked S.Calls S.Lists S.Begins S.Watches asker.old asker.new }
     {
-        for _ in 0..u64::MAX {
+        self.wakes.begin_to_take();
+        for _ in 0..INBOX {
             match self.wakes.take(rt) {
-                Some(stream) => self
-                    .connections
-                    .hold(rt, registry, stream, asker, self.tick.now),
+                Some(given) => self.begin(rt, registry, accepting, given, asker),
                 None => return,
             }
         }
@@ -174,10 +226,9 @@ impl<'a> Rounds<'a> {
         is_called
     }
 
-    /// Looks at the watches that may have something to see, and at times at those whose turn it is; looks at deadlines at times. Returns
-    /// whether a while has passed.
+    /// Looks at the watches that may have something to see, and at times at those whose turn it is; looks at deadlines at times.
     #[tactic(auto, using(crate::proofs::Chains::asks_on, crate::proofs::Chains::asks_nothing))]
-    fn tend<S: Site, L: Ledger>(&mut self, asker: &mut Asker<'_, S, L>) -> bool
+    fn tend<S: Site, L: Ledger>(&mut self, asker: &mut Asker<'_, S, L>)
         ensures { HasAsked S.Calls S.Lists S.Begins S.Watches asker.old asker.new }
     {
         self.connections.hear_writes();
@@ -186,48 +237,34 @@ impl<'a> Rounds<'a> {
             self.swept = self.tick.now;
             self.connections.leave_late::<S>(&self.tick);
         }
-        if !self.tick.is_after(self.turned, TURN_MILLISECONDS) {
-            return false;
+        if self.tick.is_after(self.turned, TURN_MILLISECONDS) {
+            self.turned = self.tick.now;
+            self.connections.look_in_turn(asker, self.tick.now);
         }
-        self.turned = self.tick.now;
-        self.connections.look_in_turn(asker, self.tick.now);
-        true
     }
 
-    /// Lets connections go on of which the system reports something, and holds those that the loop was given. Returns whether the system
-    /// reports new ones.
+    /// Accepts connections where the system reports new ones, or one may wait that it does not tell of; and lets those begin that the loop was
+    /// given.
     #[tactic(auto, using(crate::proofs::Chains::asks_on, crate::proofs::Chains::asks_nothing))]
     fn take_in<S: Site, L: Ledger, R: Wait>(
         &mut self,
         rt: &R,
         registry: &Registry,
-        events: &Events,
+        accepting: &mut Option<Accepting>,
+        is_called: bool,
         asker: &mut Asker<'_, S, L>,
-    ) -> bool
+    )
         ensures { HasAsked S.Calls S.Lists S.Begins S.Watches asker.old asker.new }
     {
-        let is_called = self.heed(events, asker);
-        self.take_given(rt, registry, asker);
-        is_called
+        if let Some(accepting) = accepting {
+            if is_called || accepting.is_held_up() {
+                self.accept_all(rt, registry, accepting, asker);
+            }
+        }
+        self.take_given(rt, registry, accepting, asker);
     }
 
-    /// Lets all connections go on, and returns whether new ones are to be looked for.
-    #[tactic(auto, using(crate::proofs::Chains::asks_on, crate::proofs::Chains::asks_nothing))]
-    fn attend<S: Site, L: Ledger, R: Wait>(
-        &mut self,
-        rt: &R,
-        registry: &Registry,
-        events: &Events,
-        asker: &mut Asker<'_, S, L>,
-    ) -> bool
-        ensures { HasAsked S.Calls S.Lists S.Begins S.Watches asker.old asker.new }
-    {
-        let is_called = self.take_in(rt, registry, events, asker);
-        let is_turn = self.tend(asker);
-        is_called || is_turn
-    }
-
-    /// Goes one round.
+    /// Goes one round. Watches are looked at last, so that they see what was written in it.
     #[tactic(auto, using(crate::proofs::Chains::asks_on, crate::proofs::Chains::asks_nothing))]
     pub(crate) fn go<S: Site, L: Ledger, R: Wait + Clock>(
         &mut self,
@@ -239,15 +276,11 @@ impl<'a> Rounds<'a> {
     ) -> io::Result<()>
         ensures { HasAsked S.Calls S.Lists S.Begins S.Watches asker.old asker.new }
     {
-        wait(poll, events, self.longest_wait())?;
+        self.await_events(poll, events, self.longest_wait())?;
         self.tick = Tick::now(rt)?;
-        let had_room = self.loops.has_room();
-        let is_called = self.attend(rt, poll.registry(), events, asker);
-        if let Some(accepting) = accepting {
-            if is_called || !had_room {
-                self.accept_all(rt, poll.registry(), accepting, asker);
-            }
-        }
+        let is_called = self.heed(events, asker);
+        self.take_in(rt, poll.registry(), accepting, is_called, asker);
+        self.tend(asker);
         Ok(())
     }
 
@@ -264,7 +297,7 @@ impl<'a> Rounds<'a> {
     {
         self.tick = Tick::now(rt)?;
         let began = self.tick.now;
-        self.take_given(rt, poll.registry(), asker);
+        self.take_given(rt, poll.registry(), &mut None, asker);
         self.connections.stop(asker, &self.tick);
         for _ in 0..u64::MAX {
             if self.connections.is_empty() || self.tick.is_after(began, STOP_MILLISECONDS) {

@@ -1,6 +1,6 @@
 //! What other threads reach of a loop.
+use crate::given::Given;
 use crossbeam_queue::ArrayQueue;
-use mio::net::TcpStream;
 use mio::{Poll, Token, Waker};
 use spec_api::kinds::Kind;
 use std::alloc::Global;
@@ -12,7 +12,7 @@ use std::sync::atomic::{AtomicU64, Ordering};
 pub(crate) const WAKER: Token = Token(usize::MAX - 1);
 
 /// How many connections may wait for a loop to take them.
-const INBOX: usize = 1024;
+pub(crate) const INBOX: usize = 256;
 
 /// What a loop is told of a kind: how many of its watches watch the kind, and whether an object of the kind was written.
 ///
@@ -59,7 +59,9 @@ impl KindWake {
 #[derive(Drop)]
 pub(crate) struct Wakes {
     waker: Waker,
-    inbox: ArrayQueue<TcpStream>,
+    inbox: ArrayQueue<Given>,
+    is_given: AtomicU64,
+    is_waiting: AtomicU64,
     config_maps: KindWake,
     pods: KindWake,
     replica_sets: KindWake,
@@ -72,6 +74,8 @@ impl Wakes {
         Ok(Wakes {
             waker: Waker::new(poll.registry(), WAKER)?,
             inbox: ArrayQueue::new(alloc, INBOX)?,
+            is_given: AtomicU64::new(0),
+            is_waiting: AtomicU64::new(0),
             config_maps: KindWake::new(),
             pods: KindWake::new(),
             replica_sets: KindWake::new(),
@@ -101,15 +105,34 @@ impl Wakes {
         }
     }
 
-    /// Gives the loop a connection, or hands it back where too many wait.
-    pub(crate) fn give<R: Wait>(&self, rt: &R, stream: TcpStream) -> Result<(), TcpStream> {
-        self.inbox.push(rt, stream)?;
-        self.wake();
+    /// Gives the loop a connection, or hands it back where too many wait. It is woken once for all that it is given before it begins to take
+    /// them, and not by itself: it takes what it is given before it waits.
+    pub(crate) fn give<R: Wait>(&self, rt: &R, given: Given, is_own: bool) -> Result<(), Given> {
+        self.inbox.push(rt, given)?;
+        if self.is_given.swap(1, Ordering::SeqCst) == 0 && !is_own {
+            self.wake();
+        }
         Ok(())
     }
 
+    /// Says that the loop waits for events, or no longer.
+    pub(crate) fn say_waiting(&self, is_waiting: bool) {
+        self.is_waiting
+            .store(u64::from(is_waiting), Ordering::SeqCst);
+    }
+
+    /// Returns whether the loop waits for events and was given nothing: it begins at once with what it is given.
+    pub(crate) fn is_free(&self) -> bool {
+        self.is_waiting.load(Ordering::SeqCst) != 0 && self.is_given.load(Ordering::SeqCst) == 0
+    }
+
+    /// Begins to take what the loop was given: who gives it more wakes it again.
+    pub(crate) fn begin_to_take(&self) {
+        self.is_given.store(0, Ordering::SeqCst);
+    }
+
     /// Takes a connection that the loop was given.
-    pub(crate) fn take<R: Wait>(&self, rt: &R) -> Option<TcpStream> {
+    pub(crate) fn take<R: Wait>(&self, rt: &R) -> Option<Given> {
         self.inbox.pop(rt)
     }
 }
