@@ -243,10 +243,9 @@ impl<'a> Rounds<'a> {
         }
     }
 
-    /// Accepts connections where the system reports new ones, or one may wait that it does not tell of; and lets those begin that the loop was
-    /// given.
+    /// Accepts connections where the system reports new ones, or one may wait that it does not tell of.
     #[tactic(auto, using(crate::proofs::Chains::asks_on, crate::proofs::Chains::asks_nothing))]
-    fn take_in<S: Site, L: Ledger, R: Wait>(
+    fn accept_called<S: Site, L: Ledger, R: Wait>(
         &mut self,
         rt: &R,
         registry: &Registry,
@@ -261,7 +260,38 @@ impl<'a> Rounds<'a> {
                 self.accept_all(rt, registry, accepting, asker);
             }
         }
+    }
+
+    /// Accepts connections that wait, and lets those begin that the loop was given.
+    #[tactic(auto, using(crate::proofs::Chains::asks_on, crate::proofs::Chains::asks_nothing))]
+    fn take_in<S: Site, L: Ledger, R: Wait>(
+        &mut self,
+        rt: &R,
+        registry: &Registry,
+        accepting: &mut Option<Accepting>,
+        is_called: bool,
+        asker: &mut Asker<'_, S, L>,
+    )
+        ensures { HasAsked S.Calls S.Lists S.Begins S.Watches asker.old asker.new }
+    {
+        self.accept_called(rt, registry, accepting, is_called, asker);
         self.take_given(rt, registry, accepting, asker);
+    }
+
+    /// Lets connections go on of which the system reports something, and others begin.
+    #[tactic(auto, using(crate::proofs::Chains::asks_on, crate::proofs::Chains::asks_nothing))]
+    fn attend<S: Site, L: Ledger, R: Wait>(
+        &mut self,
+        rt: &R,
+        registry: &Registry,
+        events: &Events,
+        accepting: &mut Option<Accepting>,
+        asker: &mut Asker<'_, S, L>,
+    )
+        ensures { HasAsked S.Calls S.Lists S.Begins S.Watches asker.old asker.new }
+    {
+        let is_called = self.heed(events, asker);
+        self.take_in(rt, registry, accepting, is_called, asker);
     }
 
     /// Goes one round. Watches are looked at last, so that they see what was written in it.
@@ -278,8 +308,7 @@ impl<'a> Rounds<'a> {
     {
         self.await_events(poll, events, self.longest_wait())?;
         self.tick = Tick::now(rt)?;
-        let is_called = self.heed(events, asker);
-        self.take_in(rt, poll.registry(), accepting, is_called, asker);
+        self.attend(rt, poll.registry(), events, accepting, asker);
         self.tend(asker);
         Ok(())
     }
