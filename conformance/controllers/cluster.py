@@ -1,7 +1,7 @@
 """A stand-in for a Kubernetes API server, which answers as the recorded one does (conformance/recorded) and says of each request that it would
 not take why not.
 
-Lists come in chunks of any length, with blanks and line breaks, and items without `kind`; objects have managedFields, uids of version 4 and
+Lists come in chunks of any length, with blanks and line breaks, and items without `kind`, and what is short with its length; objects have managedFields, uids of version 4 and
 members that no client has to know; streams of initial events are refused with 422; a Pod that runs somewhere goes once its node has ended it.
 """
 import base64
@@ -26,6 +26,8 @@ from asking import REFUSED
 
 KINDS = {"configmaps": ("v1", "ConfigMap"), "pods": ("v1", "Pod"), "replicasets": ("apps/v1", "ReplicaSet"), "deployments": ("apps/v1", "Deployment")}
 WATCH_SECONDS = 5
+# Replies below so many bytes have a length.
+SHORT = 2048
 # As often a watch that sees nothing shows a bookmark.
 BOOKMARK_SECONDS = 0.5
 MERGE, JSON = "application/merge-patch+json", "application/json"
@@ -65,6 +67,13 @@ def managed(value, manager):
     """Returns managedFields that name the members of a value's spec."""
     fields = {"f:spec": {f"f:{name}": {} for name in value.get("spec", {})}}
     return [{"manager": manager, "operation": "Update", "apiVersion": value["apiVersion"], "time": now(), "fieldsType": "FieldsV1", "fieldsV1": fields}]
+
+
+def check_version(plural, key, body, before):
+    """Checks that the version that a write names, if it names one, is the object's."""
+    version = before["metadata"]["resourceVersion"]
+    if body.get("metadata", {}).get("resourceVersion", version) != version:
+        raise Refused(409, f'Operation cannot be fulfilled on {plural} "{key[1]}": the object has been modified; please apply your changes to the latest version')
 
 
 class Store:
@@ -132,9 +141,8 @@ class Verbs:
 
     def update(self, plural, key, body, part):
         before = self.store.get(plural, key)
+        check_version(plural, key, body, before)
         checked_update(body, before, *KINDS[plural], part)
-        if body["metadata"].get("resourceVersion", before["metadata"]["resourceVersion"]) != before["metadata"]["resourceVersion"]:
-            raise Refused(409, f'Operation cannot be fulfilled on {plural} "{key[1]}": the object has been modified; please apply your changes to the latest version')
         return self.write(plural, key, before, body, part)
 
     def write(self, plural, key, before, after, part):
@@ -156,9 +164,7 @@ class Verbs:
 
     def patch(self, plural, key, body, part):
         before = self.store.get(plural, key)
-        named = body.get("metadata", {}).get("resourceVersion", before["metadata"]["resourceVersion"])
-        if named != before["metadata"]["resourceVersion"]:
-            raise Refused(409, f'Operation cannot be fulfilled on {plural} "{key[1]}": the object has been modified; please apply your changes to the latest version')
+        check_version(plural, key, body, before)
         if body.get("metadata", {}).get("uid", before["metadata"]["uid"]) != before["metadata"]["uid"]:
             raise Refused(409, "uid mismatch")
         after = merged(copy.deepcopy(before), body)
@@ -190,19 +196,26 @@ class Handler(http.server.BaseHTTPRequestHandler):
     def log_message(self, *_):
         pass
 
-    def reply(self, code, value):
-        """Replies with a value in chunks of any length."""
-        text = (json.dumps(value, indent=random.choice((None, 1))) + "\n").encode()
+    def begin(self, code, framing, value):
+        """Writes the head of a reply."""
         self.send_response(code)
         self.send_header("Content-Type", JSON)
-        self.send_header("Transfer-Encoding", "chunked")
+        self.send_header(framing, value)
         self.send_header("Connection", "close")
         self.end_headers()
+
+    def reply(self, code, value):
+        """Replies with a value: with its length where it is short, as Go's server does, else in chunks of any length."""
+        text = (json.dumps(value, indent=random.choice((None, 1))) + "\n").encode()
+        if len(text) < SHORT:
+            self.begin(code, "Content-Length", len(text))
+            return self.wfile.write(text)
+        self.begin(code, "Transfer-Encoding", "chunked")
         while text:
             size = random.choice((1, 7, 512, 4096, 65536))
             self.chunk(text[:size])
             text = text[size:]
-        self.wfile.write(b"0\r\n\r\n")
+        return self.wfile.write(b"0\r\n\r\n")
 
     def chunk(self, piece):
         self.wfile.write(b"%x\r\n%s\r\n" % (len(piece), piece))
@@ -274,11 +287,7 @@ class Handler(http.server.BaseHTTPRequestHandler):
 
     def watch(self, plural, namespace, revision, has_bookmarks):
         """Shows what happens after a revision, and from time to time a bookmark, until its time is over."""
-        self.send_response(200)
-        self.send_header("Content-Type", JSON)
-        self.send_header("Transfer-Encoding", "chunked")
-        self.send_header("Connection", "close")
-        self.end_headers()
+        self.begin(200, "Transfer-Encoding", "chunked")
         self.wfile.flush()
         last = time.monotonic() + WATCH_SECONDS
         while time.monotonic() < last:

@@ -16,8 +16,9 @@ def demand(holds, text):
 
 
 def check_type(body, api, kind):
-    """Checks that a body says its type as its path does."""
-    demand(body.get("apiVersion") == api and body.get("kind") == kind, f"type {body.get('apiVersion')} {body.get('kind')}, not {api} {kind}")
+    """Checks that a body says its type as its path does. What it does not say the server fills in, as it does before it reads a body."""
+    said = (body.get("apiVersion", api), body.get("kind", kind))
+    demand(said == (api, kind), f"type {said}, not {(api, kind)}")
 
 
 def check_owners(meta, objects):
