@@ -6,11 +6,11 @@ import time
 
 from clients import Client
 from losing import LosingProxy, whole_request
-from objects import replica_set
+from objects import replica_set, staying
 from programs import Ending, control, server
 from restarting import settle
 from understanding import reply
-from waiting import check
+from waiting import check, until
 
 REFUSED, REPLICAS, WORKERS = 12, 5, 4
 NO_MEMORY = reply("503 Service Unavailable", b'{"kind":"Status","apiVersion":"v1","status":"Failure","code":503}')
@@ -69,8 +69,7 @@ def conflicts(program):
             client.create("replicasets", replica_set(f"web-{number}", 1))
         line = controlling.next_line(controlling.errors)
         check(line == f"kcp: the server at 127.0.0.1:{proxy.port} {AGAIN_AND_AGAIN}\n".encode(), f"standard error has {line!r}")
-        for number in range(SETS):
-            settle(client, f"web-{number}", 1)
+        until(lambda: len(staying(client.present("pods"))) == SETS, "a set has not got its pod")
         check(controlling.errors.waiting.empty(), f"standard error says more: {controlling.errors.last!r}")
         proxy.close()
         return f"{CONFLICTS} conflicts told once, and all sets have their pods"
