@@ -111,10 +111,10 @@ fn woken<R: Threads + Wait + Clock + Sync>(
     let (told, done) = thread::join(
         rt,
         || -> (bool, bool)
-            requires { IsNewAt board.now first }
+            requires { IsNewAt board first }
         { wait(rt, &board, first) },
         || -> Result<(), AllocError>
-            requires { IsNewAt board.now second }
+            requires { IsNewAt board second }
         { wake(rt, &board, second, &key, cause) },
     );
     done?;
@@ -185,10 +185,10 @@ fn rested<R: Threads + Wait + Clock + Sync>(rt: &R, alloc: Global) -> Result<boo
     let (is_short, delayed) = thread::join(
         rt,
         || -> bool
-            requires { IsNewAt board.now first }
+            requires { IsNewAt board first }
         { rest(rt, &board, first) },
         || -> Result<(), AllocError>
-            requires { IsNewAt board.now second }
+            requires { IsNewAt board second }
         { delay(rt, &board, second, &key) },
     );
     delayed?;
