@@ -13,7 +13,7 @@ use Rattle.std.specs.FinSet as set
 use Rattle.std.specs.FinSet.{contains-from_list, contains-insert, contains-remove, same_set}
 use Rattle.spec_client_go.specs.Delays.{has_come}
 use Rattle.spec_client_go.proofs.Alarms.{is_moment, same_at_itself}
-use Rattle.keyed_delays.specs.Delays.{KeyDelays, KeyAlarm, AreAlarms, alarm_cmp, alarm_of, due, still_delayed}
+use Rattle.keyed_delays.specs.Delays.{KeyDelays, KeyAlarm, AreAlarms, alarm_cmp, alarm_of, due, first_moment, next_moment, still_delayed}
 use Rattle.keyed_delays.proofs.Alarms as of
 
 module _ {N : Type 0} (R : N → N → Ordering) (total : IsTotalOrder R) (tells : IsAntisymmetric R) where
@@ -128,6 +128,10 @@ module _ {N : Type 0} (R : N → N → Ordering) (total : IsTotalOrder R) (tells
             (sym (contains-from_list alarm_total ks (alarm_of (q, b))) ∙ ap (λ s. set.contains s (alarm_of (q, b))) h.are ∙ of.contains-alarms R total tells m (alarm_of (q, b)) ∙ ap (λ o. is_moment o b) is ∙ same_at_itself b))
 
   -- where the first alarm is later, or there is none, no key is due
+  -- the next moment is that of the first alarm
+  pub next_is_first : (m : KeyDelays R) (ks : List (KeyAlarm N)) → AreAlarms R m ks → next_moment m ≡ first_moment ks
+  next_is_first m ks h = ap first_moment (of.alarms_are R total tells m ks h.in_order h.are)
+
   pub none_due : (now : ℕ) (m : KeyDelays R) → AreAlarms R m [] → due now m ≡ []
   unfolding AllLater
   none_due now m h = none_due_later now m [] h tt

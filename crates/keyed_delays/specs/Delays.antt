@@ -1,5 +1,5 @@
 -- Keys of any type that come due, by the names that the keys say and the order of names.
-use Rattle.std.specs.Prelude.{◌≡◌, ℕ, List, not, nat_le, map as list_map}
+use Rattle.std.specs.Prelude.{◌≡◌, ℕ, List, [], ◌∷◌, Option, Some, None, not, nat_le, map as list_map}
 use Rattle.std.specs.List.{filter}
 use Rattle.std.specs.List.Sorted.{IsStrictlySortedBy}
 use Rattle.std.specs.Ordering.{nat_cmp, then_cmp, on}
@@ -35,6 +35,15 @@ alarms {N = N} {R = R} m = map.keys (map.from_entries {X = Unit {0}} {R = alarm_
 -- the keys whose moment has come, in that order
 abbrev pub due : {N : Type 0} {R : N → N → Ordering} → ℕ → KeyDelays R → List N
 due {N = N} now m = list_map (λ (a : KeyAlarm N). a.key) (filter (λ (a : KeyAlarm N). nat_le a.at now) (alarms m))
+
+-- the moment of the first of these alarms
+abbrev pub first_moment : {N : Type 0} → List (KeyAlarm N) → Option ℕ
+first_moment [] = None
+first_moment (a ∷ rest) = Some a.at
+
+-- the moment at which the next key comes due, if one is delayed
+abbrev pub next_moment : {N : Type 0} {R : N → N → Ordering} → KeyDelays R → Option ℕ
+next_moment m = first_moment (alarms m)
 
 -- the delays that are left when those keys are removed
 abbrev pub still_delayed : {N : Type 0} {R : N → N → Ordering} → ℕ → KeyDelays R → KeyDelays R

@@ -32,7 +32,7 @@ impl<K: Named> Model for KeyedDelays<K> {
 impl<K: Named> KeyedDelays<K> {
     ghost use Rattle.std.specs.Prelude.{◌≡◌, ◌∷◌, ◌<◌, [], map as list_map, length, IfOk, OnOk, OnErr, IfSome, IfNone, None, Some};
     ghost use Rattle.std.specs.FinMap as map;
-    ghost use Rattle.keyed_delays.specs.Delays.{delayed, due, still_delayed};
+    ghost use Rattle.keyed_delays.specs.Delays.{delayed, due, next_moment, still_delayed};
     ghost use Rattle.named_keys.specs.Numbers.{said};
 
     /// Returns a table in which no key is delayed.
@@ -93,6 +93,16 @@ impl<K: Named> KeyedDelays<K> {
         self.alarms.remove(&replaced);
         self.moments.insert(replaced.key, at)?;
         Ok(())
+    }
+
+    /// Returns the moment at which the next key comes due, if one is delayed. It takes no memory.
+    pub fn next_moment(&self) -> Option<u64>
+        ensures { result ≡ next_moment (said K.order K.says self.now) }
+    {
+        let Some(first) = self.alarms.first() else {
+            return None;
+        };
+        Some(first.at)
     }
 
     /// Removes the keys whose moment is at most `now`, and returns them by moment, and those of one moment in order. The error

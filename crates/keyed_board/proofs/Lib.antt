@@ -1,0 +1,3 @@
+pub mod Shutting
+pub mod DueTold
+pub mod WorkBoards

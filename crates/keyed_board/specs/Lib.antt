@@ -1,0 +1,5 @@
+pub mod Boards
+pub mod Steps
+pub mod Said
+pub mod DueLaws
+pub mod WorkLaws

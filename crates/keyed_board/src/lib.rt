@@ -1,0 +1,10 @@
+//! A board of keys of any type that workers share: the work queue, the keys with a delay, the failures in a row, and the time. Each
+//! call is one step.
+#![tactic(auto)]
+
+pub mod board;
+pub mod board_laws;
+pub mod outcome;
+
+pub use board::KeyedBoard;
+pub use outcome::Outcome;

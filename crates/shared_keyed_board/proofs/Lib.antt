@@ -1,0 +1,6 @@
+pub mod InHands
+pub mod Standing
+pub mod Told
+pub mod Passing
+pub mod Remembering
+pub mod Attempting

@@ -1,0 +1,20 @@
+//! What a call does.
+use keyed_board::Outcome;
+
+/// What a call does to the board that its pass holds.
+#[derive(Debug, Clone, Copy, PartialEq, Eq)]
+pub(crate) enum Doing {
+    Nothing,
+    Adds,
+    Ticks(u64),
+    ShutsDown,
+}
+
+/// What a call does to the board with one key.
+#[derive(Debug, Clone, Copy, PartialEq, Eq)]
+pub(crate) enum KeyDoing {
+    Adds,
+    AddsAfter(u64),
+    Takes,
+    Finishes(Outcome),
+}
