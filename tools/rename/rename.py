@@ -16,10 +16,8 @@ sys.dont_write_bytecode = True
 HERE = Path(__file__).resolve().parent
 sys.path.insert(0, str(HERE))
 import types_of
-from places import EXPORTS, KEPT, TYPES
-
-CODE = (".rt", ".antt", ".edit")
-SCRIPTS = (".py", ".txt", ".md", ".sh", "run")
+from places import EXPORTS, TYPES
+from texts import CODE, SCRIPTS, Renaming, git, uses_of
 
 
 def read_names():
@@ -39,56 +37,6 @@ def read_names():
     return crates, jobs, types
 
 
-def uses_of(text):
-    """Returns for each crate of a crates.txt what its line names."""
-    rows = [line.split(":") for line in text.splitlines() if line.strip() and not line.startswith("#")]
-    return {row[0].split()[0]: row[1].split() for row in rows}
-
-
-def words(names):
-    return "|".join(sorted(names, key=len, reverse=True))
-
-
-class Renaming:
-    """The names of crates, and what is done to a text with them."""
-
-    def __init__(self, crates, uses):
-        self.new = {old: new for old, new in crates.items() if old != new}
-        self.uses = uses
-        self.any = words(self.new)
-        self.ghost = re.compile(rf"(?<=\bRattle\.)({self.any})\b|(?<=\.below\.)({self.any})\b")
-        self.folder = re.compile(rf"(?<=\bcrates/)({self.any})(?![\w-])")
-        self.listed = re.compile(rf"(?<=[\"`])({self.any})(?=[\"`]|/specs\")")
-        self.quoted = re.compile(rf"(?<=`)({self.any})(?=`|::|/(?:src|specs|proofs|must-fail|wrong-code|[a-z]+_[a-z_]+`))")
-
-    def put(self, found):
-        return self.new[found[0]]
-
-    def code(self, text, crate, modules=None):
-        """Renames in the text of a crate's file: the crates that it uses head its paths, and in an edit any that is no module of it."""
-        heads = [name for name in (self.uses[crate] if modules is None else self.new.keys() - modules) if name in self.new]
-        text = self.ghost.sub(self.put, text)
-        if heads:
-            text = re.sub(rf"(?<![\w:.'`])({words(heads)})(?=::\w|::\{{)", self.put, text)
-        return re.sub(rf"(?<=`)({self.any})(?=::|/)", self.put, text)
-
-    def page(self, text, path):
-        """Renames in a page: crates stand in back quotes there, and head paths in them."""
-        rows = []
-        for line in text.split("\n"):
-            kept = [word for word, begins in KEPT.get(path, []) if line.startswith(begins)]
-            renamed = self.folder.sub(self.put, self.ghost.sub(self.put, line))
-            rows.append(re.sub(self.quoted, lambda it: it[0] if it[0] in kept else self.new[it[0]], renamed))
-        return "\n".join(rows)
-
-    def line_of_crates(self, line):
-        """Renames in a line of crates.txt."""
-        head, colon, used = line.partition(":")
-        fields = head.split()
-        fields[0] = self.new.get(fields[0], fields[0])
-        return " ".join(fields) + colon + "".join(f" {self.new.get(name, name)}" for name in used.split())
-
-
 def crates_text(text, renaming, jobs):
     """Returns crates.txt with the new names, and above each crate what it is for."""
     rows = []
@@ -98,10 +46,6 @@ def crates_text(text, renaming, jobs):
             line = renaming.line_of_crates(line)
         rows.append(line)
     return "\n".join(rows) + "\n"
-
-
-def git(tree, *words):
-    return subprocess.run(["git", "-C", tree, *words], check=True, capture_output=True, text=True).stdout
 
 
 def main():
