@@ -17,7 +17,7 @@ from pathlib import Path
 
 sys.dont_write_bytecode = True
 HERE = Path(__file__).resolve().parent
-sys.path[:0] = [str(HERE), str(HERE.parent / "rename")]
+sys.path[:0] = [str(HERE)]
 import pages
 import table
 from listed import Listed, circle

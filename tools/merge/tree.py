@@ -17,7 +17,7 @@ class Tree:
             raise SystemExit(f"{self.top}: it is not clean")
         self.files, self.origin = {}, {}
         for path in git(self.top, "ls-files", "-z").split("\0"):
-            if path and not path.startswith(("tools/rename/", "tools/merge/")):
+            if path and not path.startswith("tools/merge/"):
                 try:
                     self.files[path] = (self.top / path).read_text(encoding="utf-8")
                 except UnicodeDecodeError:

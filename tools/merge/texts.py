@@ -1,4 +1,4 @@
-"""Where crates are named in the texts of a tree, and how the names are replaced: what renaming and merging share."""
+"""Where crates are named in the texts of a tree, and how the names are replaced: for programs that move crates."""
 import re
 import subprocess
 
