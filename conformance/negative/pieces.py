@@ -113,7 +113,15 @@ def function_at(path, text, at):
             owner = owner_in(line)
             break
     module = "::".join(it for it in pathlib.PurePath(path).with_suffix("").parts[1:] if it not in ("lib", "main", "mod"))
-    return "::".join(filter(None, [module, owner, function])) if function else None
+    return "::".join(filter(None, [home_of(text, owner) or module, owner, function])) if function else None
+
+
+def home_of(text, owner):
+    """Returns the module of the crate from which a source has a type, by which the prover knows the type's methods wherever they stand, or None."""
+    for module, names in re.findall(r"(?m)^use crate::([\w:]+)::(\{[^}]*\}|\w+);", text):
+        if owner and owner in re.findall(r"\w+", names):
+            return module
+    return None
 
 
 def owner_in(line):
