@@ -116,7 +116,7 @@ def crate_rows(crate, modules, used):
 
 def laws_of(path):
     """Returns the laws of a file: of each its name, and what it says."""
-    found = re.findall(r"((?:^///.*\n)+)(?:^#.*\n)*pub fn (\w+)\(\)\n(?:^    (?:ensures|//) .*\n)+\{\}", text_of(path), re.M)
+    found = re.findall(r"((?:^///.*\n)+)(?:^#.*\n)*pub fn (\w+)(?:<[^>\n]*>)?\(\)\n(?:^    (?:ensures|//) .*\n)+\{\}", text_of(path), re.M)
     return [(name, " ".join(line.removeprefix("///").strip() for line in lines.splitlines())) for lines, name in found]
 
 
