@@ -3,7 +3,7 @@ use chunked::Watched;
 use http_client::{Answer, LARGEST_BODY, Outgoing, call};
 use std::alloc::Global;
 use std::io::ErrorKind;
-use test_devices::{Source, TestSink};
+use test_fixtures::{Source, TestSink};
 
 /// A reply.
 const CREATED: &[u8] = b"HTTP/1.1 201 Created\r\nContent-Length: 2\r\n\r\n{}";

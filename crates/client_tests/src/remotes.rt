@@ -8,7 +8,7 @@ use spec_api::kinds::Kind;
 use std::alloc::{AllocError, Global};
 use std::io;
 use std::io::ErrorKind;
-use test_devices::{Source, TestSink};
+use test_fixtures::{Source, TestSink};
 
 const LIST: &[u8] = b"HTTP/1.1 200 OK\r\nContent-Length: 2\r\n\r\n{}";
 

@@ -3,7 +3,7 @@ use chunked::Watched;
 use http_client::{LARGEST_BODY, ReplyFault, read_reply, read_whole};
 use std::alloc::Global;
 use std::io::ErrorKind;
-use test_devices::Source;
+use test_fixtures::Source;
 
 /// What a server writes for an object that is not there, and what follows it.
 const REFUSAL: &[u8] =

@@ -2,7 +2,7 @@
 use chunked::{Reader, Watched};
 use http_client::{LARGEST_BODY, More, ReplyFault, WatchAnswer, open_watch, read_more};
 use std::alloc::Global;
-use test_devices::Source;
+use test_fixtures::Source;
 
 /// A watch with two frames, and what follows it.
 const WATCH: &[u8] =

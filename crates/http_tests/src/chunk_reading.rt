@@ -1,7 +1,7 @@
 //! Chunks read in pieces of any size, from devices that fail or are interrupted, and from texts that are none.
 use chunked::{ChunkFault, Reader, Watched};
 use std::io::{ErrorKind, Read};
-use test_devices::Source;
+use test_fixtures::Source;
 
 /// Two chunks, the second with an extension, the end, and what follows the body.
 const BODY: &[u8] = b"4\r\nWiki\r\nB;a=\"b\"\r\npedia in ch\r\n0\r\n\r\nnext";

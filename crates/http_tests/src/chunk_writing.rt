@@ -3,7 +3,7 @@ use crate::chunk_reading::read_all;
 use chunked::{ChunkFault, Reader, Watched, Writer};
 use std::alloc::Global;
 use std::io::{ErrorKind, Write};
-use test_devices::{Source, TestSink};
+use test_fixtures::{Source, TestSink};
 
 /// What is written before the end, at which call the device fails and how, and whether it fails before; then what became of each call,
 /// what was written, and how many calls were made.

@@ -4,7 +4,7 @@ use http_request_head::ReadFault;
 use http_request_head::reading::read_head;
 use httparse::spans::EMPTY_HEADER_SPAN;
 use std::alloc::Global;
-use test_devices::Source;
+use test_fixtures::Source;
 
 /// A head, and the beginning of a body.
 const POST: &[u8] = b"POST /api/v1/pods HTTP/1.1\r\nHost: a\r\ncontent-length:  4 \r\n\r\n{}";

@@ -6,7 +6,7 @@ use request_routing::table::Routes;
 use server::Server;
 use std::alloc::{AllocError, Global};
 use std::io::ErrorKind;
-use test_devices::{Source, TestSink};
+use test_fixtures::{Source, TestSink};
 
 /// The names of the ConfigMaps that are there.
 const NAMES: &[u8] = b"abcdefghijklmnopqrstuvwx";

@@ -8,7 +8,7 @@ use request_routing::table::Routes;
 use spec_api::kinds::Kind;
 use std::alloc::{AllocError, Global};
 use std::io::ErrorKind;
-use test_devices::Source;
+use test_fixtures::Source;
 
 /// A create, whose body ends before the last byte.
 const CREATE: &[u8] =

@@ -9,7 +9,7 @@ use server::Server;
 use spec_api::kinds::Kind;
 use std::alloc::{AllocError, Global};
 use std::io::ErrorKind;
-use test_devices::{Source, TestSink};
+use test_fixtures::{Source, TestSink};
 
 /// A list of the ConfigMaps of all namespaces.
 const LIST: &[u8] = b"GET /api/v1/configmaps HTTP/1.1\r\n\r\n";

@@ -10,7 +10,7 @@ use server::Server;
 use spec_api::kinds::Kind;
 use std::alloc::{AllocError, Global};
 use std::io::ErrorKind;
-use test_devices::{Source, TestSink};
+use test_fixtures::{Source, TestSink};
 
 /// A create of the ConfigMap `a`.
 const CREATE: &[u8] =

@@ -6,7 +6,7 @@ use indexer::Indexed;
 use reconcile_types::Hand;
 use spec_api::kinds::Kind;
 use std::alloc::{AllocError, Global};
-use test_objects::key;
+use test_fixtures::key;
 
 /// A pod of the ConfigMap `a`.
 const OF_A: &str =

@@ -6,7 +6,7 @@ use indexer::Indexed;
 use reconcile_types::Hand;
 use spec_api::kinds::Kind;
 use std::alloc::{AllocError, Global};
-use test_objects::key;
+use test_fixtures::key;
 
 /// A Deployment of ten that goes on to the image `web:2`, with the default pace: there may be 25% more, and 25% may be unavailable.
 const DEPLOYMENT: &str =

@@ -3,7 +3,7 @@ use expectations::Table;
 use object_keys::Key;
 use spec_api::kinds::Kind;
 use std::alloc::{AllocError, Global};
-use test_objects::key;
+use test_fixtures::key;
 
 /// Returns whether two creations, one of which is seen, are waited for no longer after five minutes, and a moment later, and whether that is so
 /// at once where the other one failed.

@@ -7,7 +7,7 @@ use reflector::{Delta, SharedObject};
 use serde_json::Value;
 use spec_api::kinds::Kind;
 use std::alloc::{AllocError, Global};
-use test_objects::key;
+use test_fixtures::key;
 
 /// Returns the object of a kind that a text says. The text is one that can be read.
 fn object(alloc: Global, kind: Kind, text: &str) -> Result<Object, AllocError> {

@@ -6,7 +6,7 @@ use reconcile_types::Hand;
 use replicaset::{asks, plan};
 use spec_api::kinds::Kind;
 use std::alloc::{AllocError, Global};
-use test_objects::key;
+use test_fixtures::key;
 
 /// A pod that is ready.
 const P3: &str =

@@ -2,7 +2,7 @@
 use spec_api::kinds::Kind;
 use spec_client_go::controller::Controller;
 use std::alloc::{AllocError, Global};
-use test_objects::key;
+use test_fixtures::key;
 use work_keys::WorkKey;
 use workqueue::Queue;
 

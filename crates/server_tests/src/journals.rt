@@ -5,7 +5,7 @@ use selector::View;
 use spec_api::kinds::Kind;
 use std::alloc::{AllocError, Global};
 use std::test::Fail;
-use test_objects::{key, stored};
+use test_fixtures::{key, stored};
 
 /// Returns the journal.
 fn three_writes(alloc: Global, object: &StoredObject) -> Result<Journal, AllocError> {

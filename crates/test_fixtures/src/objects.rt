@@ -1,5 +1,4 @@
 //! Keys and objects for tests.
-#![tactic(auto)]
 
 use meta::{Object, StoredObject};
 use object_keys::Key;
