@@ -1,4 +1,5 @@
-//! Tests of what a server keeps and of the frames of its watches, on input that no line of a request and no simulated step can give.
+//! Tests of texts and objects, of what a server keeps and of the frames of its watches, on input that no line of a request and no simulated step
+//! can give: revisions and clusters of any size, values that nest deeper than a body, and how an object is laid out.
 #![tactic(auto)]
 
 #[cfg(test)]
@@ -7,3 +8,7 @@ mod frames;
 mod journals;
 #[cfg(test)]
 mod reflectors;
+#[cfg(test)]
+mod stored_objects;
+#[cfg(test)]
+mod uids;
