@@ -25,13 +25,13 @@ use Rattle.desk.specs.contracts.seats.Seat as Seat
 use Rattle.manager_worker.proofs.signals.Signals.TheSendSync as signals
 use Rattle.manager_worker.specs.contracts.signals.Signals as Signals
 use Rattle.manager.proofs.running.Apis.TheSendSync as apis_of
-use Rattle.manager_tests.proofs.watches.Watch.TheSendSync as watch
-use Rattle.manager_tests.specs.contracts.environments.Environment as Environment
-use Rattle.manager_tests.specs.contracts.ringers.BellRinger as Ringer
-use Rattle.manager_tests.specs.contracts.running.SceneControllers as Controllers
-use Rattle.manager_tests.specs.contracts.servers.SharedServer as SharedServer
-use Rattle.manager_tests.specs.contracts.watches.Watch as Watch
-use Rattle.manager_tests.proofs.running.run_scenario.Goals as goal
+use Rattle.threads_tests.proofs.watches.Watch.TheSendSync as watch
+use Rattle.threads_tests.specs.contracts.environments.Environment as Environment
+use Rattle.threads_tests.specs.contracts.ringers.BellRinger as Ringer
+use Rattle.threads_tests.specs.contracts.running.SceneControllers as Controllers
+use Rattle.threads_tests.specs.contracts.servers.SharedServer as SharedServer
+use Rattle.threads_tests.specs.contracts.watches.Watch as Watch
+use Rattle.threads_tests.proofs.running.run_scenario.Goals as goal
 
 alloc : IsSend (as_row Global.the_field)
 alloc = search (heap.send, sendable)

@@ -21,12 +21,12 @@ use Rattle.desk.specs.contracts.desks.Desk as Desk
 use Rattle.desk.specs.contracts.seats.Seat as Seat
 use Rattle.manager_worker.proofs.signals.Signals.TheSendSync as signals
 use Rattle.manager_worker.specs.contracts.signals.Signals as Signals
-use Rattle.manager_tests.proofs.watches.Watch.TheSendSync as watch
-use Rattle.manager_tests.specs.contracts.environments.Environment as Environment
-use Rattle.manager_tests.specs.contracts.ringers.BellRinger as Ringer
-use Rattle.manager_tests.specs.contracts.servers.SharedServer as SharedServer
-use Rattle.manager_tests.specs.contracts.watches.Watch as Watch
-use Rattle.manager_tests.proofs.running.SceneControllers.run.Goals as goal
+use Rattle.threads_tests.proofs.watches.Watch.TheSendSync as watch
+use Rattle.threads_tests.specs.contracts.environments.Environment as Environment
+use Rattle.threads_tests.specs.contracts.ringers.BellRinger as Ringer
+use Rattle.threads_tests.specs.contracts.servers.SharedServer as SharedServer
+use Rattle.threads_tests.specs.contracts.watches.Watch as Watch
+use Rattle.threads_tests.proofs.running.SceneControllers.run.Goals as goal
 
 alloc : IsSend (as_row Global.the_field)
 alloc = search (heap.send, sendable)
