@@ -8,7 +8,7 @@ some is not taken for a fast one. At the end stand the two things that the decod
 a factor of 50 of the fastest, and twice the bytes take about twice the time.
 
 Usage: decoder.py [--program PATH] [--mebibytes N] [--runs N] [--seconds N]
-  --program PATH   an executable that is built; without it `rt run` in crates/decoder_bench proves and builds one first
+  --program PATH   an executable that is built; without it `rt run` in crates/benchmarks proves and builds one first
   --mebibytes N    what is fed in each size, 16 if left out, 512 at most; the doubled runs take twice that
   --runs N         runs of each size, of which the best counts, 5 if left out
   --seconds N      the longest that one run may take, 120 if left out

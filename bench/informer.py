@@ -6,7 +6,7 @@ and publishes of one delta. Each run is a process of its own, and each figure th
 in the Pods and does nothing more. The time is the processor's.
 
 Usage: informer.py [--program PATH] [--thousands N] [--runs N] [--seconds N]
-  --program PATH   an executable that is built; without it `rt run -- owner 1` in crates/informer_bench proves and builds one first
+  --program PATH   an executable that is built; without it `rt run -- owner 1` in crates/benchmarks proves and builds one first
   --thousands N    how many thousand times each is done; 10 if left out
   --runs N         runs of each kind, of which the best counts, 5 if left out
   --seconds N      the longest that one run may take, 120 if left out

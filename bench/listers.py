@@ -7,7 +7,7 @@ another thread publishes a delta each millisecond, or as often as it can, for tw
 beside it stand the least and the greatest. What a run writes is checked.
 
 Usage: listers.py [--program PATH] [--thousands N] [--runs N] [--seconds N]
-  --program PATH   an executable that is built; without it `rt run -- publish 1` in crates/lister_bench proves and builds one first
+  --program PATH   an executable that is built; without it `rt run -- publish 1` in crates/benchmarks proves and builds one first
   --thousands N    how many thousand deltas are published, 20 if left out
   --runs N         runs of each kind, 5 if left out
   --seconds N      the longest that one run may take, 120 if left out

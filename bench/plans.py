@@ -10,7 +10,7 @@ that sets beyond the history are deleted. Each run is a process of its own, and 
 processor's time, less that of a run that makes the objects and plans nothing. How many commands were planned is checked.
 
 Usage: plans.py [--program PATH] [--plans N] [--runs N] [--seconds N]
-  --program PATH   an executable that is built; without it `rt run -- half 500 2` in crates/plan_bench proves and builds one first
+  --program PATH   an executable that is built; without it `rt run -- half 500 2` in crates/benchmarks proves and builds one first
   --plans N        how many plans are made for 500 pods, and fewer for more; 1000 if left out
   --runs N         runs of each kind, of which the best counts, 5 if left out
   --seconds N      the longest that one run may take, 120 if left out

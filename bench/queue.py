@@ -8,7 +8,7 @@ its own, and each figure the best of several, less the time of a run that makes 
 writes is checked.
 
 Usage: queue.py [--program PATH] [--thousands N] [--runs N] [--seconds N]
-  --program PATH   an executable that is built; without it `rt run -- queue 1` in crates/queue_bench proves and builds one first
+  --program PATH   an executable that is built; without it `rt run -- queue 1` in crates/benchmarks proves and builds one first
   --thousands N    how many thousand keys are added, 1000 if left out
   --runs N         runs of each kind, of which the best counts, 5 if left out
   --seconds N      the longest that one run may take, 120 if left out

@@ -15,8 +15,8 @@ use Rattle.std.specs.contracts.impls.GlobalAllocator.TheImpl.{ghosts}
 use Rattle.std.specs.contracts.sync.atomic.AtomicU64 as AtomicU64
 use Rattle.std.specs.contracts.vec.Vec as Vec
 use Rattle.object_keys.proofs.key.Key.TheSendSync as key_of
-use Rattle.lister_bench.proofs.looks.Wanted.TheSendSync as wanted_of
-use Rattle.lister_bench.specs.contracts.looks.Wanted as Wanted
+use Rattle.benchmarks.proofs.lister_looks.Wanted.TheSendSync as wanted_of
+use Rattle.benchmarks.specs.contracts.lister_looks.Wanted as Wanted
 use Rattle.informer.proofs.Sent.{lister}
 use Rattle.informer.specs.contracts.listers.Lister as Lister
 

@@ -1,12 +1,8 @@
 //! Feeds the decoder of frames for a benchmark: `decoder_bench PIECE MEBIBYTES FRAME` makes as many frames of FRAME bytes
 //! as go into so many MiB, feeds them in pieces of PIECE bytes, and writes how many frames came out.
-#![tactic(auto)]
 
-mod asked;
-mod feeding;
-
-use asked::Sizes;
-use feeding::FeedFault;
+use crate::decoder_feeding::FeedFault;
+use crate::sizes::Sizes;
 use std::alloc::Global;
 use std::process::ExitCode;
 use std::{env, io};
@@ -25,8 +21,8 @@ fn read_arguments(rt: &HostRuntime) -> io::Result<Option<Sizes>> {
 
 /// Returns the number of frames that come out.
 fn frames(alloc: Global, asked: Sizes) -> Result<u64, FeedFault> {
-    let input = feeding::input(alloc, asked.frame, asked.total)?;
-    feeding::count(alloc, input.as_slice(), asked.piece)
+    let input = crate::decoder_feeding::input(alloc, asked.frame, asked.total)?;
+    crate::decoder_feeding::count(alloc, input.as_slice(), asked.piece)
 }
 
 /// Returns what a fault is called on standard error.

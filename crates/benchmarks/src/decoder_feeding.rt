@@ -1,7 +1,7 @@
 //! Frames that are made, and fed to a decoder.
 ghost use Rattle.std.specs.Prelude.{◌≤◌};
 
-use crate::asked::SHORTEST_FRAME;
+use crate::sizes::SHORTEST_FRAME;
 use framing::{Decoder, Want};
 use std::alloc::{AllocError, Global};
 

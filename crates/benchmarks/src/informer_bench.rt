@@ -1,10 +1,6 @@
 //! Measures an indexed copy of Pods: `informer_bench WHAT TIMES` takes in 10,000 Pods of 100 ReplicaSets, and then does WHAT so
 //! many times: `put` applies a delta that puts a Pod, `copy` copies the copy, `owner` looks up the Pods of a ReplicaSet,
 //! `owed` asks which keys a change of a Pod owes, and `publish` publishes a delta.
-#![tactic(auto)]
-
-mod pods;
-mod rounds;
 
 use std::process::ExitCode;
 use std::{env, io};
@@ -49,7 +45,7 @@ fn main(rt: HostRuntime) -> io::Result<ExitCode> {
         eprintln!(rt; "informer_bench: bad arguments")?;
         return Ok(ExitCode::from(2));
     };
-    match rounds::run(rt.alloc(), what, times) {
+    match crate::informer_rounds::run(rt.alloc(), what, times) {
         Ok(count) => {
             println!(rt; "{count}")?;
             Ok(ExitCode::SUCCESS)

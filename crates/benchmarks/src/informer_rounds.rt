@@ -1,6 +1,6 @@
 //! What is measured, so many times.
-use crate::What;
-use crate::pods::{PODS, SETS, pod, set, uid};
+use crate::informer_bench::What;
+use crate::informer_pods::{PODS, SETS, pod, set, uid};
 use indexer::Indexed;
 use plain_informer::{Looks, PlainInformer, keys_of};
 use reflector::{Delta, SharedObject};

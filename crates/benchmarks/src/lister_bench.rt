@@ -2,14 +2,9 @@
 //! `publish` publishes a delta so many times; `looks` has so many threads look for two seconds, while another publishes a thousand
 //! deltas a second, or as many as it can, and each look reads the revision; with `gets` each gets a Pod. It prints how many shifts
 //! the publishes had, or how many looks and publishes there were a second.
-#![tactic(auto)]
 
-mod looks;
-mod pods;
-mod publishes;
-
-use crate::looks::Wanted;
-use crate::pods::{PODS, key};
+use crate::lister_looks::Wanted;
+use crate::lister_pods::{PODS, key};
 use std::alloc::{AllocError, Global};
 use std::process::ExitCode;
 use std::sync::Wait;
@@ -55,7 +50,7 @@ fn looked<R: Threads + Wait + Clock + Sync>(
     threads: u32,
     wanted: &Wanted,
 ) -> Result<String, AllocError> {
-    let counts = looks::run(rt, alloc, threads, wanted)?;
+    let counts = crate::lister_looks::run(rt, alloc, threads, wanted)?;
     format!(in alloc;
         "{} looks and {} publishes a second",
         counts.looks, counts.publishes
@@ -71,7 +66,7 @@ fn measured<R: Threads + Wait + Clock + Sync>(
 ) -> Result<String, AllocError> {
     match what {
         Measurement::Publish => {
-            let shifts = publishes::run(rt, alloc, number)?;
+            let shifts = crate::lister_publishes::run(rt, alloc, number)?;
             format!(in alloc; "{shifts} shifts")
         }
         Measurement::Looks => looked(rt, alloc, number, &Wanted::Revision),

@@ -1,5 +1,5 @@
 //! Threads that look while another publishes.
-use crate::pods::{pods, publish_all, publish_one};
+use crate::lister_pods::{pods, publish_all, publish_one};
 use indexer::Indexed;
 use informer::{Informer, Lister};
 use object_keys::Key;

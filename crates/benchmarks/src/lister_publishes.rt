@@ -1,5 +1,5 @@
 //! Publishes of one delta.
-use crate::pods::{pods, publish_all, publish_one};
+use crate::lister_pods::{pods, publish_all, publish_one};
 use informer::Informer;
 use reflector::SharedObject;
 use std::alloc::{AllocError, Global};

@@ -1,5 +1,5 @@
 //! A line without the queue's rules, to compare with.
-use crate::line::WaitingLine;
+use crate::waiting_line::WaitingLine;
 use std::alloc::{AllocError, Global};
 use std::collections::{BTreeSet, VecDeque};
 use work_keys::WorkKey;

@@ -3,14 +3,9 @@
 //! half of the pods are too many, for the collector `foreground` and `orphan`, where the set is being deleted and waits for its
 //! pods, or leaves them, and for the Deployment `rollout`, where its new set grows, and `history`, where sets that nobody needs
 //! are deleted.
-#![tactic(auto)]
 
-mod deployments;
-mod hands;
-mod texts;
-
-use crate::deployments::rollout_hand;
-use crate::hands::hand;
+use crate::plan_deployments::rollout_hand;
+use crate::plan_hands::hand;
 use indexer::Indexed;
 use object_keys::Fault;
 use reconcile_types::{Hand, Plan};

@@ -1,6 +1,6 @@
 //! What is planned of: a Deployment, and its sets.
-use crate::Way;
-use crate::hands::{look, object};
+use crate::plan_bench::Way;
+use crate::plan_hands::{look, object};
 use indexer::Indexed;
 use object_keys::{Fault, Key};
 use reconcile_types::{Hand, Looks};

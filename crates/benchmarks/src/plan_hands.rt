@@ -1,6 +1,6 @@
 //! What is planned of: the set, and its pods.
-use crate::Way;
-use crate::texts::{pod, set};
+use crate::plan_bench::Way;
+use crate::plan_texts::{pod, set};
 use indexer::Indexed;
 use meta::Object;
 use object_keys::{Fault, Key};

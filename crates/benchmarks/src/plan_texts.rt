@@ -1,5 +1,5 @@
 //! The set and its pods, as texts.
-use crate::Way;
+use crate::plan_bench::Way;
 use std::alloc::{AllocError, Global};
 
 /// How many nodes there are.

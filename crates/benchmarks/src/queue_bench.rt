@@ -2,13 +2,8 @@
 //! use, `queue_bench plain` does the same with a set and a deque that keep none of its rules.
 //!
 //! A second word is how many thousand keys are added, 1,000 where it is left out.
-#![tactic(auto)]
 
-mod line;
-mod plain;
-mod rounds;
-
-use crate::plain::Plain;
+use crate::plain_queue::Plain;
 use std::alloc::AllocError;
 use std::process::ExitCode;
 use std::{env, io};
@@ -46,8 +41,8 @@ fn asked(rt: &HostRuntime) -> io::Result<Option<(Way, u32)>> {
 /// Returns how many keys were handed out.
 fn handed_out(rt: &HostRuntime, way: Way, thousands: u32) -> Result<u64, AllocError> {
     match way {
-        Way::Queue => rounds::run(rt.alloc(), &mut Queue::new(rt.alloc()), thousands),
-        Way::Plain => rounds::run(rt.alloc(), &mut Plain::new(rt.alloc()), thousands),
+        Way::Queue => crate::queue_rounds::run(rt.alloc(), &mut Queue::new(rt.alloc()), thousands),
+        Way::Plain => crate::queue_rounds::run(rt.alloc(), &mut Plain::new(rt.alloc()), thousands),
     }
 }
 

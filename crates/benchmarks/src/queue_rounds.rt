@@ -1,5 +1,5 @@
 //! The loop that is measured.
-use crate::line::WaitingLine;
+use crate::waiting_line::WaitingLine;
 use object_keys::Key;
 use spec_api::kinds::Kind;
 use spec_client_go::controller::Controller;

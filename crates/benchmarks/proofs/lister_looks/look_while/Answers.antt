@@ -1,8 +1,8 @@
 use denote.Exit.{no}
 use denote.Param.{param}
 use denote.Param.Send.{IsSync, sendable, param_send, arg_send}
-use Rattle.lister_bench.proofs.Sent.{captured}
-use Rattle.lister_bench.proofs.looks.look_while.Goals as goal
+use Rattle.benchmarks.proofs.Sent.{captured}
+use Rattle.benchmarks.proofs.lister_looks.look_while.Goals as goal
 
 pub join-looks-requires-send-F : goal.join-looks-requires-send-F
 join-looks-requires-send-F g c κs within =
