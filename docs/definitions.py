@@ -50,7 +50,7 @@ LAWS_HEAD = """# Laws
 
 What follows from the [definitions](DEFINITIONS.md), whatever code meets them, and what crates of code say of their own words. Each law is
 the contract of a public function with an empty body, and proved; a heading has its crate and its file, in the order of `crates.txt`.
-Single cases, computed, are in `crates/spec_examples`, `crates/sim_cluster_examples` and `crates/sim_control_plane_examples`. `docs/definitions.py` makes
+Single cases, computed, are in `crates/spec_examples`. `docs/definitions.py` makes
 this page.
 """
 

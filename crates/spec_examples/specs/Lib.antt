@@ -20,3 +20,11 @@ pub mod WindowExamples
 pub mod ReplicaSetExamples
 pub mod DeploymentExamples
 pub mod RolloutExamples
+pub mod SimTexts
+pub mod SimRunExamples
+pub mod SimStreamExamples
+pub mod SimMoveExamples
+pub mod SimLineExamples
+pub mod SimActionExamples
+pub mod SimPodExamples
+pub mod SimTurnExamples

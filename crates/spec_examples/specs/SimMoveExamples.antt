@@ -5,7 +5,7 @@ use Rattle.spec_sim_cluster.specs.declared.initial_syncs.InitialSync.TheVariants
 use Rattle.spec_sim_cluster.specs.Followers.{Follower, begun}
 use Rattle.spec_sim_cluster.specs.Clusters.{Cluster, opened, history, follower, looks, run}
 use Rattle.spec_sim_cluster.specs.StepLines.{step_asked}
-use Rattle.sim_cluster_examples.specs.Texts.{create, accent}
+use Rattle.spec_examples.specs.SimTexts.{create, accent}
 
 -- a cluster after these lines
 abbrev after : List (List ℕ) → Cluster

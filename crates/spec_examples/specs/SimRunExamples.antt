@@ -1,7 +1,7 @@
 -- Worked facts of whole runs, computed from the definitions: what is written for what is read.
 use Rattle.std.specs.Prelude.{◌≡◌, [], ◌∷◌, codes}
 use Rattle.spec_sim_cluster.specs.StepLines.{simulate}
-use Rattle.sim_cluster_examples.specs.Texts.{text, create, created, bad_line, accent}
+use Rattle.spec_examples.specs.SimTexts.{text, create, created, bad_line, accent}
 
 -- a watch that is cut within a letter goes on where the reflector is, and nothing is lost
 abbrev pub LettersAreCut : Type 0

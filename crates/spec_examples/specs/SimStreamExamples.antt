@@ -1,7 +1,7 @@
 -- Worked facts of runs whose followers begin with streams of initial events, computed from the definitions.
 use Rattle.std.specs.Prelude.{◌≡◌, List, ℕ, [], ◌∷◌, ◌++◌, codes}
 use Rattle.spec_sim_cluster.specs.StepLines.{simulate}
-use Rattle.sim_cluster_examples.specs.Texts.{text, create, created}
+use Rattle.spec_examples.specs.SimTexts.{text, create, created}
 
 -- two objects, and a stream of which both have been delivered
 abbrev begun_lines : List (List ℕ)

@@ -1,5 +1,5 @@
-//! What the definitions give in single cases, computed by the checker: a slip in a definition shows here.
-//! No crate stands on this one.
+//! What the definitions give in single cases, computed by the checker, also those of the simulated cluster and its control plane: a slip in a
+//! definition shows here. No crate stands on this one.
 #![tactic(auto)]
 
 pub mod check_examples;
@@ -18,6 +18,13 @@ pub mod selector_examples;
 pub mod server_examples;
 pub mod serving_examples;
 pub mod shift_examples;
+pub mod sim_action_examples;
+pub mod sim_line_examples;
+pub mod sim_move_examples;
+pub mod sim_pod_examples;
+pub mod sim_run_examples;
+pub mod sim_stream_examples;
+pub mod sim_turn_examples;
 pub mod stream_examples;
 pub mod verb_examples;
 pub mod watch_examples;

@@ -1,5 +1,5 @@
 //! Worked facts of lines.
-ghost use Rattle.sim_control_plane_examples.specs.LineExamples.{ActionsAreRead, OthersAreNot, OutcomesAreTold};
+ghost use Rattle.spec_examples.specs.SimActionExamples.{ActionsAreRead, OthersAreNot, OutcomesAreTold};
 
 /// An action, the number of a worker and what it is of ask for a step.
 pub fn actions_are_read()

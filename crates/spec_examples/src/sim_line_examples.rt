@@ -1,5 +1,5 @@
 //! Worked facts of lines.
-ghost use Rattle.sim_cluster_examples.specs.LineExamples.{MovesAreRead, OthersAreNot, ConfigurationsAreRead};
+ghost use Rattle.spec_examples.specs.SimLineExamples.{MovesAreRead, OthersAreNot, ConfigurationsAreRead};
 
 /// A verb, a kind by its plural name and how much, in one to nine digits, ask for a move.
 pub fn moves_are_read()

@@ -1,5 +1,5 @@
 //! Worked facts of moves.
-ghost use Rattle.sim_cluster_examples.specs.MoveExamples.{SendsOfNoneMove, FirstListsAreMarked, LaterListsAreNotMarked, RestartsDropAll, CutsDropParts, DeliveriesCountBytes};
+ghost use Rattle.spec_examples.specs.SimMoveExamples.{SendsOfNoneMove, FirstListsAreMarked, LaterListsAreNotMarked, RestartsDropAll, CutsDropParts, DeliveriesCountBytes};
 
 /// A send of no changes moves the link to the present revision where none is left, and leaves it where one is.
 pub fn sends_of_none_move()

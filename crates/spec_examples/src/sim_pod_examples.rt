@@ -1,5 +1,5 @@
 //! Worked facts of pods.
-ghost use Rattle.sim_control_plane_examples.specs.PodExamples.{ChangesShowPods, OthersShowNothing};
+ghost use Rattle.spec_examples.specs.SimPodExamples.{ChangesShowPods, OthersShowNothing};
 
 /// A change shows which pods were created and deleted.
 pub fn changes_show_pods()

@@ -1,5 +1,5 @@
 //! Worked facts of whole runs.
-ghost use Rattle.sim_cluster_examples.specs.RunExamples.{LettersAreCut, WatchesExpire, BookmarksAreSent, RestartsBeginAnew, LinesAreAnswered};
+ghost use Rattle.spec_examples.specs.SimRunExamples.{LettersAreCut, WatchesExpire, BookmarksAreSent, RestartsBeginAnew, LinesAreAnswered};
 
 /// A watch that is cut within a letter is opened again where the reflector is, and nothing is lost.
 pub fn letters_are_cut()

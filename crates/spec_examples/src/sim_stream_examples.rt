@@ -1,5 +1,5 @@
 //! Worked facts of runs whose followers begin with streams of initial events.
-ghost use Rattle.sim_cluster_examples.specs.StreamExamples.{StreamsAreClosed, CutStreamsBeginAgain, InitialLinesAreSent};
+ghost use Rattle.spec_examples.specs.SimStreamExamples.{StreamsAreClosed, CutStreamsBeginAgain, InitialLinesAreSent};
 
 /// Nothing is taken in of a stream until the bookmark that closes its initial events, and then all that is there.
 pub fn streams_are_closed()

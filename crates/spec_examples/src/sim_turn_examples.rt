@@ -1,5 +1,5 @@
 //! Worked turns.
-ghost use Rattle.sim_control_plane_examples.specs.TurnExamples.{SetsAreLookedAtFirst, PodsAreCreated, ExpectedPodsAreAwaited, LostAnswersEndTurns, LostPodsAreSeen, OrphansAreCollected, ChangesOweKeys};
+ghost use Rattle.spec_examples.specs.SimTurnExamples.{SetsAreLookedAtFirst, PodsAreCreated, ExpectedPodsAreAwaited, LostAnswersEndTurns, LostPodsAreSeen, OrphansAreCollected, ChangesOweKeys};
 
 /// No step of a turn is open but the next one.
 pub fn sets_are_looked_at_first()

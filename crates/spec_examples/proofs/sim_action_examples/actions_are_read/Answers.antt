@@ -1,6 +1,6 @@
 use Rattle.std.proofs.Common.{refl}
 use Rattle.spec_api.proofs.OnLiterals.{on_literals}
-use Rattle.sim_control_plane_examples.proofs.line_examples.actions_are_read.Goals as goal
+use Rattle.spec_examples.proofs.sim_action_examples.actions_are_read.Goals as goal
 
 pub returns : goal.returns
 unfolding on_literals

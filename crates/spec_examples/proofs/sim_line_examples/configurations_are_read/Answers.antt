@@ -1,6 +1,6 @@
 use Rattle.std.proofs.Common.{refl}
 use Rattle.spec_api.proofs.OnLiterals.{on_literals}
-use Rattle.sim_cluster_examples.proofs.line_examples.configurations_are_read.Goals as goal
+use Rattle.spec_examples.proofs.sim_line_examples.configurations_are_read.Goals as goal
 
 pub returns : goal.returns
 unfolding on_literals

@@ -1,6 +1,6 @@
 use Rattle.std.proofs.Common.{refl}
 use Rattle.spec_api.proofs.OnLiterals.{on_literals}
-use Rattle.sim_cluster_examples.proofs.move_examples.later_lists_are_not_marked.Goals as goal
+use Rattle.spec_examples.proofs.sim_move_examples.later_lists_are_not_marked.Goals as goal
 
 pub returns : goal.returns
 unfolding on_literals

@@ -1,6 +1,6 @@
 use Rattle.std.proofs.Common.{refl}
 use Rattle.spec_api.proofs.OnLiterals.{on_literals}
-use Rattle.sim_cluster_examples.proofs.run_examples.lines_are_answered.Goals as goal
+use Rattle.spec_examples.proofs.sim_run_examples.lines_are_answered.Goals as goal
 
 pub returns : goal.returns
 unfolding on_literals

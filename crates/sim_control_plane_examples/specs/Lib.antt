@@ -1,3 +1,0 @@
-pub mod LineExamples
-pub mod PodExamples
-pub mod TurnExamples
