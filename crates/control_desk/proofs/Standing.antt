@@ -5,7 +5,7 @@ use Rattle.std.specs.FinSet as set
 use Rattle.std.specs.FinSet.{contains-empty}
 use Rattle.baton.specs.Marks.{entries, made_by, CanHappen}
 use Rattle.baton.proofs.Entries.{made_here_one, made_else_one, made_none}
-use Rattle.spec_work_board.specs.Boards.{Board, begun, all_added, may_tick, passed, ticked}
+use Rattle.spec_client_go.specs.Boards.{Board, begun, all_added, may_tick, passed, ticked}
 use Rattle.spec_client_go.specs.Delays.{due}
 use Rattle.spec_client_go.specs.WorkQueues as queues
 use Rattle.spec_client_go.specs.WorkQueues.{WorkKey, work_key_cmp, WorkQueue, added, got, got_from, handed, front}

@@ -7,7 +7,7 @@ use Rattle.baton.specs.Marks.{StartsWith, entries, made_by, marked, CanHappen}
 use Rattle.baton.specs.Passes.{Met, Longer, Taken}
 use Rattle.baton.specs.declared.views.Known.{Known}
 use Rattle.baton.specs.declared.views.PassView as views
-use Rattle.spec_work_board.specs.Boards.{Board, Observation, begun, taken}
+use Rattle.spec_client_go.specs.Boards.{Board, Observation, begun, taken}
 use Rattle.spec_client_go.specs.WorkQueues as queues
 use Rattle.spec_client_go.specs.WorkQueues.{WorkKey, WorkQueue, got, got_from, handed, front}
 use Rattle.spec_client_go.proofs.WorkKeyOrder.{work_key_total}

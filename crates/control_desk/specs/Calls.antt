@@ -2,7 +2,7 @@
 use Rattle.std.specs.Prelude.{◌≡◌, ℕ, List, ◌++◌, Option, None, true, false, Result, Ok, Err}
 use Rattle.baton.specs.Marks.{StartsWith, entries, made_by, marked, CanHappen}
 use Rattle.baton.specs.declared.views.Known.{Known}
-use Rattle.spec_work_board.specs.Boards.{Board}
+use Rattle.spec_client_go.specs.Boards.{Board}
 use Rattle.control_desk.specs.Steps.{Step}
 use Rattle.control_desk.specs.Hands.{board, MayFollow}
 

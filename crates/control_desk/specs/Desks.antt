@@ -5,7 +5,7 @@ use Rattle.baton.specs.Batons.{IsOf, IsFree}
 use Rattle.baton.specs.Marks.{made_by, CanHappen}
 use Rattle.baton.specs.declared.views.Known.{Known}
 use Rattle.baton.specs.declared.views.PassView.{PassView}
-use Rattle.spec_work_board.specs.Boards.{Board, begun}
+use Rattle.spec_client_go.specs.Boards.{Board, begun}
 use Rattle.spec_client_go.specs.WorkQueues.{WorkKey}
 use Rattle.control_desk.specs.Steps.{Step, in_hand}
 use Rattle.control_desk.specs.Hands.{board, MayFollow}

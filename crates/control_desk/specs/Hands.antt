@@ -2,7 +2,7 @@
 use Rattle.std.specs.Prelude.{◌≡◌, ◌≢◌, ℕ, List, Option, Some, None, true}
 use Rattle.std.specs.FinSet as set
 use Rattle.baton.specs.Marks.{entries, made_by, CanHappen}
-use Rattle.spec_work_board.specs.Boards.{Board, begun}
+use Rattle.spec_client_go.specs.Boards.{Board, begun}
 use Rattle.spec_client_go.specs.WorkQueues.{WorkKey, WorkKeys}
 use Rattle.control_desk.specs.Steps.{Step, after, after_steps, changing, in_hand, IsAllowed}
 

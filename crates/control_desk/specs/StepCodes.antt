@@ -3,7 +3,7 @@ use Rattle.std.specs.Prelude.{◌≡◌, ◌⊎◌, ℕ, List, refl}
 use Rattle.std.specs.Coded.{Coded, code_by, coded×, coded⊎, coded_ℕ, coded_list}
 use mathlib.Core.Logic.{inl, inr}
 use Rattle.model_encodings.specs.HistoryCodes.{coded_key}
-use Rattle.spec_work_board.specs.Boards.{Observation, creation_observed, deletion_observed}
+use Rattle.spec_client_go.specs.Boards.{Observation, creation_observed, deletion_observed}
 use Rattle.spec_client_go.specs.Codes.{coded_work_key}
 use Rattle.spec_client_go.specs.Expectations.{Owner}
 use Rattle.spec_client_go.specs.WorkQueues.{WorkKey}

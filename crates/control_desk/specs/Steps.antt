@@ -1,7 +1,7 @@
 -- The steps of a board, what each makes of it, and which key a worker's own steps leave in its hands.
 use Rattle.std.specs.Prelude.{◌≡◌, ◌==◌, ◌&&◌, ℕ, List, [], ◌∷◌, Bool, true, false, Option, Some, None, if◌then◌else◌}
 use base.Stored.{Gv, gnil, gnum, gcons}
-use Rattle.spec_work_board.specs.Boards.{Board, Observation, taken, finished, requeued, observed, expecting_creations, expecting_deletions, forgotten, ticked}
+use Rattle.spec_client_go.specs.Boards.{Board, Observation, taken, finished, requeued, observed, expecting_creations, expecting_deletions, forgotten, ticked}
 use Rattle.work_board.specs.Seen.{board_code}
 use Rattle.spec_client_go.specs.Expectations.{Owner}
 use Rattle.spec_client_go.specs.WorkQueues.{WorkKey, handed}

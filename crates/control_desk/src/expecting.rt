@@ -1,6 +1,6 @@
 //! What is expected at a desk.
 ghost use Rattle.std.specs.Prelude.{◌≡◌, None, IfOk, map, string_bytes};
-ghost use Rattle.spec_work_board.specs.Boards.{is_satisfied};
+ghost use Rattle.spec_client_go.specs.Boards.{is_satisfied};
 ghost use Rattle.work_board.specs.Aged.{HaveAgedOut};
 ghost use Rattle.work_board.specs.Seen.{owner_of};
 ghost use Rattle.object_keys.specs.Keys.{key_of};

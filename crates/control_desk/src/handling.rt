@@ -1,6 +1,6 @@
 //! What is handled at a desk: changes, and time that passes.
 ghost use Rattle.std.specs.Prelude.{◌≡◌, IfOk, map};
-ghost use Rattle.spec_work_board.specs.Boards.{may_tick};
+ghost use Rattle.spec_client_go.specs.Boards.{may_tick};
 ghost use Rattle.work_board.specs.Seen.{observation_of};
 ghost use Rattle.work_keys.specs.WorkKeys.{work_key_of};
 ghost use Rattle.control_desk.specs.Calls.{IsCall, Nothing, after_give, once_ok};

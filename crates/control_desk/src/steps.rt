@@ -1,6 +1,6 @@
 //! The steps of a board that a pass holds.
 ghost use Rattle.std.specs.Prelude.{◌≡◌, IfOk, OnOk, OnErr, map, option_map, string_bytes};
-ghost use Rattle.spec_work_board.specs.Boards.{taken, finished, requeued, observed, expecting_creations, expecting_deletions, forgotten, may_tick, ticked};
+ghost use Rattle.spec_client_go.specs.Boards.{taken, finished, requeued, observed, expecting_creations, expecting_deletions, forgotten, may_tick, ticked};
 ghost use Rattle.work_board.specs.Seen.{owner_of, observation_of};
 ghost use Rattle.spec_client_go.specs.WorkQueues.{handed};
 ghost use Rattle.object_keys.specs.Keys.{key_of};

@@ -4,8 +4,8 @@ use Rattle.spec_client_go.specs.Delays as works_delays
 use Rattle.spec_client_go.specs.Delays.{delay_after}
 use Rattle.spec_client_go.specs.Expectations.{Table}
 use Rattle.spec_client_go.specs.WorkQueues.{WorkKey, work_key_cmp}
-use Rattle.spec_work_board.specs.Boards as works
-use Rattle.spec_work_board.specs.Boards.{Board, Observation, all_lowered, last_moment, may_tick, passed}
+use Rattle.spec_client_go.specs.Boards as works
+use Rattle.spec_client_go.specs.Boards.{Board, Observation, all_lowered, last_moment, may_tick, passed}
 use Rattle.keyed_backoff.specs.Failures.{failures, failed}
 use Rattle.keyed_delays.specs.Delays.{delayed, still_delayed}
 use Rattle.keyed_queue.specs.Queues.{added_all}

@@ -2,7 +2,7 @@
 use Rattle.std.proofs.Common.{◌≡◌, ◌++◌, List, Option, None, Result, Ok, Err, OnOk, OnErr, ap, ◌∙◌, subst, append_assoc}
 use Rattle.std.proofs.lemmas.List.{append-nil}
 use Rattle.baton.specs.declared.views.Known.{Known}
-use Rattle.spec_work_board.specs.Boards.{Board, Observation}
+use Rattle.spec_client_go.specs.Boards.{Board, Observation}
 use Rattle.spec_client_go.specs.WorkQueues.{WorkKey}
 use Rattle.control_desk.specs.Calls.{IsCall, Nothing, once_ok}
 use Rattle.control_desk.specs.Steps.{Step, changing, observe}

@@ -2,7 +2,7 @@
 use Rattle.std.proofs.Common.{◌≡◌, ℕ, Bool, List, [], drop, Result, Ok, Err, OnErr, ap, ◌∙◌, refl, sym}
 use Rattle.std.proofs.lemmas.List.{append-nil}
 use Rattle.baton.specs.declared.views.Known.{Known}
-use Rattle.spec_work_board.specs.Boards.{Board}
+use Rattle.spec_client_go.specs.Boards.{Board}
 use Rattle.spec_client_go.specs.Informers.{nothing}
 use Rattle.spec_client_go.specs.Shifts.{Shift}
 use Rattle.spec_server.specs.Snapshots.{Snapshot}

@@ -2,7 +2,7 @@
 use Rattle.std.proofs.Common.{◌≡◌, ◌≤◌, ◌+◌, ◌++◌, ℕ, List, [], ◌∷◌, Bool, true, false, None, Some, if◌then◌else◌, ap, arith}
 use Rattle.baton.specs.Marks.{entries, marked}
 use Rattle.baton.specs.declared.views.Known.{Known}
-use Rattle.spec_work_board.specs.Boards.{Board}
+use Rattle.spec_client_go.specs.Boards.{Board}
 use Rattle.control_desk.specs.Calls.{IsCall}
 use Rattle.control_desk.specs.Hands.{board}
 use Rattle.control_desk.specs.Steps.{Step, after, changing, is_same}

@@ -2,7 +2,7 @@
 use Rattle.std.proofs.Common.{◌≡◌, ◌++◌, ◌+◌, ◌<◌, ℕ, Bool, List, [], ◌∷◌, map, drop, length, get_or, ap, ◌∙◌, refl, sym, subst, arith, append_assoc}
 use Rattle.std.proofs.lemmas.List.{drop_more, get_or-map, length-map}
 use Rattle.baton.specs.declared.views.Known.{Known}
-use Rattle.spec_work_board.specs.Boards.{Board}
+use Rattle.spec_client_go.specs.Boards.{Board}
 use Rattle.spec_client_go.specs.Shifts.{Shift}
 use Rattle.spec_server.specs.Snapshots.{Snapshot}
 use Rattle.control_desk.specs.Calls.{IsCall, Nothing}

@@ -1,7 +1,7 @@
 -- What wakes the keys that wait for what is never seen.
 use Rattle.std.specs.Prelude.{ℕ, List, [], None}
 use Rattle.baton.specs.declared.views.Known.{Known}
-use Rattle.spec_work_board.specs.Boards.{Board}
+use Rattle.spec_client_go.specs.Boards.{Board}
 use Rattle.work_board.specs.Aged.{HaveAgedOut}
 use Rattle.spec_client_go.specs.WorkQueues.{WorkKey}
 use Rattle.control_desk.specs.Calls.{IsCall, Nothing}

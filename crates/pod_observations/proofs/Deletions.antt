@@ -3,7 +3,7 @@ use Rattle.std.proofs.Common.{◌≡◌, ℕ, List, [], ◌∷◌, ◌++◌, map
 use Rattle.std.specs.Prelude.{flat_map}
 use Rattle.serde_json.specs.Data.{Data}
 use Rattle.spec_api.specs.Metadata.{uid}
-use Rattle.spec_work_board.specs.Boards.{Observation, deletion_observed}
+use Rattle.spec_client_go.specs.Boards.{Observation, deletion_observed}
 use Rattle.spec_client_go.specs.Expectations.{Owner}
 use Rattle.spec_client_go.specs.OwedKeys.{one_of}
 use Rattle.spec_sim_control_plane.specs.PodObservations.{sets_of, deletion}

@@ -1,6 +1,6 @@
 //! What a change of a pod shows.
 ghost use Rattle.std.specs.Prelude.{◌≡◌, ◌++◌, IfOk, map, option_map, [], string_bytes};
-ghost use Rattle.spec_work_board.specs.Boards as boards;
+ghost use Rattle.spec_client_go.specs.Boards as boards;
 ghost use Rattle.work_board.specs.Seen.{observation_of, owner_of};
 ghost use Rattle.spec_reconcile.specs.PodClaims as claims;
 ghost use Rattle.spec_sim_control_plane.specs.PodObservations.{is_same_pod, was_being_deleted, creation, deletion, seen_now, seen_no_more, observations_of_pod, observations_by};

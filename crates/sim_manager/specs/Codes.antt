@@ -1,7 +1,7 @@
 -- A code by which a model may store a manager.
 use Rattle.std.specs.Prelude.{List, refl}
 use Rattle.std.specs.Coded.{Coded, code_by, coded×, coded_list}
-use Rattle.spec_work_board.specs.Boards.{Board}
+use Rattle.spec_client_go.specs.Boards.{Board}
 use Rattle.work_board.specs.Seen.{board_code}
 use Rattle.spec_sim_control_plane.specs.Codes.{coded_issued}
 use Rattle.spec_sim_control_plane.specs.Managers.{Issued, Manager}

@@ -1,6 +1,6 @@
 -- What is told once time has passed.
 use Rattle.std.specs.Prelude.{ℕ, ◌+◌, if◌then◌else◌}
-use Rattle.spec_work_board.specs.Boards.{Board, may_tick}
+use Rattle.spec_client_go.specs.Boards.{Board, may_tick}
 use Rattle.spec_sim_control_plane.specs.Outcomes.{Outcome, no_step, time}
 
 abbrev pub told_of_tick : ℕ → Board → Outcome

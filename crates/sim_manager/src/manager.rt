@@ -33,7 +33,7 @@ impl Model for Manager {
 impl Manager {
     ghost use Rattle.std.specs.Prelude.{◌≡◌, IfOk, OnOk, OnErr, map};
     ghost use Rattle.std.specs.Arc.{arc_value};
-    ghost use Rattle.spec_work_board.specs.Boards.{observed, ticked};
+    ghost use Rattle.spec_client_go.specs.Boards.{observed, ticked};
     ghost use Rattle.work_board.specs.Seen.{observation_of};
     ghost use Rattle.spec_sim_control_plane.specs.Managers.{begun, restarted};
     ghost use Rattle.sim_worker_slots.specs.Seen.{issued_of};

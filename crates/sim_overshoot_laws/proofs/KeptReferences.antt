@@ -32,7 +32,7 @@ use Rattle.spec_laws.proofs.Guards.{there as if_there}
 use Rattle.spec_laws.proofs.Reaching.{by_reached}
 use Rattle.spec_laws.proofs.Removals.{member-updated, member-restated, at_held}
 use Rattle.spec_laws.proofs.VerbLaws.{found-state, none_from, of_none}
-use Rattle.spec_work_board.specs.Boards.{creation_observed}
+use Rattle.spec_client_go.specs.Boards.{creation_observed}
 use Rattle.spec_client_go.specs.Expectations.{Owner}
 use Rattle.spec_sim_control_plane.specs.PodObservations.{set_named, sets_of, creation}
 use Rattle.sim_overshoot_laws.specs.Reserves.{is_set, is_controlled, shown as shows}

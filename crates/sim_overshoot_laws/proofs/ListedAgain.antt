@@ -9,7 +9,7 @@ use Rattle.spec_api.specs.History.{History, Entries, entries_at, up_to, found, l
 use Rattle.spec_api.specs.Keys.{Key, key_cmp}
 use Rattle.spec_api.specs.Metadata.{uid}
 use Rattle.spec_api.proofs.PutLaws.{name_cmp_total, IsAscending, IsAbove, none_above, IsAscending-put, IsAscending-filter, IsAscending-after_all}
-use Rattle.spec_work_board.specs.Boards.{Observation, deletion_observed}
+use Rattle.spec_client_go.specs.Boards.{Observation, deletion_observed}
 use Rattle.spec_client_go.specs.Expectations.{Owner}
 use Rattle.spec_client_go.specs.OwedKeys.{one_of}
 use Rattle.spec_client_go.specs.Shifts.{Shift, overlaid, shift_at, is_change, shifts_between}

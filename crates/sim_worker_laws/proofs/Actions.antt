@@ -11,7 +11,7 @@ use Rattle.spec_client_go.specs.WorkQueues.{WorkKey, work_key_cmp, handed}
 use Rattle.spec_client_go.proofs.Expected.{get_put}
 use Rattle.spec_client_go.proofs.WorkKeyOrder.{work_key_total}
 use Rattle.spec_laws.specs.ExpectationLaws.{creations_of, creations_left}
-use Rattle.spec_work_board.specs.Boards.{Board, Observation, creation_observed, deletion_observed, all_lowered, finished, requeued}
+use Rattle.spec_client_go.specs.Boards.{Board, Observation, creation_observed, deletion_observed, all_lowered, finished, requeued}
 use Rattle.spec_sim_control_plane.specs.ControlPlanes.{client}
 use Rattle.spec_sim_control_plane.specs.Managers.{Client, Manager, Action, Delivery, Acted, closed, act, act_in, carry_out, take_key, is_for, delivery_of, requested, ended, ask, is_satisfied_for, forgotten_unless}
 use Rattle.spec_sim_control_plane.specs.Managers as action

@@ -1,6 +1,6 @@
 -- A step that is counted changes nothing else, and a tick changes the board alone.
 use Rattle.std.proofs.Common.{ℕ, ◌+◌, Bool, true, false, cond}
-use Rattle.spec_work_board.specs.Boards.{may_tick, passed}
+use Rattle.spec_client_go.specs.Boards.{may_tick, passed}
 use Rattle.spec_sim_cluster.specs.Clusters.{Cluster}
 use Rattle.spec_sim_control_plane.specs.ControlPlanes.{ControlPlane, Stepped, tick_in, closed, counted}
 use Rattle.spec_sim_control_plane.specs.Managers.{Manager}

@@ -6,8 +6,8 @@ use Rattle.spec_client_go.specs.Expectations.{Owner}
 use Rattle.spec_client_go.specs.WorkQueues.{WorkKey, WorkQueue, added, got_from, done, handed, front}
 use Rattle.spec_client_go.proofs.WorkKeyOrder.{work_key_total}
 use Rattle.spec_laws.proofs.WorkQueueRuns.{added-wanted}
-use Rattle.spec_work_board.specs.Boards as boards
-use Rattle.spec_work_board.specs.Boards.{Board, all_added}
+use Rattle.spec_client_go.specs.Boards as boards
+use Rattle.spec_client_go.specs.Boards.{Board, all_added}
 use Rattle.spec_sim_control_plane.specs.Managers.{Client, Manager, Action, Acted, Delivery, take_key, carry_out, act, forgotten_unless}
 use Rattle.spec_sim_control_plane.specs.NextSteps.{NextStep, next, look, ask_satisfied, read, expect, issue, finish}
 use Rattle.spec_sim_control_plane.specs.Turns as turns

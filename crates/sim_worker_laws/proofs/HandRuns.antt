@@ -2,7 +2,7 @@
 use Rattle.std.proofs.Common.{ℕ, ◌+◌, List, [], ◌∷◌, Bool, true, false, cond}
 use Rattle.spec_api.specs.declared.kinds.Kind.{Kind}
 use Rattle.spec_client_go.specs.Delays.{due}
-use Rattle.spec_work_board.specs.Boards.{may_tick, passed}
+use Rattle.spec_client_go.specs.Boards.{may_tick, passed}
 use Rattle.spec_sim_cluster.specs.declared.initial_syncs.InitialSync.{InitialSync}
 use Rattle.spec_sim_cluster.specs.Clusters.{ClusterStep, request, compact, moves, restart, follower}
 use Rattle.spec_sim_cluster.specs.Followers.{Notification}

@@ -6,7 +6,7 @@ use Rattle.spec_api.specs.declared.kinds.Kind.{Kind}
 use Rattle.spec_api.specs.declared.kinds.Kind.TheVariants.{ConfigMap, Pod, ReplicaSet, Deployment}
 use Rattle.spec_client_go.specs.Delays.{due}
 use Rattle.spec_client_go.specs.WorkQueues.{WorkKey, handed}
-use Rattle.spec_work_board.specs.Boards.{may_tick, passed, all_lowered}
+use Rattle.spec_client_go.specs.Boards.{may_tick, passed, all_lowered}
 use Rattle.spec_laws.specs.DueLaws.{IsDue}
 use Rattle.spec_laws.proofs.DueKeys.{have_come}
 use Rattle.spec_sim_cluster.specs.Clusters.{Cluster, history, follower, with_follower, request, compact, moves, restart}

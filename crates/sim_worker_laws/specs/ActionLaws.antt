@@ -9,7 +9,7 @@ use Rattle.spec_api.specs.Verbs.{Outcome}
 use Rattle.spec_client_go.specs.Commands.{Command}
 use Rattle.spec_client_go.specs.Delays.{delay_after, earlier, failures}
 use Rattle.spec_client_go.specs.Expectations.{Owner}
-use Rattle.spec_work_board.specs.Boards.{Board, is_satisfied, forgotten}
+use Rattle.spec_client_go.specs.Boards.{Board, is_satisfied, forgotten}
 use Rattle.spec_laws.specs.ExpectationLaws.{creations_left}
 use Rattle.spec_sim_cluster.specs.Clusters.{Cluster, history}
 use Rattle.spec_sim_control_plane.specs.ControlPlanes.{client}

@@ -3,8 +3,8 @@ use Rattle.std.specs.Prelude.{◌≡◌, ◌+◌, ℕ, List, length, true, false
 use Rattle.spec_api.specs.declared.kinds.Kind.{Kind}
 use Rattle.spec_laws.specs.DueLaws.{IsDue}
 use Rattle.spec_client_go.specs.WorkQueues.{WorkKey}
-use Rattle.spec_work_board.specs.Boards as boards
-use Rattle.spec_work_board.specs.Boards.{may_tick}
+use Rattle.spec_client_go.specs.Boards as boards
+use Rattle.spec_client_go.specs.Boards.{may_tick}
 use Rattle.spec_sim_cluster.specs.declared.initial_syncs.InitialSync.{InitialSync}
 use Rattle.spec_sim_cluster.specs.Clusters.{follower, restart}
 use Rattle.spec_sim_cluster.specs.Followers as followers

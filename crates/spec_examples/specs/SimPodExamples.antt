@@ -5,7 +5,7 @@ use Rattle.spec_api.specs.declared.kinds.Kind.TheVariants.{ConfigMap, Pod, Repli
 use Rattle.spec_api.specs.Keys.{Key}
 use Rattle.spec_api.specs.Values.{data_of}
 use Rattle.spec_client_go.specs.Expectations.{Owner}
-use Rattle.spec_work_board.specs.Boards.{Observation, creation_observed, deletion_observed}
+use Rattle.spec_client_go.specs.Boards.{Observation, creation_observed, deletion_observed}
 use Rattle.spec_sim_control_plane.specs.PodObservations.{observations}
 
 -- a pod with a uid, these members more in its metadata, and an owner reference to the ReplicaSet `web`

@@ -3,7 +3,7 @@ use Rattle.std.specs.Prelude.{◌≡◌, ℕ, List, [], ◌∷◌, ◌++◌, map
 use Rattle.spec_api.specs.declared.kinds.Kind.TheVariants.{Pod, ReplicaSet}
 use Rattle.spec_client_go.specs.declared.controller.Controller.TheVariants as controller
 use Rattle.spec_client_go.specs.WorkQueues.{WorkKey}
-use Rattle.spec_work_board.specs.Boards.{Board}
+use Rattle.spec_client_go.specs.Boards.{Board}
 use Rattle.spec_sim_cluster.specs.Clusters.{follower}
 use Rattle.spec_sim_cluster.specs.declared.initial_syncs.InitialSync.TheVariants as sync
 use Rattle.spec_sim_control_plane.specs.ControlPlanes.{ControlPlane, opened, run}

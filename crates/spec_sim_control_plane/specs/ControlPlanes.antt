@@ -7,7 +7,7 @@ use Rattle.spec_api.specs.Verbs.{accept, history_after}
 use Rattle.spec_client_go.specs.OwedKeys.{Change, keys_of}
 use Rattle.spec_client_go.specs.Shifts.{Shift}
 use Rattle.spec_client_go.specs.WorkQueues.{WorkKey}
-use Rattle.spec_work_board.specs.Boards.{observed, may_tick, ticked}
+use Rattle.spec_client_go.specs.Boards.{observed, may_tick, ticked}
 use Rattle.spec_sim_cluster.specs.declared.initial_syncs.InitialSync.{InitialSync}
 use Rattle.spec_sim_cluster.specs.Clusters as clusters
 use Rattle.spec_sim_cluster.specs.Clusters.{Cluster, history, follower, with_follower, looks, ClusterStep, restart}

@@ -12,8 +12,8 @@ use Rattle.spec_server.specs.Snapshots.{Snapshot}
 use Rattle.spec_client_go.specs.Commands.{Command, request_of}
 use Rattle.spec_client_go.specs.Expectations.{Owner}
 use Rattle.spec_client_go.specs.WorkQueues.{WorkKey, handed}
-use Rattle.spec_work_board.specs.Boards as boards
-use Rattle.spec_work_board.specs.Boards.{Board, is_satisfied, forgotten, expecting_creations, expecting_deletions, requeued}
+use Rattle.spec_client_go.specs.Boards as boards
+use Rattle.spec_client_go.specs.Boards.{Board, is_satisfied, forgotten, expecting_creations, expecting_deletions, requeued}
 use Rattle.spec_sim_control_plane.specs.NextSteps as next_step
 use Rattle.spec_sim_control_plane.specs.NextSteps.{NextStep, next}
 use Rattle.spec_sim_control_plane.specs.Outcomes.{Outcome, no_step, took, looked, satisfied, read, expected, issued, finished}

@@ -16,7 +16,7 @@ use Rattle.spec_client_go.specs.Expectations.{Owner}
 use Rattle.spec_client_go.specs.Hands.{Hand, Read}
 use Rattle.spec_client_go.specs.Informers.{Looks}
 use Rattle.spec_client_go.specs.WorkQueues.{WorkKey}
-use Rattle.spec_work_board.specs.Boards.{Observation, creation_observed, deletion_observed}
+use Rattle.spec_client_go.specs.Boards.{Observation, creation_observed, deletion_observed}
 use Rattle.spec_reconcile.specs.Deployments as deployments
 use Rattle.spec_reconcile.specs.GarbageCollection as garbage_collection
 use Rattle.spec_reconcile.specs.ReplicaSets as replica_sets

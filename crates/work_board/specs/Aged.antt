@@ -1,6 +1,6 @@
 -- Whose expectations aged out, by the board.
 use Rattle.std.specs.Prelude.{◌≡◌, ℕ, List}
-use Rattle.spec_work_board.specs.Boards.{Board}
+use Rattle.spec_client_go.specs.Boards.{Board}
 use Rattle.spec_client_go.specs.WorkQueues.{WorkKey}
 use Rattle.expectations.specs.Aged.{AreAgedOut}
 

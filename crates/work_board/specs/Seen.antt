@@ -1,8 +1,8 @@
 -- What the values of the code say, as the definitions have it.
 use Rattle.std.specs.Prelude.{ℕ, string_bytes, refl}
 use Rattle.std.specs.Coded.{Coded, code_by, coded×, coded_ℕ}
-use Rattle.spec_work_board.specs.Boards as boards
-use Rattle.spec_work_board.specs.Boards.{Board, creation_observed, deletion_observed}
+use Rattle.spec_client_go.specs.Boards as boards
+use Rattle.spec_client_go.specs.Boards.{Board, creation_observed, deletion_observed}
 use Rattle.spec_client_go.specs.Codes.{coded_work_queue, coded_counts}
 use Rattle.spec_client_go.specs.Delays.{Delays, Failures}
 use Rattle.spec_client_go.specs.Expectations as expectations

@@ -1,6 +1,6 @@
 //! The board.
 ghost use Rattle.std.specs.Prelude.{◌≡◌, ◌+◌, ◌≤◌, IfOk, OnOk, OnErr, length, map, option_map, string_bytes};
-ghost use Rattle.spec_work_board.specs.Boards.{begun, taken, finished, requeued, observed, expecting_creations, expecting_deletions, is_satisfied, forgotten, lowered, all_lowered, may_tick, ticked, last_moment};
+ghost use Rattle.spec_client_go.specs.Boards.{begun, taken, finished, requeued, observed, expecting_creations, expecting_deletions, is_satisfied, forgotten, lowered, all_lowered, may_tick, ticked, last_moment};
 ghost use Rattle.spec_client_go.specs.WorkQueues.{handed};
 ghost use Rattle.work_board.specs.Aged.{HaveAgedOut};
 ghost use Rattle.work_board.specs.Seen.{owner_of, observation_of};
@@ -33,8 +33,8 @@ pub struct Board {
 
 impl Model for Board {
     ghost use Rattle.std.specs.Prelude.{◌≤◌};
-    ghost use Rattle.spec_work_board.specs.Boards as boards;
-    ghost use Rattle.spec_work_board.specs.Boards.{last_moment};
+    ghost use Rattle.spec_client_go.specs.Boards as boards;
+    ghost use Rattle.spec_client_go.specs.Boards.{last_moment};
     ghost use Rattle.work_board.specs.Seen.{board_code};
 
     ghost Value = { boards.Board };

@@ -5,7 +5,7 @@ use Rattle.spec_api.specs.declared.kinds.Kind.{Kind}
 use Rattle.spec_client_go.specs.Informers.{Looks}
 use Rattle.spec_client_go.specs.OwedKeys.{keys_of}
 use Rattle.spec_client_go.specs.WorkQueues.{WorkKey}
-use Rattle.spec_work_board.specs.Boards.{observed, may_tick, ticked}
+use Rattle.spec_client_go.specs.Boards.{observed, may_tick, ticked}
 use Rattle.spec_sim_cluster.specs.declared.initial_syncs.InitialSync.{InitialSync}
 use Rattle.spec_sim_cluster.specs.Clusters as clusters
 use Rattle.spec_sim_cluster.specs.Clusters.{Cluster, ClusterStep}

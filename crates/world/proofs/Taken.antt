@@ -5,7 +5,7 @@ use Rattle.std.specs.Prelude.{if◌then◌else◌}
 use Rattle.std.proofs.lemmas.List.{length-map}
 use Rattle.spec_api.specs.declared.kinds.Kind.{Kind}
 use Rattle.spec_client_go.specs.WorkQueues as queues
-use Rattle.spec_work_board.specs.Boards.{Observation, observed, may_tick, passed, ticked}
+use Rattle.spec_client_go.specs.Boards.{Observation, observed, may_tick, passed, ticked}
 use Rattle.spec_sim_cluster.specs.declared.initial_syncs.InitialSync.{InitialSync}
 use Rattle.spec_sim_cluster.specs.Clusters.{ClusterStep}
 use Rattle.spec_sim_cluster.specs.Followers.{Notification}

@@ -2,7 +2,7 @@
 use Rattle.std.specs.Prelude.{ℕ, ◌+◌, List, [], ◌∷◌, length, refl, if◌then◌else◌}
 use Rattle.std.specs.Coded.{Coded, code_by, coded×}
 use Rattle.spec_api.specs.declared.kinds.Kind.{Kind}
-use Rattle.spec_work_board.specs.Boards.{observed, may_tick, ticked}
+use Rattle.spec_client_go.specs.Boards.{observed, may_tick, ticked}
 use Rattle.spec_client_go.specs.OwedKeys.{keys_of}
 use Rattle.spec_client_go.specs.WorkQueues.{WorkKey}
 use Rattle.spec_sim_cluster.specs.declared.initial_syncs.InitialSync.{InitialSync}

@@ -1,5 +1,5 @@
 use Rattle.std.proofs.Common.{◌≡◌, ◌∙◌, ap, sym, map}
-use Rattle.spec_work_board.specs.Boards.{deletion_observed}
+use Rattle.spec_client_go.specs.Boards.{deletion_observed}
 use Rattle.work_board.specs.Seen.{observation_of}
 use Rattle.spec_client_go.specs.Expectations.{Owner}
 use Rattle.spec_sim_control_plane.specs.PodObservations.{sets_of, deletion}

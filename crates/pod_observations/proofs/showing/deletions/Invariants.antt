@@ -1,5 +1,5 @@
 use Rattle.std.proofs.Common.{◌≡◌, ◌++◌, map}
-use Rattle.spec_work_board.specs.Boards.{deletion_observed}
+use Rattle.spec_client_go.specs.Boards.{deletion_observed}
 use Rattle.spec_client_go.specs.Expectations.{Owner}
 use Rattle.work_board.specs.Seen.{observation_of, owner_of}
 use Rattle.pod_observations.proofs.showing.deletions.Given as goal

@@ -1,5 +1,5 @@
 use Rattle.std.proofs.Common.{◌≡◌, ◌++◌, map, string_bytes}
-use Rattle.spec_work_board.specs.Boards.{deletion_observed}
+use Rattle.spec_client_go.specs.Boards.{deletion_observed}
 use Rattle.work_board.specs.Seen.{owner_of, observation_of}
 use Rattle.reconcile_parts.proofs.observing.add_deletions.Given as goal
 

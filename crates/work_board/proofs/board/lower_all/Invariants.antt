@@ -1,5 +1,5 @@
 use Rattle.std.proofs.Common.{◌≡◌, map, drop}
-use Rattle.spec_work_board.specs.Boards.{all_lowered}
+use Rattle.spec_client_go.specs.Boards.{all_lowered}
 use Rattle.work_board.specs.Seen.{observation_of}
 use Rattle.work_board.proofs.board.lower_all.Given as goal
 

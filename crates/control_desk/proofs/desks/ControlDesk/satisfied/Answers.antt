@@ -1,5 +1,5 @@
 use Rattle.std.proofs.Common.{◌∙◌, ap, sym}
-use Rattle.spec_work_board.specs.Boards.{is_satisfied}
+use Rattle.spec_client_go.specs.Boards.{is_satisfied}
 use Rattle.work_board.specs.Seen.{owner_of}
 use Rattle.control_desk.proofs.Turns.{calls}
 use Rattle.control_desk.proofs.desks.ControlDesk.satisfied.Goals as goal

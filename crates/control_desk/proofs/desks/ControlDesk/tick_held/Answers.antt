@@ -1,5 +1,5 @@
 use Rattle.std.proofs.Common.{◌∙◌, ap, refl}
-use Rattle.spec_work_board.specs.Boards.{Board, may_tick}
+use Rattle.spec_client_go.specs.Boards.{Board, may_tick}
 use Rattle.control_desk.specs.Desks.{known}
 use Rattle.control_desk.specs.Hands.{board}
 use Rattle.control_desk.specs.Steps.{in_hand, tick}

@@ -1,2 +1,0 @@
-//! What the workers of controllers share, as mathematics: the board.
-#![tactic(auto)]
