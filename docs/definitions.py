@@ -26,8 +26,7 @@ BESIDE = {
     "keyed_queue": ["Queues"],
     "keyed_delays": ["Delays"],
     "keyed_backoff": ["Failures"],
-    "spec_sim_cluster": ["Followers", "Moves", "Clusters", "OutcomeTexts", "StepLines"],
-    "spec_sim_control_plane": ["Turns", "NextSteps", "PodObservations", "Managers", "Outcomes", "ControlPlanes", "OutcomeTexts", "StepLines"],
+    "spec_sim": ["Followers", "Moves", "Clusters", "OutcomeTexts", "StepLines", "Turns", "NextSteps", "PodObservations", "Managers", "Outcomes", "ControlPlanes", "ControlPlaneOutcomeTexts", "ControlPlaneStepLines"],
     "spec_reconcile": ["Pods", "PodClaims", "PodRanks", "NewPods", "ReplicaSets", "Rollouts", "Templates", "Revisions", "Deployments", "Standings", "GarbageCollection", "MetadataEdits",
               "Counts", "Statuses", "Orders"],
 }

@@ -7,8 +7,8 @@ use Rattle.spec_client_go.specs.OwedKeys.{keys_of}
 use Rattle.spec_client_go.specs.Shifts.{Shift}
 use Rattle.list_and_watch.specs.Recognized.{shows_other_server}
 use Rattle.informer.specs.declared.listers.Lister.{Lister}
-use Rattle.spec_sim_control_plane.specs.ControlPlanes.{change_of}
-use Rattle.spec_sim_control_plane.specs.PodObservations.{observations}
+use Rattle.spec_sim.specs.ControlPlanes.{change_of}
+use Rattle.spec_sim.specs.PodObservations.{observations}
 use Rattle.spec_server.specs.Snapshots.{Snapshot}
 use Rattle.control_desk.specs.Calls.{IsCall, Nothing}
 use Rattle.control_desk.specs.Steps.{Step, changing, observe}

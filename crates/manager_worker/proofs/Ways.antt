@@ -1,6 +1,6 @@
 -- How a turn goes on.
 use Rattle.std.proofs.Common.{false, inl, inr, subst, sym}
-use Rattle.spec_sim_control_plane.specs.Turns.{Turn}
+use Rattle.spec_sim.specs.Turns.{Turn}
 use Rattle.manager_worker.specs.Stepping.{Reaches, more, Advances}
 
 pub goes-on : (s t u : Turn) → Reaches s t → Advances t u false → Reaches s u

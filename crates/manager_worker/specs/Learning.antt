@@ -3,7 +3,7 @@ use Rattle.std.specs.Prelude.{◌≡◌, ◌≤◌, ◌<◌, ℕ, List}
 use Rattle.std.specs.Str.{IsUtf8}
 use Rattle.http_client.specs.declared.answer.Answer as client
 use Rattle.http_client.specs.declared.answer.Answer.TheVariants as outcome
-use Rattle.spec_sim_control_plane.specs.Turns as turns
+use Rattle.spec_sim.specs.Turns as turns
 use Rattle.reconcile_turn.specs.Seen.{answer_of, data_of}
 use Rattle.reconcile_parts.specs.declared.answers.CommandAnswer.{CommandAnswer}
 use Rattle.reconcile_parts.specs.declared.answers.CommandAnswer.TheVariants as answer

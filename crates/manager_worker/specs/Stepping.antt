@@ -2,8 +2,8 @@
 use Rattle.std.specs.Prelude.{◌≡◌, ◌⊎◌, Option, Bool, true, false}
 use Rattle.spec_api.specs.Keys.{Key}
 use Rattle.spec_api.specs.declared.kinds.Kind.{Kind}
-use Rattle.spec_sim_control_plane.specs.NextSteps.{NextStep, next, look, ask_satisfied, read, expect, issue, finish}
-use Rattle.spec_sim_control_plane.specs.Turns.{Turn, Answer, looked, satisfied, with_sight, with_read, with_expected}
+use Rattle.spec_sim.specs.NextSteps.{NextStep, next, look, ask_satisfied, read, expect, issue, finish}
+use Rattle.spec_sim.specs.Turns.{Turn, Answer, looked, satisfied, with_sight, with_read, with_expected}
 use Rattle.serde_json.specs.Data.{Data}
 use Rattle.spec_server.specs.Snapshots.{Snapshot}
 use Rattle.reconcile_turn.specs.Seen.{answered_to, command_issued}

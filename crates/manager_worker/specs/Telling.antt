@@ -1,6 +1,6 @@
 -- What a worker tells the board of its turn.
 use Rattle.std.specs.Prelude.{◌==◌, if◌then◌else◌}
-use Rattle.spec_sim_control_plane.specs.Turns.{Expected}
+use Rattle.spec_sim.specs.Turns.{Expected}
 use Rattle.control_desk.specs.Steps.{Step, expect_creations, expect_deletions}
 
 -- what is expected of pods: no plan both creates some and deletes some

@@ -1,10 +1,10 @@
 //! The steps of a turn.
 ghost use Rattle.std.specs.Prelude.{◌≡◌, ◌⊎◌, Bool, None, Some, IfOk, IfSome, OnOk, OnErr, is_some, true, false};
 ghost use Rattle.object_keys.specs.Keys.{key_of};
-ghost use Rattle.spec_sim_control_plane.specs.Managers.{is_satisfied_for};
-ghost use Rattle.spec_sim_control_plane.specs.NextSteps as steps;
-ghost use Rattle.spec_sim_control_plane.specs.NextSteps.{next, look, ask_satisfied};
-ghost use Rattle.spec_sim_control_plane.specs.Turns.{lost, owner, satisfied, with_sight};
+ghost use Rattle.spec_sim.specs.Managers.{is_satisfied_for};
+ghost use Rattle.spec_sim.specs.NextSteps as steps;
+ghost use Rattle.spec_sim.specs.NextSteps.{next, look, ask_satisfied};
+ghost use Rattle.spec_sim.specs.Turns.{lost, owner, satisfied, with_sight};
 ghost use Rattle.control_desk.specs.Calls.{IsCall, Nothing};
 ghost use Rattle.control_desk.specs.Desks.{known, key_in_hand, IsPassAt};
 ghost use Rattle.control_desk.specs.Steps.{changing, forget};

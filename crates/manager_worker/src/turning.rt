@@ -1,7 +1,7 @@
 //! A whole turn.
 ghost use Rattle.std.specs.Prelude.{◌≡◌, None, Some, Ok, IfOk, OnOk, OnErr, true, false};
-ghost use Rattle.spec_sim_control_plane.specs.NextSteps.{next, finish};
-ghost use Rattle.spec_sim_control_plane.specs.Turns.{all_accepted, taken_back};
+ghost use Rattle.spec_sim.specs.NextSteps.{next, finish};
+ghost use Rattle.spec_sim.specs.Turns.{all_accepted, taken_back};
 ghost use Rattle.control_desk.specs.Calls.{IsCall, Nothing};
 ghost use Rattle.control_desk.specs.Desks.{known, key_in_hand, IsPassAt};
 ghost use Rattle.control_desk.specs.Steps as steps;

@@ -6,7 +6,7 @@ use Rattle.spec_api.specs.Metadata.{uid}
 use Rattle.spec_client_go.specs.Boards.{Observation, deletion_observed}
 use Rattle.spec_client_go.specs.Expectations.{Owner}
 use Rattle.spec_client_go.specs.OwedKeys.{one_of}
-use Rattle.spec_sim_control_plane.specs.PodObservations.{sets_of, deletion}
+use Rattle.spec_sim.specs.PodObservations.{sets_of, deletion}
 
 pub deletion_is : (pod : Data) (u : List ℕ) → uid pod ≡ Some u → map (λ (o : Owner). deletion_observed o u) (sets_of pod) ≡ deletion pod
 deletion_is pod u is =

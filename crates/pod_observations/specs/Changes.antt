@@ -7,7 +7,7 @@ use Rattle.spec_api.specs.Metadata.{is_being_deleted}
 use Rattle.spec_api.specs.Objects.{Object}
 use Rattle.spec_client_go.specs.Boards.{Observation}
 use Rattle.spec_client_go.specs.OwedKeys.{one_of}
-use Rattle.spec_sim_control_plane.specs.PodObservations.{is_same_pod, was_being_deleted, creation, deletion, seen_now, seen_no_more}
+use Rattle.spec_sim.specs.PodObservations.{is_same_pod, was_being_deleted, creation, deletion, seen_now, seen_no_more}
 
 -- the data of an object, if there is one
 abbrev pub data_of : Option (Bor Object) → Option Data

@@ -2,7 +2,7 @@
 ghost use Rattle.std.specs.Prelude.{◌≡◌, IfOk, filter_map, map, option_map};
 ghost use Rattle.meta.specs.Owners.{owner_of as reference_of};
 ghost use Rattle.work_board.specs.Seen.{owner_of};
-ghost use Rattle.spec_sim_control_plane.specs.PodObservations.{set_named, sets_of};
+ghost use Rattle.spec_sim.specs.PodObservations.{set_named, sets_of};
 
 use meta::{Kind, Object, OwnerReference};
 use owner_references::references::{controllers, key_named, namespace_of};

@@ -2,7 +2,7 @@
 use Rattle.std.proofs.Common.{◌≡◌, ◌∙◌, ◌<◌, ℕ, zero, suc, List, [], ◌∷◌, length, get_or, map, drop, Option, Some, option_map, Bool, true, refl, ap}
 use Rattle.std.proofs.lemmas.Option.{slice_get_read}
 use Rattle.std.specs.List.{slice_get}
-use Rattle.spec_sim_control_plane.specs.NextSteps.{first, issuing}
+use Rattle.spec_sim.specs.NextSteps.{first, issuing}
 use Rattle.reconcile_types.specs.Commands.{command_of}
 use Rattle.reconcile_types.specs.declared.commands.Command.{Command}
 

@@ -8,8 +8,8 @@ use Rattle.std.specs.Global.{Global}
 use Rattle.std.specs.List.{slice_get}
 use Rattle.std.specs.declared.sync.Arc.{Arc}
 use Rattle.spec_client_go.specs.Commands.{Command}
-use Rattle.spec_sim_control_plane.specs.NextSteps.{first}
-use Rattle.spec_sim_control_plane.specs.Turns.{Answer, Issue, is_accepted, is_refused, all_accepted, version_answered, version_in}
+use Rattle.spec_sim.specs.NextSteps.{first}
+use Rattle.spec_sim.specs.Turns.{Answer, Issue, is_accepted, is_refused, all_accepted, version_answered, version_in}
 use Rattle.reconcile_parts.specs.Answers.{answers_of, is_undone, last_version, undone_of}
 use Rattle.reconcile_parts.specs.Seen.{answer_of}
 use Rattle.reconcile_parts.specs.Stages.{issued}

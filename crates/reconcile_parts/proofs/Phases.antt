@@ -14,9 +14,9 @@ use Rattle.object_keys.specs.declared.key.Key.{Key}
 use Rattle.reconcile_laws.proofs.PlanLaws.{turns_are_bounded}
 use Rattle.reconcile_laws.specs.ReplicaSetLaws.{created}
 use Rattle.spec_reconcile.specs.ReplicaSets as replica_sets
-use Rattle.spec_sim_control_plane.specs.NextSteps as steps
-use Rattle.spec_sim_control_plane.specs.NextSteps.{NextStep, Sighting, of_kind, of_expectations, next, seeing, expect, issue, finish, look, ask_satisfied, first, unseen, expecting, issuing}
-use Rattle.spec_sim_control_plane.specs.Turns.{Turn, Sight, Answer, Issue, Expected, asks, asks_by, plan_by, commands, creates_pod, expected, expected_by, hand, owner, owner_by, looks, was_satisfied, all_accepted, left}
+use Rattle.spec_sim.specs.NextSteps as steps
+use Rattle.spec_sim.specs.NextSteps.{NextStep, Sighting, of_kind, of_expectations, next, seeing, expect, issue, finish, look, ask_satisfied, first, unseen, expecting, issuing}
+use Rattle.spec_sim.specs.Turns.{Turn, Sight, Answer, Issue, Expected, asks, asks_by, plan_by, commands, creates_pod, expected, expected_by, hand, owner, owner_by, looks, was_satisfied, all_accepted, left}
 use Rattle.reconcile_parts.specs.NextCommands.{IsCommandNext}
 use Rattle.reconcile_parts.specs.Pods.{makes_pods}
 use Rattle.reconcile_parts.specs.Seen.{IsNext}

@@ -3,7 +3,7 @@ use Rattle.std.proofs.Common.{◌≡◌, ◌≤◌, List, [], ◌∷◌, length,
 use Rattle.spec_client_go.specs.Commands.{Command, create, update, update_status, delete}
 use Rattle.spec_client_go.specs.Expectations.{Owner}
 use Rattle.reconcile_laws.specs.ReplicaSetLaws.{created}
-use Rattle.spec_sim_control_plane.specs.Turns.{creates_pod, expected_by}
+use Rattle.spec_sim.specs.Turns.{creates_pod, expected_by}
 use Rattle.reconcile_parts.specs.Pods.{makes_pods}
 
 -- pods are expected just where some are created or deleted

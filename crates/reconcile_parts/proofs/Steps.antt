@@ -3,8 +3,8 @@ use Rattle.std.proofs.Common.{◌≡◌, ◌∙◌, [], Option, Some, None, opti
 use Rattle.std.specs.Option.{option_or}
 use Rattle.spec_client_go.specs.Commands.{Command}
 use Rattle.spec_api.specs.Keys.{Key}
-use Rattle.spec_sim_control_plane.specs.NextSteps.{NextStep, Sighting, next, seeing, read, expect, issue, finish, first, unseen, expecting, issuing}
-use Rattle.spec_sim_control_plane.specs.Turns.{Turn, Expected, asks, expected, all_accepted, left}
+use Rattle.spec_sim.specs.NextSteps.{NextStep, Sighting, next, seeing, read, expect, issue, finish, first, unseen, expecting, issuing}
+use Rattle.spec_sim.specs.Turns.{Turn, Expected, asks, expected, all_accepted, left}
 
 abbrev pub step_by : Option Sighting → Option Key → Option Expected → Option Command → NextStep
 step_by s k e x = unwrap_or (option_or (option_map seeing s) (option_or (option_map read k) (option_or (option_map expect e) (option_map issue x)))) finish

@@ -4,8 +4,8 @@ use Rattle.std.specs.Arc.{arc_value}
 use Rattle.std.specs.declared.sync.Arc.{Arc}
 use Rattle.std.specs.Global.{Global}
 use Rattle.spec_client_go.specs.Commands.{Command}
-use Rattle.spec_sim_control_plane.specs.Turns as turns
-use Rattle.spec_sim_control_plane.specs.Turns.{is_refused, version_in}
+use Rattle.spec_sim.specs.Turns as turns
+use Rattle.spec_sim.specs.Turns.{is_refused, version_in}
 use Rattle.reconcile_parts.specs.Seen.{answer_of}
 use Rattle.reconcile_parts.specs.declared.answers.CommandAnswer.{CommandAnswer}
 

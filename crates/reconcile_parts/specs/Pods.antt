@@ -2,7 +2,7 @@
 use Rattle.std.specs.Prelude.{◌||◌, List, [], ◌∷◌, map, Bool, false, is_some}
 use Rattle.std.specs.Borrow.{Bor}
 use Rattle.spec_client_go.specs.Commands as commands
-use Rattle.spec_sim_control_plane.specs.Turns.{creates_pod, pod_deleted}
+use Rattle.spec_sim.specs.Turns.{creates_pod, pod_deleted}
 use Rattle.reconcile_types.specs.Commands.{command_of}
 use Rattle.reconcile_types.specs.declared.commands.Command.{Command}
 

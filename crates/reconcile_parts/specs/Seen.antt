@@ -6,10 +6,10 @@ use Rattle.spec_api.specs.Keys.{Key}
 use Rattle.spec_client_go.specs.Commands.{Command}
 use Rattle.work_board.specs.Seen.{owner_of}
 use Rattle.object_keys.specs.Keys.{key_of}
-use Rattle.spec_sim_control_plane.specs.NextSteps as steps
-use Rattle.spec_sim_control_plane.specs.NextSteps.{next, look, ask_satisfied, expect, issue, finish}
-use Rattle.spec_sim_control_plane.specs.Turns as turns
-use Rattle.spec_sim_control_plane.specs.Turns.{Turn, looked, satisfied, accepted, refused, lost, with_read, with_issue}
+use Rattle.spec_sim.specs.NextSteps as steps
+use Rattle.spec_sim.specs.NextSteps.{next, look, ask_satisfied, expect, issue, finish}
+use Rattle.spec_sim.specs.Turns as turns
+use Rattle.spec_sim.specs.Turns.{Turn, looked, satisfied, accepted, refused, lost, with_read, with_issue}
 use Rattle.reconcile_types.specs.Commands.{command_of}
 use Rattle.reconcile_parts.specs.declared.answers.CommandAnswer.{CommandAnswer}
 use Rattle.reconcile_parts.specs.declared.answers.CommandAnswer.TheVariants as answer

@@ -1,6 +1,6 @@
 -- What is to be seen, as the definitions have it.
-use Rattle.spec_sim_control_plane.specs.NextSteps as steps
-use Rattle.spec_sim_control_plane.specs.NextSteps.{of_kind, of_expectations}
+use Rattle.spec_sim.specs.NextSteps as steps
+use Rattle.spec_sim.specs.NextSteps.{of_kind, of_expectations}
 use Rattle.reconcile_parts.specs.declared.sightings.Sighting.{Sighting}
 use Rattle.reconcile_parts.specs.declared.sightings.Sighting.TheVariants.{OfKind, OfExpectations}
 

@@ -6,8 +6,8 @@ use Rattle.spec_client_go.specs.Hands.{Read}
 use Rattle.spec_client_go.specs.WorkQueues.{WorkKey}
 use Rattle.spec_api.specs.Keys.{Key}
 use Rattle.object_keys.specs.Keys.{key_of}
-use Rattle.spec_sim_control_plane.specs.NextSteps.{first, unseen}
-use Rattle.spec_sim_control_plane.specs.Turns.{Sight, Answer, Issue, Turn, all_accepted, asks, commands, expected}
+use Rattle.spec_sim.specs.NextSteps.{first, unseen}
+use Rattle.spec_sim.specs.Turns.{Sight, Answer, Issue, Turn, all_accepted, asks, commands, expected}
 use Rattle.reconcile_types.specs.Commands.{commands_of}
 use Rattle.reconcile_parts.specs.declared.stages.Stage.{Stage}
 use Rattle.reconcile_parts.specs.declared.stages.Stage.TheVariants.{Seeing, Reading, Planned}

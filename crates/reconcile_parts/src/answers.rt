@@ -1,7 +1,7 @@
 //! Answers to commands.
 ghost use Rattle.std.specs.Prelude.{◌≡◌, IfOk};
 ghost use Rattle.reconcile_parts.specs.Answers.{answers_of};
-ghost use Rattle.spec_sim_control_plane.specs.Turns.{is_accepted, is_refused};
+ghost use Rattle.spec_sim.specs.Turns.{is_accepted, is_refused};
 ghost use Rattle.reconcile_parts.specs.Seen.{answer_of};
 
 use std::alloc::{AllocError, Global};

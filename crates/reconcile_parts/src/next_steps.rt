@@ -1,6 +1,6 @@
 //! What a worker does next in its turn.
 ghost use Rattle.std.specs.Prelude.{◌≡◌, drop, map, option_map};
-ghost use Rattle.spec_sim_control_plane.specs.NextSteps.{issuing};
+ghost use Rattle.spec_sim.specs.NextSteps.{issuing};
 ghost use Rattle.reconcile_types.specs.Commands.{command_of, commands_of};
 ghost use Rattle.reconcile_parts.specs.NextCommands.{IsCommandNext};
 

@@ -2,7 +2,7 @@
 ghost use Rattle.std.specs.Prelude.{◌≡◌, ◌++◌, ◌<◌, ◌^◌, IfOk, OnOk, length, map, filter, filter_map, replicate, slice_get, string_bytes};
 ghost use Rattle.spec_client_go.specs.Boards.{creation_observed, deletion_observed};
 ghost use Rattle.work_board.specs.Seen.{owner_of, observation_of};
-ghost use Rattle.spec_sim_control_plane.specs.Turns.{as_observed, creates_pod, expected_of, pod_deleted};
+ghost use Rattle.spec_sim.specs.Turns.{as_observed, creates_pod, expected_of, pod_deleted};
 ghost use Rattle.reconcile_types.specs.Commands.{command_of};
 ghost use Rattle.reconcile_parts.specs.Answers.{answers_of, is_undone, undone_of};
 ghost use Rattle.reconcile_parts.specs.Pods.{commands_lent};

@@ -5,7 +5,7 @@ ghost use Rattle.spec_api.specs.History.{found};
 ghost use Rattle.spec_api.specs.declared.kinds.Kind.TheVariants as kind;
 ghost use Rattle.object_keys.specs.Keys.{key_of};
 ghost use Rattle.object_fields.specs.Lent.{data_of};
-ghost use Rattle.spec_sim_control_plane.specs.Turns.{owner, shown};
+ghost use Rattle.spec_sim.specs.Turns.{owner, shown};
 ghost use Rattle.work_keys.specs.WorkKeys.{work_key_of};
 ghost use Rattle.reconcile_parts.specs.Seen.{sight_of};
 ghost use Rattle.reconcile_parts.specs.Stages.{turn_of};

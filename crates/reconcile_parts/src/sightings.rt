@@ -1,6 +1,6 @@
 //! What is to be seen in a turn.
 ghost use Rattle.std.specs.Prelude.{◌≡◌, drop, option_map};
-ghost use Rattle.spec_sim_control_plane.specs.NextSteps.{first, order};
+ghost use Rattle.spec_sim.specs.NextSteps.{first, order};
 ghost use Rattle.reconcile_parts.specs.Sightings.{sighting_of};
 
 use spec_api::kinds::Kind;

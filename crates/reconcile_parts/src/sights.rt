@@ -1,6 +1,6 @@
 //! What a worker has seen.
 ghost use Rattle.std.specs.Prelude.{◌≡◌, IfOk, map};
-ghost use Rattle.spec_sim_control_plane.specs.Turns.{shown, was_satisfied, looks};
+ghost use Rattle.spec_sim.specs.Turns.{shown, was_satisfied, looks};
 ghost use Rattle.reconcile_types.specs.Hands.{looks_by, members_of};
 ghost use Rattle.reconcile_parts.specs.Seen.{sight_of};
 ghost use Rattle.reconcile_parts.specs.Looked.{shown_by};

@@ -7,9 +7,9 @@ use Rattle.std.specs.declared.sync.Arc.{Arc}
 use Rattle.spec_client_go.specs.Commands.{Command}
 use Rattle.spec_client_go.specs.Hands.{Read}
 use Rattle.spec_client_go.specs.WorkQueues.{WorkKey}
-use Rattle.spec_sim_control_plane.specs.NextSteps as steps
-use Rattle.spec_sim_control_plane.specs.NextSteps.{NextStep, Sighting, of_kind, of_expectations, next, seeing, expect, issue, finish, look, ask_satisfied, first, unseen, expecting, issuing}
-use Rattle.spec_sim_control_plane.specs.Turns.{Turn, Sight, Answer, Issue, Expected, expected, is_accepted, is_refused, all_accepted, left, undone, version_answered, with_issue}
+use Rattle.spec_sim.specs.NextSteps as steps
+use Rattle.spec_sim.specs.NextSteps.{NextStep, Sighting, of_kind, of_expectations, next, seeing, expect, issue, finish, look, ask_satisfied, first, unseen, expecting, issuing}
+use Rattle.spec_sim.specs.Turns.{Turn, Sight, Answer, Issue, Expected, expected, is_accepted, is_refused, all_accepted, left, undone, version_answered, with_issue}
 use Rattle.reconcile_types.specs.Commands.{commands_of}
 use Rattle.reconcile_types.specs.Hands.{reads_of}
 use Rattle.reconcile_types.specs.declared.commands.Plan.{Plan}

@@ -1,6 +1,6 @@
 //! The plan of a turn.
 ghost use Rattle.std.specs.Prelude.{◌≡◌, ◌&&◌, [], IfOk, is_some, map};
-ghost use Rattle.spec_sim_control_plane.specs.Turns.{hand, asks_by, owner, plan_by};
+ghost use Rattle.spec_sim.specs.Turns.{hand, asks_by, owner, plan_by};
 ghost use Rattle.reconcile_types.specs.Commands.{commands_of};
 ghost use Rattle.reconcile_types.specs.Hands.{hand_of, reads_of, read_of};
 ghost use Rattle.object_keys.specs.Keys.{key_of};

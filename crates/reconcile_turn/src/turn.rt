@@ -34,8 +34,8 @@ pub struct Turn {
 
 impl Model for Turn {
     ghost use Rattle.std.specs.Prelude.{map};
-    ghost use Rattle.spec_sim_control_plane.specs.Codes.{coded_turn};
-    ghost use Rattle.spec_sim_control_plane.specs.Turns as turns;
+    ghost use Rattle.spec_sim.specs.ControlPlaneCodes.{coded_turn};
+    ghost use Rattle.spec_sim.specs.Turns as turns;
     ghost use Rattle.reconcile_types.specs.Hands.{reads_of};
     ghost use Rattle.work_keys.specs.WorkKeys.{work_key_of};
     ghost use Rattle.reconcile_parts.specs.Answers.{answers_of};
@@ -61,9 +61,9 @@ impl Model for Turn {
 impl Turn {
     ghost use Rattle.std.specs.Prelude.{◌≡◌, true, IfOk, OnOk, OnErr, is_some, map, option_map};
     ghost use Rattle.work_board.specs.Seen.{owner_of, observation_of};
-    ghost use Rattle.spec_sim_control_plane.specs.Managers.{requested};
-    ghost use Rattle.spec_sim_control_plane.specs.NextSteps.{next, finish};
-    ghost use Rattle.spec_sim_control_plane.specs.Turns.{begun, with_sight, with_expected, owner, taken_back, all_accepted};
+    ghost use Rattle.spec_sim.specs.Managers.{requested};
+    ghost use Rattle.spec_sim.specs.NextSteps.{next, finish};
+    ghost use Rattle.spec_sim.specs.Turns.{begun, with_sight, with_expected, owner, taken_back, all_accepted};
     ghost use Rattle.request_parts.specs.Requests.{request_of};
     ghost use Rattle.work_keys.specs.WorkKeys.{work_key_of};
     ghost use Rattle.reconcile_parts.specs.Seen.{sight_of, answer_of, expected_of, IsNext, step_of, key_read, expectation, command_issued, found_under, answered_to};

@@ -11,11 +11,11 @@ use Rattle.spec_server.specs.Servers.{Server}
 use Rattle.spec_line_protocol.specs.Lines as lines
 use Rattle.spec_line_protocol.specs.Lines.{line_of}
 use Rattle.line_session.specs.SessionStates.{SessionState, state_after}
-use Rattle.spec_sim_cluster.specs.declared.initial_syncs.InitialSync.{InitialSync}
-use Rattle.spec_sim_cluster.specs.Clusters.{request, compact, moves, restart, history}
-use Rattle.spec_sim_cluster.specs.Followers.{Follower, begun}
-use Rattle.spec_sim_cluster.specs.Moves as moving
-use Rattle.spec_sim_cluster.specs.Moves.{Move, answers_by, listed_of, move_by}
+use Rattle.spec_sim.specs.declared.initial_syncs.InitialSync.{InitialSync}
+use Rattle.spec_sim.specs.Clusters.{request, compact, moves, restart, history}
+use Rattle.spec_sim.specs.Followers.{Follower, begun}
+use Rattle.spec_sim.specs.Moves as moving
+use Rattle.spec_sim.specs.Moves.{Move, answers_by, listed_of, move_by}
 use Rattle.sim_cluster_laws.proofs.Serving.{same_answers}
 use Rattle.sim_server.specs.RecordedStates as recorded
 use Rattle.sim_server.specs.RecordedStates.{RecordedState, journal_after}

@@ -3,9 +3,9 @@ use Rattle.std.proofs.Common.{◌≡◌, List, drop, sym, ap, subst}
 use Rattle.spec_api.specs.declared.kinds.Kind.{Kind}
 use Rattle.spec_api.specs.History.{History}
 use Rattle.spec_api.specs.Reached.{IsReached, IsTimestamp}
-use Rattle.spec_sim_cluster.specs.Clusters as clusters
-use Rattle.spec_sim_cluster.specs.Clusters.{Cluster, history}
-use Rattle.spec_sim_cluster.specs.Followers.{Follower, Notification}
+use Rattle.spec_sim.specs.Clusters as clusters
+use Rattle.spec_sim.specs.Clusters.{Cluster, history}
+use Rattle.spec_sim.specs.Followers.{Follower, Notification}
 use Rattle.sim_cluster_laws.specs.ClusterLaws.{IsFollowed}
 use Rattle.sim_cluster_laws.specs.FollowerLaws.{IsFollowing}
 use Rattle.sim_cluster_laws.proofs.Runs.{with_moved, same_session}

@@ -15,9 +15,9 @@ use Rattle.spec_line_protocol.specs.Lines.{line_of}
 use Rattle.spec_server.specs.Snapshots.{Snapshot}
 use Rattle.line_session.proofs.Followed.{same_outcome}
 use Rattle.line_session.specs.SessionStates.{accepted, reply_for, of_write, written_by, effect_on}
-use Rattle.spec_sim_cluster.specs.Clusters as clusters
-use Rattle.spec_sim_cluster.specs.Clusters.{Cluster, ClusterStep, request, compact, moves, restart}
-use Rattle.spec_sim_cluster.specs.Followers.{Follower}
+use Rattle.spec_sim.specs.Clusters as clusters
+use Rattle.spec_sim.specs.Clusters.{Cluster, ClusterStep, request, compact, moves, restart}
+use Rattle.spec_sim.specs.Followers.{Follower}
 use Rattle.sim_cluster_laws.proofs.Requests.{replaces}
 use Rattle.sim_cluster_laws.proofs.Runs.{rise_one}
 use Rattle.sim_cluster_laws.specs.ClusterLaws.{NoRestart, Asks, NamesVersion}

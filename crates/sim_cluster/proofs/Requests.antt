@@ -14,8 +14,8 @@ use Rattle.spec_server.specs.Servers.{IsServerAfter, after_writing}
 use Rattle.line_session.proofs.Followed.{same_outcome}
 use Rattle.line_session.specs.Laws as sessions
 use Rattle.line_session.specs.SessionStates.{SessionState, accepted, changed_by, of_write, HasRoom}
-use Rattle.spec_sim_cluster.specs.Clusters as clusters
-use Rattle.spec_sim_cluster.specs.Clusters.{Cluster, history}
+use Rattle.spec_sim.specs.Clusters as clusters
+use Rattle.spec_sim.specs.Clusters.{Cluster, history}
 use Rattle.sim_cluster_laws.specs.ClusterLaws.{IsFollowed}
 use Rattle.sim_cluster_laws.specs.FollowerLaws.{IsFollowing}
 use Rattle.sim_cluster_laws.proofs.Growing.{stand}

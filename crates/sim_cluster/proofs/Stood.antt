@@ -5,12 +5,12 @@ use Rattle.spec_api.specs.declared.kinds.Kind.TheVariants.{ConfigMap, Pod, Repli
 use Rattle.spec_line_protocol.specs.Lines as lines
 use Rattle.spec_line_protocol.specs.Lines.{Line, line_of}
 use Rattle.line_session.proofs.Followed.{follows_line, same_line, sessions_follow}
-use Rattle.spec_sim_cluster.specs.declared.initial_syncs.InitialSync.{InitialSync}
-use Rattle.spec_sim_cluster.specs.Clusters as clusters
-use Rattle.spec_sim_cluster.specs.Clusters.{Cluster, ClusterStep, request, compact, moves, restart}
-use Rattle.spec_sim_cluster.specs.Followers.{Follower, begun}
-use Rattle.spec_sim_cluster.specs.Moves as moving
-use Rattle.spec_sim_cluster.specs.Moves.{Move, replied, answers_by, move_by}
+use Rattle.spec_sim.specs.declared.initial_syncs.InitialSync.{InitialSync}
+use Rattle.spec_sim.specs.Clusters as clusters
+use Rattle.spec_sim.specs.Clusters.{Cluster, ClusterStep, request, compact, moves, restart}
+use Rattle.spec_sim.specs.Followers.{Follower, begun}
+use Rattle.spec_sim.specs.Moves as moving
+use Rattle.spec_sim.specs.Moves.{Move, replied, answers_by, move_by}
 use Rattle.sim_cluster_laws.proofs.Runs.{keeps, runs_followed}
 use Rattle.sim_cluster_laws.proofs.Serving.{servers_serve}
 use Rattle.sim_cluster.specs.Standing.{StandsFor, Stands}

@@ -10,13 +10,13 @@ use Rattle.spec_line_protocol.specs.Lines.{line_of}
 use Rattle.spec_server.specs.Snapshots.{Snapshot}
 use Rattle.line_session.specs.SessionStates as sessions
 use Rattle.line_session.specs.SessionStates.{SessionState, coded_state, state_after, reply_to}
-use Rattle.spec_sim_cluster.specs.contracts.initial_syncs.InitialSync as initial_sync
-use Rattle.spec_sim_cluster.specs.declared.initial_syncs.InitialSync.{InitialSync}
-use Rattle.spec_sim_cluster.specs.Clusters.{ClusterStep, request, compact, moves, restart}
-use Rattle.spec_sim_cluster.specs.Codes.{coded_follower}
-use Rattle.spec_sim_cluster.specs.Followers as followers
-use Rattle.spec_sim_cluster.specs.Followers.{Follower}
-use Rattle.spec_sim_cluster.specs.Moves.{Moved, Outcome, replied, restarted, answers_by, move_by}
+use Rattle.spec_sim.specs.contracts.initial_syncs.InitialSync as initial_sync
+use Rattle.spec_sim.specs.declared.initial_syncs.InitialSync.{InitialSync}
+use Rattle.spec_sim.specs.Clusters.{ClusterStep, request, compact, moves, restart}
+use Rattle.spec_sim.specs.Codes.{coded_follower}
+use Rattle.spec_sim.specs.Followers as followers
+use Rattle.spec_sim.specs.Followers.{Follower}
+use Rattle.spec_sim.specs.Moves.{Moved, Outcome, replied, restarted, answers_by, move_by}
 use Rattle.sim_server.specs.RecordedStates.{journal_after}
 
 -- a session, all that has happened at it, the oldest first, how followers begin, and what follows each kind

@@ -7,7 +7,7 @@ use Rattle.spec_api.specs.History.{History, write, present, state, list, unfilte
 use Rattle.spec_api.specs.Keys.{Key}
 use Rattle.spec_api.specs.Metadata.{version}
 use Rattle.spec_api.specs.ObjectRequests.{Request}
-use Rattle.spec_sim_cluster.specs.Clusters.{ClusterStep, request}
+use Rattle.spec_sim.specs.Clusters.{ClusterStep, request}
 use Rattle.sim_cluster_laws.specs.ClusterLaws.{NoRestart, Asks, NamesVersion}
 use Rattle.sim_cluster.specs.ClusterStates.{ClusterState, published, run}
 

@@ -1,7 +1,7 @@
 -- What a stored cluster stands for.
 use Rattle.std.specs.Prelude.{◌≡◌}
 use Rattle.line_session.specs.Laws as sessions
-use Rattle.spec_sim_cluster.specs.Clusters.{Cluster, history}
+use Rattle.spec_sim.specs.Clusters.{Cluster, history}
 use Rattle.sim_cluster_laws.specs.ClusterLaws.{IsFollowed}
 use Rattle.sim_cluster.specs.ClusterStates.{ClusterState}
 

@@ -52,7 +52,7 @@ impl Cluster {
     ghost use Rattle.std.specs.Prelude.{◌≡◌, ◌<◌, IfOk, IfErr, OnOk, OnErr, [], ◌∷◌, length, map, take};
     ghost use Rattle.spec_line_protocol.specs.Lines.{line_of, compact};
     ghost use Rattle.sim_server.specs.Entries.{entry_of};
-    ghost use Rattle.spec_sim_cluster.specs.Moves.{answers_by, move_by};
+    ghost use Rattle.spec_sim.specs.Moves.{answers_by, move_by};
     ghost use Rattle.sim_followers.specs.Outcomes.{outcome_of};
     ghost use Rattle.sim_steps.specs.Steps.{move_of, step_of};
     ghost use Rattle.sim_cluster.specs.Headline.{ShowsLists, RevisionsRise, ReplacesNamedVersion, ReplacesNamedVersions};

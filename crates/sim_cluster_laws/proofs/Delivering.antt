@@ -14,8 +14,8 @@ use Rattle.spec_laws.proofs.Limited.{limited}
 use Rattle.spec_laws.proofs.SentChanges.{changes_told}
 use Rattle.reflector.specs.Laws.{IsSent, IsReadBack}
 use Rattle.reflector.proofs.Cutting.{fed_twice}
-use Rattle.spec_sim_cluster.specs.Followers.{Link, Follower}
-use Rattle.spec_sim_cluster.specs.Moves.{left_open, deliver_from}
+use Rattle.spec_sim.specs.Followers.{Link, Follower}
+use Rattle.spec_sim.specs.Moves.{left_open, deliver_from}
 use Rattle.sim_cluster_laws.specs.FollowerLaws.{list_at, IsLinked, IsOpen, IsFollowing}
 use Rattle.sim_cluster_laws.specs.LeadLaws.{Leads}
 use Rattle.sim_cluster_laws.proofs.Feeding.{same_kind, end_clears}

@@ -9,7 +9,7 @@ use Rattle.spec_client_go.specs.Reflectors.{Reflector}
 use Rattle.spec_laws.specs.SentLaws.{whole}
 use Rattle.spec_laws.proofs.Looks.{still_streams}
 use Rattle.spec_laws.proofs.Past.{writes-append, past}
-use Rattle.spec_sim_cluster.specs.Followers.{Link}
+use Rattle.spec_sim.specs.Followers.{Link}
 use Rattle.sim_cluster_laws.specs.FollowerLaws.{list_at, Begins, watching, streaming, IsLinked, FollowersStand}
 
 pub list_past : (h more : History) (k : Kind) (r : ℕ) → r ≤ present h → list_at (h ++ more) k r ≡ list_at h k r

@@ -23,9 +23,9 @@ use Rattle.spec_laws.proofs.Looks.{streams_join, none_at}
 use Rattle.spec_laws.proofs.SentLists.{lists_put}
 use Rattle.spec_laws.proofs.StandingWatches.{given_stands}
 use Rattle.reflector.specs.Laws.{IsReadBack}
-use Rattle.spec_sim_cluster.specs.Followers.{Link, Follower}
-use Rattle.spec_sim_cluster.specs.Moves as moving
-use Rattle.spec_sim_cluster.specs.Moves.{Move, answers_after, list_in, watch_in, open_by, stream_in, after_lines, after_initial, after_refusal, with_link, write_changes, send_next, send_on, write_bookmark, bookmark_next, bookmark_on, left_open, deliver_from, deliver_on, deliver_all_on, cut_on, publish_by, publish_now, closed}
+use Rattle.spec_sim.specs.Followers.{Link, Follower}
+use Rattle.spec_sim.specs.Moves as moving
+use Rattle.spec_sim.specs.Moves.{Move, answers_after, list_in, watch_in, open_by, stream_in, after_lines, after_initial, after_refusal, with_link, write_changes, send_next, send_on, write_bookmark, bookmark_next, bookmark_on, left_open, deliver_from, deliver_on, deliver_all_on, cut_on, publish_by, publish_now, closed}
 use Rattle.sim_cluster_laws.specs.FollowerLaws.{list_at, refusal_text, IsRefusalRead, Begins, watching, streaming, IsLinked, IsOpen, IsFollowing, MovesFollow}
 use Rattle.sim_cluster_laws.proofs.Appending.{texts, all_two, events_alone}
 use Rattle.sim_cluster_laws.proofs.Delivering.{delivers}

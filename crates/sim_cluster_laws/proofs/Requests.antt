@@ -8,7 +8,7 @@ use Rattle.spec_api.specs.Verbs.{accept, history_after}
 use Rattle.spec_line_protocol.specs.Lines.{line_of, reply_text, reply_to, session_after}
 use Rattle.spec_laws.specs.LifecycleLaws.{ReplacesVersion}
 use Rattle.spec_laws.proofs.NamedVersions.{updates_version, statuses_version, patches_version, deletes_version}
-use Rattle.spec_sim_cluster.specs.Moves.{replied}
+use Rattle.spec_sim.specs.Moves.{replied}
 use Rattle.sim_cluster_laws.specs.ClusterLaws.{Asks, NamesVersion, update, status, patch, delete, NamedVersionsAreReplaced}
 
 pub replaces : (h : History) (k : Key) (named : List ℕ) (q : Request) (moment : List ℕ) → NamesVersion h k named q → ReplacesVersion k named h (accept q h moment)

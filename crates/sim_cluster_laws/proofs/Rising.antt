@@ -6,9 +6,9 @@ use Rattle.spec_server.specs.Snapshots.{Snapshot}
 use Rattle.spec_client_go.specs.declared.reflectors.Phase.{Phase}
 use Rattle.spec_client_go.specs.declared.reflectors.Phase.TheVariants.{Listing, Streaming, Watching}
 use Rattle.spec_client_go.specs.Informers.{Informer, all_applied}
-use Rattle.spec_sim_cluster.specs.Followers.{Link, Follower}
-use Rattle.spec_sim_cluster.specs.Moves as moving
-use Rattle.spec_sim_cluster.specs.Moves.{Move, Moved, answers_after, list_in, deliver_on, deliver_all_on, publish_now, closed}
+use Rattle.spec_sim.specs.Followers.{Link, Follower}
+use Rattle.spec_sim.specs.Moves as moving
+use Rattle.spec_sim.specs.Moves.{Move, Moved, answers_after, list_in, deliver_on, deliver_all_on, publish_now, closed}
 use Rattle.sim_cluster_laws.specs.FollowerLaws.{IsFollowing, MovesRise}
 use Rattle.sim_cluster_laws.proofs.Staying.{Stays, of_watch, of_stream, of_send, of_bookmark, of_cut}
 

@@ -13,10 +13,10 @@ use Rattle.spec_line_protocol.specs.Lines.{Line, cut, line_of, session_after}
 use Rattle.spec_server.specs.Snapshots.{Snapshot}
 use Rattle.spec_laws.proofs.ReadRequests.{IsTimed, timed_from, by_line}
 use Rattle.spec_laws.proofs.Runs.{Begins, nothing as none_more, begins-write, begins-entry}
-use Rattle.spec_sim_cluster.specs.declared.initial_syncs.InitialSync.{InitialSync}
-use Rattle.spec_sim_cluster.specs.Followers.{Follower, begun}
-use Rattle.spec_sim_cluster.specs.Moves as moving
-use Rattle.spec_sim_cluster.specs.Clusters.{Cluster, with_new_followers, opened, history, follower, with_follower, ClusterStep, request, compact, moves, restart, step, run}
+use Rattle.spec_sim.specs.declared.initial_syncs.InitialSync.{InitialSync}
+use Rattle.spec_sim.specs.Followers.{Follower, begun}
+use Rattle.spec_sim.specs.Moves as moving
+use Rattle.spec_sim.specs.Clusters.{Cluster, with_new_followers, opened, history, follower, with_follower, ClusterStep, request, compact, moves, restart, step, run}
 use Rattle.sim_cluster_laws.specs.FollowerLaws.{IsFollowing}
 use Rattle.sim_cluster_laws.specs.ClusterLaws.{IsFollowed, StepsKeep, RunsAreFollowed, InformersShowServerLists, NoRestart, PublishedRevisionsRise, RestartsBeginAnew}
 use Rattle.sim_cluster_laws.proofs.Growing.{stand}

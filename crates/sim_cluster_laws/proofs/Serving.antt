@@ -5,7 +5,7 @@ use Rattle.spec_api.specs.History.{History, viewed}
 use Rattle.spec_server.specs.Servers.{Server, IsServerAfter}
 use Rattle.spec_laws.specs.SentLaws.{whole}
 use Rattle.spec_laws.proofs.ServerAnswers.{watches_held}
-use Rattle.spec_sim_cluster.specs.Moves.{answers_after, answers_by, move_by}
+use Rattle.spec_sim.specs.Moves.{answers_after, answers_by, move_by}
 use Rattle.sim_cluster_laws.specs.FollowerLaws.{ServersServe}
 
 pub same_answers : (size : ℕ) (s : Server) (h : History) (k : Kind) → IsServerAfter size s h → answers_by k s ≡ answers_after k size h

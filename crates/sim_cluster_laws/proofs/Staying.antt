@@ -8,9 +8,9 @@ use Rattle.spec_api.specs.Versions.{Watched, watched_from}
 use Rattle.spec_client_go.specs.declared.reflectors.Phase.{Phase}
 use Rattle.spec_client_go.specs.declared.reflectors.Phase.TheVariants.{Listing, Streaming, Watching}
 use Rattle.spec_laws.specs.SentLaws.{whole}
-use Rattle.spec_sim_cluster.specs.Followers.{Link, Follower}
-use Rattle.spec_sim_cluster.specs.Moves as moving
-use Rattle.spec_sim_cluster.specs.Moves.{Moved, answers_after, watch_in, open_by, stream_in, after_lines, with_link, write_changes, send_next, send_on, write_bookmark, bookmark_next, bookmark_on, cut_on, closed}
+use Rattle.spec_sim.specs.Followers.{Link, Follower}
+use Rattle.spec_sim.specs.Moves as moving
+use Rattle.spec_sim.specs.Moves.{Moved, answers_after, watch_in, open_by, stream_in, after_lines, with_link, write_changes, send_next, send_on, write_bookmark, bookmark_next, bookmark_on, cut_on, closed}
 
 module _ (k : Kind) (h : History) (f : Follower) where
   -- what is published, and what waits, stays

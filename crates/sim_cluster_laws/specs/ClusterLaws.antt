@@ -18,10 +18,10 @@ use Rattle.spec_api.specs.Verbs.{accept, history_after, object_in}
 use Rattle.spec_line_protocol.specs.Lines.{line_of, ask, reply_text}
 use Rattle.spec_laws.specs.LifecycleLaws.{ReplacesVersion}
 use Rattle.spec_laws.specs.SentLaws.{whole}
-use Rattle.spec_sim_cluster.specs.declared.initial_syncs.InitialSync.{InitialSync}
-use Rattle.spec_sim_cluster.specs.Followers.{begun}
-use Rattle.spec_sim_cluster.specs.Moves.{replied}
-use Rattle.spec_sim_cluster.specs.Clusters.{Cluster, opened, history, follower, ClusterStep, request, restart, step, run}
+use Rattle.spec_sim.specs.declared.initial_syncs.InitialSync.{InitialSync}
+use Rattle.spec_sim.specs.Followers.{begun}
+use Rattle.spec_sim.specs.Moves.{replied}
+use Rattle.spec_sim.specs.Clusters.{Cluster, opened, history, follower, ClusterStep, request, restart, step, run}
 use Rattle.sim_cluster_laws.specs.FollowerLaws.{IsFollowing}
 
 -- ---- what informers publish

@@ -15,8 +15,8 @@ use Rattle.spec_client_go.specs.Reflectors.{Reflector, none_yet, fed}
 use Rattle.spec_laws.specs.SentLaws.{whole}
 use Rattle.framing.specs.Texts.{ReadsAs}
 use Rattle.reflector.specs.Laws.{IsReadBack, IsAt, IsAtStart}
-use Rattle.spec_sim_cluster.specs.Followers.{Link, Follower}
-use Rattle.spec_sim_cluster.specs.Moves.{Move, answers_by, move_by, move}
+use Rattle.spec_sim.specs.Followers.{Link, Follower}
+use Rattle.spec_sim.specs.Moves.{Move, answers_by, move_by, move}
 
 -- ---- what a follower is
 

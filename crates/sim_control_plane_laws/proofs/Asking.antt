@@ -13,9 +13,9 @@ use Rattle.spec_client_go.specs.Hands.{Hand, Read}
 use Rattle.spec_client_go.specs.WorkQueues.{WorkKey, handed}
 use Rattle.reconcile_laws.specs.AskedLaws.{AreStored, IsOfServer, CanBeAsked, AllCanBeAsked}
 use Rattle.reconcile_laws.proofs.AskedPlans.{plans_asked}
-use Rattle.spec_sim_control_plane.specs.Managers.{Client, Manager, Action, Acted, Delivery, delivered, answer_lost, dropped, take_key, carry_out, act, reaching, requested}
-use Rattle.spec_sim_control_plane.specs.NextSteps.{NextStep, look, ask_satisfied, read, expect, issue, finish, next}
-use Rattle.spec_sim_control_plane.specs.Turns.{Turn, Sight, looked, satisfied, hand, shown, commands, plan_by}
+use Rattle.spec_sim.specs.Managers.{Client, Manager, Action, Acted, Delivery, delivered, answer_lost, dropped, take_key, carry_out, act, reaching, requested}
+use Rattle.spec_sim.specs.NextSteps.{NextStep, look, ask_satisfied, read, expect, issue, finish, next}
+use Rattle.spec_sim.specs.Turns.{Turn, Sight, looked, satisfied, hand, shown, commands, plan_by}
 use Rattle.sim_worker_laws.specs.IssuedLaws.{IsSeen, commands_of}
 use Rattle.sim_worker_laws.proofs.Acting.{by_act}
 use Rattle.sim_worker_laws.proofs.Following.{Follows, AllFollow, at_place}

@@ -8,16 +8,16 @@ use Rattle.spec_api.specs.Reached.{IsReached, IsTimestamp, CanBeRead, asks}
 use Rattle.spec_api.specs.Verbs.{accept, history_after, write_of}
 use Rattle.spec_laws.proofs.Runs.{Begins, nothing, begins-write}
 use Rattle.spec_server.specs.Snapshots.{Snapshot}
-use Rattle.spec_sim_cluster.specs.declared.initial_syncs.InitialSync.{InitialSync}
-use Rattle.spec_sim_cluster.specs.Clusters.{Cluster, history, follower, with_follower, request, compact, moves, restart}
-use Rattle.spec_sim_cluster.specs.Followers.{Follower, Notification}
+use Rattle.spec_sim.specs.declared.initial_syncs.InitialSync.{InitialSync}
+use Rattle.spec_sim.specs.Clusters.{Cluster, history, follower, with_follower, request, compact, moves, restart}
+use Rattle.spec_sim.specs.Followers.{Follower, Notification}
 use Rattle.sim_cluster_laws.specs.ClusterLaws.{IsFollowed, ShowsServerLists}
 use Rattle.sim_cluster_laws.specs.FollowerLaws.{IsFollowing}
 use Rattle.sim_cluster_laws.proofs.Growing.{stand}
 use Rattle.sim_cluster_laws.proofs.Runs.{keeps, opens, with_moved, with_session, same_session}
-use Rattle.spec_sim_control_plane.specs.ControlPlanes.{ControlPlane, Step, in_cluster, handle, works, tick, opened, client, after_request, handle_in, step_in, step, run}
-use Rattle.spec_sim_control_plane.specs.Managers.{Manager, Issued, act}
-use Rattle.spec_sim_control_plane.specs.Turns.{Sight, looked, satisfied}
+use Rattle.spec_sim.specs.ControlPlanes.{ControlPlane, Step, in_cluster, handle, works, tick, opened, client, after_request, handle_in, step_in, step, run}
+use Rattle.spec_sim.specs.Managers.{Manager, Issued, act}
+use Rattle.spec_sim.specs.Turns.{Sight, looked, satisfied}
 use Rattle.sim_worker_laws.specs.IssuedLaws.{WasPublished, WasThere, IsSeen, IsNext}
 use Rattle.sim_worker_laws.proofs.Counting.{by_counted, by_tick}
 use Rattle.sim_worker_laws.proofs.Following.{AllFollow, act_follows, none_begun, none_restarted}

@@ -3,12 +3,12 @@ use Rattle.std.proofs.Common.{◌≡◌, Some, ap}
 use Rattle.spec_api.specs.Replies.{outcome}
 use Rattle.spec_api.specs.Verbs.{accept, history_after}
 use Rattle.spec_line_protocol.specs.Lines.{reply_text}
-use Rattle.spec_sim_cluster.specs.Clusters.{history, request}
-use Rattle.spec_sim_cluster.specs.Moves.{replied}
+use Rattle.spec_sim.specs.Clusters.{history, request}
+use Rattle.spec_sim.specs.Moves.{replied}
 use Rattle.sim_cluster_laws.proofs.Requests as clients
 use Rattle.sim_cluster_laws.proofs.Requests.{replaces}
-use Rattle.spec_sim_control_plane.specs.ControlPlanes.{after_request, step_in, in_cluster, works}
-use Rattle.spec_sim_control_plane.specs.Outcomes.{of_cluster}
+use Rattle.spec_sim.specs.ControlPlanes.{after_request, step_in, in_cluster, works}
+use Rattle.spec_sim.specs.Outcomes.{of_cluster}
 use Rattle.sim_worker_laws.proofs.Counting.{by_counted}
 use Rattle.sim_control_plane_laws.specs.PlaneLaws.{NamedVersionsAreReplaced, IssuedVersionsAreReplaced}
 

@@ -3,12 +3,12 @@ use Rattle.std.proofs.Common.{◌≤◌, ℕ, List, [], ◌∷◌, Option, Some,
 use Rattle.spec_api.specs.declared.kinds.Kind.{Kind}
 use Rattle.spec_api.specs.ObjectRequests.{Request}
 use Rattle.spec_api.specs.Verbs.{accept, history_after}
-use Rattle.spec_sim_cluster.specs.Clusters.{Cluster, history, follower, request, compact, moves, restart}
-use Rattle.spec_sim_cluster.specs.Followers.{Follower, Notification}
+use Rattle.spec_sim.specs.Clusters.{Cluster, history, follower, request, compact, moves, restart}
+use Rattle.spec_sim.specs.Followers.{Follower, Notification}
 use Rattle.sim_cluster_laws.specs.ClusterLaws.{IsFollowed}
 use Rattle.sim_cluster_laws.proofs.Runs.{rise_all, with_moved, with_session}
-use Rattle.spec_sim_control_plane.specs.ControlPlanes.{ControlPlane, Step, in_cluster, handle, works, tick, opened, client, after_request, handle_in, step_in, step, run}
-use Rattle.spec_sim_control_plane.specs.Managers.{act}
+use Rattle.spec_sim.specs.ControlPlanes.{ControlPlane, Step, in_cluster, handle, works, tick, opened, client, after_request, handle_in, step_in, step, run}
+use Rattle.spec_sim.specs.Managers.{act}
 use Rattle.sim_worker_laws.specs.OwedLaws.{NoRestart}
 use Rattle.sim_worker_laws.proofs.Counting.{by_counted, by_tick}
 use Rattle.sim_worker_laws.proofs.Owed.{first_of_none}

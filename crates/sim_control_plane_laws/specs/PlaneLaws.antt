@@ -11,13 +11,13 @@ use Rattle.spec_line_protocol.specs.Lines.{reply_text}
 use Rattle.spec_laws.specs.LifecycleLaws.{ReplacesVersion}
 use Rattle.spec_laws.specs.SentLaws.{whole}
 use Rattle.spec_server.specs.Snapshots.{Snapshot}
-use Rattle.spec_sim_cluster.specs.declared.initial_syncs.InitialSync.{InitialSync}
-use Rattle.spec_sim_cluster.specs.Clusters.{history, follower, request}
-use Rattle.spec_sim_cluster.specs.Moves.{replied}
+use Rattle.spec_sim.specs.declared.initial_syncs.InitialSync.{InitialSync}
+use Rattle.spec_sim.specs.Clusters.{history, follower, request}
+use Rattle.spec_sim.specs.Moves.{replied}
 use Rattle.sim_cluster_laws.specs.ClusterLaws.{IsFollowed, ShowsServerLists, Asks, NamesVersion}
-use Rattle.spec_sim_control_plane.specs.ControlPlanes.{ControlPlane, Step, in_cluster, works, opened, client, step, run}
-use Rattle.spec_sim_control_plane.specs.Managers.{Issued, Action, act}
-use Rattle.spec_sim_control_plane.specs.Outcomes.{of_cluster}
+use Rattle.spec_sim.specs.ControlPlanes.{ControlPlane, Step, in_cluster, works, opened, client, step, run}
+use Rattle.spec_sim.specs.Managers.{Issued, Action, act}
+use Rattle.spec_sim.specs.Outcomes.{of_cluster}
 use Rattle.sim_worker_laws.specs.IssuedLaws.{IsSeen}
 use Rattle.sim_worker_laws.specs.OwedLaws.{NoRestart}
 

@@ -7,7 +7,7 @@ use Rattle.spec_api.specs.Texts.Values.{compact_text}
 use Rattle.spec_api.specs.declared.versions.At.TheVariants.{Present}
 use Rattle.spec_client_go.specs.Reflectors.{list_of}
 use Rattle.spec_server.specs.Servers.{Server, list_served}
-use Rattle.spec_sim_cluster.specs.Moves.{answers_by, listed_of}
+use Rattle.spec_sim.specs.Moves.{answers_by, listed_of}
 
 -- a body that is read as the present list of the kind
 abbrev pub IsListBody : Kind → Server → Outcome → Type 0

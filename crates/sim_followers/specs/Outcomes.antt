@@ -1,5 +1,5 @@
 -- Outcomes as code has them.
-use Rattle.spec_sim_cluster.specs.Moves as moves
+use Rattle.spec_sim.specs.Moves as moves
 use Rattle.sim_followers.specs.declared.outcomes.ClusterOutcome.{ClusterOutcome}
 use Rattle.sim_followers.specs.declared.outcomes.ClusterOutcome.TheVariants as code
 

@@ -3,14 +3,14 @@ ghost use Rattle.std.specs.Prelude.{◌≡◌, IfOk};
 ghost use Rattle.spec_client_go.specs.Reflectors.{begun_by};
 ghost use Rattle.spec_api.specs.History.{viewed};
 ghost use Rattle.selector.specs.Views.{view_of};
-ghost use Rattle.spec_sim_cluster.specs.Followers.{asks_streams, streaming_at};
+ghost use Rattle.spec_sim.specs.Followers.{asks_streams, streaming_at};
 
 use meta::Kind;
 use reflector::Reflector;
 use selector::View;
 use server::Server;
 use sim_links::Link;
-use spec_sim_cluster::initial_syncs::InitialSync;
+use spec_sim::initial_syncs::InitialSync;
 use std::alloc::{AllocError, Global};
 
 /// Returns a reflector of a kind that has seen nothing yet, and begins so.

@@ -17,7 +17,7 @@ use sim_notifications::{Notification, apply_all};
 use sim_steps::Move;
 use spec_api::versions::At;
 use spec_client_go::reflectors::Ask;
-use spec_sim_cluster::initial_syncs::InitialSync;
+use spec_sim::initial_syncs::InitialSync;
 use std::alloc::{AllocError, Global};
 use std::collections::VecDeque;
 use std::marker::Model;
@@ -38,8 +38,8 @@ pub struct SimulatedFollower {
 impl Model for SimulatedFollower {
     ghost use Rattle.std.specs.Prelude.{◌≡◌, map};
     ghost use Rattle.reflector.specs.Deltas.{deltas_of};
-    ghost use Rattle.spec_sim_cluster.specs.Followers as followers;
-    ghost use Rattle.spec_sim_cluster.specs.Codes.{coded_follower};
+    ghost use Rattle.spec_sim.specs.Followers as followers;
+    ghost use Rattle.spec_sim.specs.Codes.{coded_follower};
     ghost use Rattle.sim_notifications.specs.Notified.{notification_of};
 
     ghost Value = { followers.Follower };
@@ -60,8 +60,8 @@ impl Model for SimulatedFollower {
 impl SimulatedFollower {
     ghost use Rattle.std.specs.Prelude.{◌≡◌, OnOk, OnErr, IfOk, Ok, Some, None, drop, length, option_map, slice_get};
     ghost use Rattle.spec_client_go.specs.Reflectors.{list_of};
-    ghost use Rattle.spec_sim_cluster.specs.Followers.{begun};
-    ghost use Rattle.spec_sim_cluster.specs.Moves.{Answers, answers_by, listed_of, list_in, watch_in, stream_in, send_on, bookmark_on, deliver_on, deliver_all_on, cut_on, publish_by, move_by};
+    ghost use Rattle.spec_sim.specs.Followers.{begun};
+    ghost use Rattle.spec_sim.specs.Moves.{Answers, answers_by, listed_of, list_in, watch_in, stream_in, send_on, bookmark_on, deliver_on, deliver_all_on, cut_on, publish_by, move_by};
     ghost use Rattle.spec_api.specs.History.{unfiltered};
     ghost use Rattle.selector.specs.Views.{view_of};
     ghost use Rattle.sim_followers.specs.Answered.{AnswersLists};

@@ -4,8 +4,8 @@ ghost use Rattle.spec_api.specs.Frames.{frame_text, error_frame, bookmark_frame}
 ghost use Rattle.spec_api.specs.Streams.{bookmark, event as change, text_of_lines};
 ghost use Rattle.object_keys.specs.Faults.{refusal_of};
 ghost use Rattle.revisions.specs.Events.{event_seen};
-ghost use Rattle.spec_sim_cluster.specs.Followers.{opened_at};
-ghost use Rattle.spec_sim_cluster.specs.Moves.{after_lines, after_initial, after_refusal};
+ghost use Rattle.spec_sim.specs.Followers.{opened_at};
+ghost use Rattle.spec_sim.specs.Moves.{after_lines, after_initial, after_refusal};
 ghost use Rattle.sim_links.specs.Openings.{initial_lines};
 
 use crate::openings::InitialBacklog;
@@ -28,8 +28,8 @@ pub struct Link {
 
 impl Model for Link {
     ghost use Rattle.std.specs.Prelude.{◌≤◌, drop, length};
-    ghost use Rattle.spec_sim_cluster.specs.Followers as followers;
-    ghost use Rattle.spec_sim_cluster.specs.Codes.{coded_link};
+    ghost use Rattle.spec_sim.specs.Followers as followers;
+    ghost use Rattle.spec_sim.specs.Codes.{coded_link};
 
     ghost Value = { followers.Link };
 

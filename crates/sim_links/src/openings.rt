@@ -25,7 +25,7 @@ impl Model for InitialBacklog {
     ghost use Rattle.spec_api.specs.Streams.{Line};
     ghost use Rattle.sim_links.specs.Openings.{lines_left};
     ghost use Rattle.revisions.specs.Events.{event_seen};
-    ghost use Rattle.spec_sim_cluster.specs.LineCodes.{coded_line};
+    ghost use Rattle.spec_sim.specs.LineCodes.{coded_line};
 
     ghost Value = { List Line };
 

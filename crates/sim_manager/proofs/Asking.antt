@@ -2,10 +2,10 @@
 use Rattle.std.proofs.Common.{◌≡◌, ℕ, Option, Some, None, Bool, true, false, refl, ap}
 use Rattle.spec_client_go.specs.Commands.{Command}
 use Rattle.spec_api.specs.declared.kinds.Kind.{Kind}
-use Rattle.spec_sim_control_plane.specs.Managers.{Client, Manager, Action, Acted, act, act_in, carry_out, closed, delivery_of, is_for, is_take, look, ask_satisfied, read_live, expect, finish}
-use Rattle.spec_sim_control_plane.specs.NextSteps as steps
-use Rattle.spec_sim_control_plane.specs.NextSteps.{NextStep, next}
-use Rattle.spec_sim_control_plane.specs.Turns.{Turn}
+use Rattle.spec_sim.specs.Managers.{Client, Manager, Action, Acted, act, act_in, carry_out, closed, delivery_of, is_for, is_take, look, ask_satisfied, read_live, expect, finish}
+use Rattle.spec_sim.specs.NextSteps as steps
+use Rattle.spec_sim.specs.NextSteps.{NextStep, next}
+use Rattle.spec_sim.specs.Turns.{Turn}
 use Rattle.std.specs.Prelude.{slice_get, if◌then◌else◌}
 
 neither_asks : (b : Bool) (x y : Acted) → x.request ≡ None → y.request ≡ None → (if b then x else y).request ≡ None

@@ -9,11 +9,11 @@ use Rattle.spec_api.specs.History.{Write}
 use Rattle.spec_api.specs.ObjectRequests.{Request}
 use Rattle.spec_api.specs.Verbs.{write_of}
 use Rattle.spec_api.specs.Reached.{CanBeRead}
-use Rattle.spec_sim_control_plane.specs.Managers.{Client, Manager, Delivery, Acted, act, act_in, carry_out, closed, issue, issue_command, is_for}
-use Rattle.spec_sim_control_plane.specs.NextSteps as steps
-use Rattle.spec_sim_control_plane.specs.NextSteps.{NextStep, next}
-use Rattle.spec_sim_control_plane.specs.Outcomes.{Outcome}
-use Rattle.spec_sim_control_plane.specs.Turns.{Turn}
+use Rattle.spec_sim.specs.Managers.{Client, Manager, Delivery, Acted, act, act_in, carry_out, closed, issue, issue_command, is_for}
+use Rattle.spec_sim.specs.NextSteps as steps
+use Rattle.spec_sim.specs.NextSteps.{NextStep, next}
+use Rattle.spec_sim.specs.Outcomes.{Outcome}
+use Rattle.spec_sim.specs.Turns.{Turn}
 use Rattle.line_session.specs.SessionStates.{SessionState, accepted}
 use Rattle.reconcile_turn.specs.Seen.{command_issued}
 use Rattle.sim_manager.specs.Issuing.{Coming, coming}

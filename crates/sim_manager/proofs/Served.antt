@@ -8,8 +8,8 @@ use Rattle.spec_client_go.specs.Commands.{Command, create, update, update_status
 use Rattle.spec_api.specs.Verbs.{Outcome, answered, refused, write_of}
 use Rattle.meta.specs.Writes as writes
 use Rattle.meta.specs.declared.writes.Write.{Write}
-use Rattle.spec_sim_control_plane.specs.Managers.{answer_of}
-use Rattle.spec_sim_control_plane.specs.Turns.{accepted}
+use Rattle.spec_sim.specs.Managers.{answer_of}
+use Rattle.spec_sim.specs.Turns.{accepted}
 use Rattle.reply.specs.declared.reply.Reply.{Reply}
 use Rattle.reconcile_turn.specs.Seen.{data_of}
 

@@ -3,8 +3,8 @@ use Rattle.std.specs.Prelude.{List, refl}
 use Rattle.std.specs.Coded.{Coded, code_by, coded×, coded_list}
 use Rattle.spec_client_go.specs.Boards.{Board}
 use Rattle.work_board.specs.Seen.{board_code}
-use Rattle.spec_sim_control_plane.specs.Codes.{coded_issued}
-use Rattle.spec_sim_control_plane.specs.Managers.{Issued, Manager}
+use Rattle.spec_sim.specs.ControlPlaneCodes.{coded_issued}
+use Rattle.spec_sim.specs.Managers.{Issued, Manager}
 use Rattle.sim_worker_slots.specs.Codes.{coded_slots}
 use Rattle.sim_worker_slots.specs.Slots.{Slots}
 

@@ -4,9 +4,9 @@ use Rattle.std.specs.Arc.{arc_value}
 use Rattle.spec_api.specs.History.{Write}
 use Rattle.spec_client_go.specs.Commands.{Command}
 use Rattle.meta.specs.Writes.{write_of}
-use Rattle.spec_sim_control_plane.specs.Managers.{Delivery, Issued, learnt, reaching, requested}
-use Rattle.spec_sim_control_plane.specs.Outcomes as outcomes
-use Rattle.spec_sim_control_plane.specs.Turns.{Turn, with_issue}
+use Rattle.spec_sim.specs.Managers.{Delivery, Issued, learnt, reaching, requested}
+use Rattle.spec_sim.specs.Outcomes as outcomes
+use Rattle.spec_sim.specs.Turns.{Turn, with_issue}
 use Rattle.line_session.specs.SessionStates.{SessionState, accepted}
 use Rattle.sim_manager.specs.Outcomes.{outcome_of}
 use Rattle.sim_manager.specs.Reached.{write_reaching}

@@ -2,8 +2,8 @@
 use Rattle.std.specs.Prelude.{ℕ, option_map, string_bytes}
 use Rattle.std.specs.Arc.{arc_value}
 use Rattle.object_keys.specs.Keys.{key_of}
-use Rattle.spec_sim_control_plane.specs.Managers as managers
-use Rattle.spec_sim_control_plane.specs.Outcomes as outcomes
+use Rattle.spec_sim.specs.Managers as managers
+use Rattle.spec_sim.specs.Outcomes as outcomes
 use Rattle.work_keys.specs.WorkKeys.{work_key_of}
 use Rattle.sim_worker_slots.specs.Seen.{issued_of}
 use Rattle.sim_manager.specs.declared.outcomes.WorkOutcome.{WorkOutcome}

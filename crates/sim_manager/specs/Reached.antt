@@ -4,9 +4,9 @@ use Rattle.spec_api.specs.History.{Write, found}
 use Rattle.spec_api.specs.ObjectRequests.{Request}
 use Rattle.spec_api.specs.Reached.{CanBeRead}
 use Rattle.spec_api.specs.Verbs.{write_of}
-use Rattle.spec_sim_control_plane.specs.Managers.{Client, Manager, Action, Delivery, act, reaching, requested}
-use Rattle.spec_sim_control_plane.specs.NextSteps.{next}
-use Rattle.spec_sim_control_plane.specs.Turns.{Turn}
+use Rattle.spec_sim.specs.Managers.{Client, Manager, Action, Delivery, act, reaching, requested}
+use Rattle.spec_sim.specs.NextSteps.{next}
+use Rattle.spec_sim.specs.Turns.{Turn}
 use Rattle.reconcile_turn.specs.Seen.{command_issued}
 use Rattle.line_session.specs.SessionStates.{SessionState, accepted}
 use Rattle.sim_cluster.specs.Requested.{have_all_listed, written}

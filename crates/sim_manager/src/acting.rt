@@ -10,8 +10,8 @@ use std::alloc::{AllocError, Global};
 
 impl Manager {
     ghost use Rattle.std.specs.Prelude.{◌≡◌, IfOk, OnOk, OnErr};
-    ghost use Rattle.spec_sim_control_plane.specs.Managers as managers;
-    ghost use Rattle.spec_sim_control_plane.specs.Managers.{act};
+    ghost use Rattle.spec_sim.specs.Managers as managers;
+    ghost use Rattle.spec_sim.specs.Managers.{act};
     ghost use Rattle.sim_steps.specs.Actions.{action_of};
     ghost use Rattle.sim_manager.specs.Outcomes.{outcome_of};
     ghost use Rattle.sim_manager.specs.Reached.{client_of, after_request, CanBeAsked};

@@ -19,7 +19,7 @@ pub struct Manager {
 impl Model for Manager {
     ghost use Rattle.std.specs.Prelude.{map};
     ghost use Rattle.std.specs.Arc.{arc_value};
-    ghost use Rattle.spec_sim_control_plane.specs.Managers as managers;
+    ghost use Rattle.spec_sim.specs.Managers as managers;
     ghost use Rattle.sim_manager.specs.Codes.{coded_manager};
     ghost use Rattle.sim_worker_slots.specs.Seen.{issued_of};
 
@@ -35,7 +35,7 @@ impl Manager {
     ghost use Rattle.std.specs.Arc.{arc_value};
     ghost use Rattle.spec_client_go.specs.Boards.{observed, ticked};
     ghost use Rattle.work_board.specs.Seen.{observation_of};
-    ghost use Rattle.spec_sim_control_plane.specs.Managers.{begun, restarted};
+    ghost use Rattle.spec_sim.specs.Managers.{begun, restarted};
     ghost use Rattle.sim_worker_slots.specs.Seen.{issued_of};
     ghost use Rattle.sim_manager.specs.Told.{told_of_tick};
     ghost use Rattle.sim_manager.specs.Outcomes.{outcome_of};

@@ -38,8 +38,8 @@ fn version_in(object: &Option<Object>) -> Option<&str>
 
 impl Manager {
     ghost use Rattle.std.specs.Prelude.{◌≡◌, IfOk, OnOk, OnErr};
-    ghost use Rattle.spec_sim_control_plane.specs.Managers as managers;
-    ghost use Rattle.spec_sim_control_plane.specs.Managers.{act};
+    ghost use Rattle.spec_sim.specs.Managers as managers;
+    ghost use Rattle.spec_sim.specs.Managers.{act};
     ghost use Rattle.sim_manager.specs.Outcomes.{outcome_of};
     ghost use Rattle.sim_manager.specs.Reached.{client_of};
 

@@ -1,6 +1,6 @@
 //! Outcomes with the lines by which they are told.
 ghost use Rattle.std.specs.Prelude.{◌≡◌, IfOk, option_map, string_bytes};
-ghost use Rattle.spec_sim_control_plane.specs.OutcomeTexts.{outcome_text};
+ghost use Rattle.spec_sim.specs.ControlPlaneOutcomeTexts.{outcome_text};
 ghost use Rattle.work_keys.specs.WorkKeys.{work_key_of};
 ghost use Rattle.sim_manager.specs.Outcomes.{outcome_of};
 

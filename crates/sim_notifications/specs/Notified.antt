@@ -2,7 +2,7 @@
 use Rattle.std.specs.Prelude.{Bool, true, false}
 use Rattle.spec_client_go.specs.Reflectors.{Delta, replace, put, remove, mark}
 use Rattle.indexer.specs.Shifted.{shift_of}
-use Rattle.spec_sim_cluster.specs.Followers as followers
+use Rattle.spec_sim.specs.Followers as followers
 use Rattle.sim_notifications.specs.declared.notifications.Notification.{Notification}
 
 abbrev pub notification_of : Notification → followers.Notification

@@ -4,7 +4,7 @@ ghost use Rattle.spec_client_go.specs.Informers.{all_applied, applied};
 ghost use Rattle.spec_client_go.specs.Shifts.{shifts_of};
 ghost use Rattle.indexer.specs.Shifted.{shift_of};
 ghost use Rattle.reflector.specs.Deltas.{delta_of, deltas_of};
-ghost use Rattle.spec_sim_cluster.specs.Followers.{notifications, notified};
+ghost use Rattle.spec_sim.specs.Followers.{notifications, notified};
 ghost use Rattle.sim_notifications.specs.Notified.{is_replace, notification_of};
 
 use indexer::{Indexed, Shift};

@@ -1,7 +1,7 @@
 //! The lines by which outcomes are told, written into memory that was made ready before the step.
 ghost use Rattle.std.specs.Prelude.{◌≡◌, codes, ◌++◌, ◌∷◌, ◌+◌, ◌≤◌, [], IfOk, length, decimal, vec_len, vec_capacity};
 ghost use Rattle.spec_api.specs.Kinds.{plural};
-ghost use Rattle.spec_sim_cluster.specs.OutcomeTexts.{outcome_text, end_words, words_line};
+ghost use Rattle.spec_sim.specs.OutcomeTexts.{outcome_text, end_words, words_line};
 ghost use Rattle.sim_followers.specs.Outcomes.{outcome_of};
 ghost use Rattle.sim_outcome_lines.specs.Texts.{after_words};
 ghost use Rattle.sim_outcome_lines.specs.Ready.{IsReady};

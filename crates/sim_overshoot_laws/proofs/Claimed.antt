@@ -16,8 +16,8 @@ use Rattle.spec_client_go.specs.Commands.{Command, create, update, update_status
 use Rattle.spec_client_go.specs.Expectations.{Owner}
 use Rattle.spec_client_go.specs.OwnerReferences.{is_text}
 use Rattle.spec_reconcile.specs.PodClaims.{have_one_uid}
-use Rattle.spec_sim_control_plane.specs.PodObservations.{is_same_pod}
-use Rattle.spec_sim_control_plane.specs.Turns.{is_pod}
+use Rattle.spec_sim.specs.PodObservations.{is_same_pod}
+use Rattle.spec_sim.specs.Turns.{is_pod}
 use Rattle.sim_overshoot_laws.specs.Overshoot.{each_of_pods, keeps_claims, have_same_labels}
 use Rattle.sim_overshoot_laws.specs.Reserves.{is_controlled, born_after, born}
 use Rattle.sim_overshoot_laws.specs.ShowLaws.{IsClaimed}

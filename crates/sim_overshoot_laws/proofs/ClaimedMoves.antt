@@ -18,18 +18,18 @@ use Rattle.spec_client_go.specs.WorkQueues.{handed}
 use Rattle.spec_server.specs.Snapshots.{Snapshot}
 use Rattle.spec_laws.specs.SentLaws.{whole}
 use Rattle.reflector.specs.Laws.{IsAtStart}
-use Rattle.spec_sim_cluster.specs.declared.initial_syncs.InitialSync.{InitialSync}
-use Rattle.spec_sim_cluster.specs.declared.initial_syncs.InitialSync.TheVariants as sync
-use Rattle.spec_sim_cluster.specs.Clusters.{Cluster, history, follower, with_follower, request, compact, moves, restart}
-use Rattle.spec_sim_cluster.specs.Followers.{Link, Follower, Notification, begun, streaming_at, after_list, after_open, after_expiry, after_bytes, after_cut}
-use Rattle.spec_sim_cluster.specs.Moves.{Move, answers_after, left_open, listed_of, with_link, move, move_by}
+use Rattle.spec_sim.specs.declared.initial_syncs.InitialSync.{InitialSync}
+use Rattle.spec_sim.specs.declared.initial_syncs.InitialSync.TheVariants as sync
+use Rattle.spec_sim.specs.Clusters.{Cluster, history, follower, with_follower, request, compact, moves, restart}
+use Rattle.spec_sim.specs.Followers.{Link, Follower, Notification, begun, streaming_at, after_list, after_open, after_expiry, after_bytes, after_cut}
+use Rattle.spec_sim.specs.Moves.{Move, answers_after, left_open, listed_of, with_link, move, move_by}
 use Rattle.sim_cluster_laws.specs.ClusterLaws.{IsFollowed}
 use Rattle.sim_cluster_laws.specs.FollowerLaws.{IsLinked, IsFollowing}
 use Rattle.sim_cluster_laws.specs.LeadLaws.{Leads, IsLed}
-use Rattle.spec_sim_control_plane.specs.ControlPlanes.{ControlPlane, Step, in_cluster, handle, works, tick, client, after_request, handle_in, step_in, step}
-use Rattle.spec_sim_control_plane.specs.Managers.{Manager, Acted, Action, take_key, carry_out, act}
-use Rattle.spec_sim_control_plane.specs.NextSteps.{next}
-use Rattle.spec_sim_control_plane.specs.Turns.{Turn}
+use Rattle.spec_sim.specs.ControlPlanes.{ControlPlane, Step, in_cluster, handle, works, tick, client, after_request, handle_in, step_in, step}
+use Rattle.spec_sim.specs.Managers.{Manager, Acted, Action, take_key, carry_out, act}
+use Rattle.spec_sim.specs.NextSteps.{next}
+use Rattle.spec_sim.specs.Turns.{Turn}
 use Rattle.sim_worker_laws.proofs.Acting.{by_act}
 use Rattle.sim_worker_laws.proofs.Counting.{by_counted, by_tick}
 use Rattle.sim_overshoot_laws.specs.Reserves.{born_after}

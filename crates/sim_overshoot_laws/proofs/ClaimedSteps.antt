@@ -16,12 +16,12 @@ use Rattle.spec_client_go.specs.Commands.{Command}
 use Rattle.spec_client_go.specs.Expectations.{Owner}
 use Rattle.spec_client_go.specs.Reflectors.{Reflector, Delta, replace}
 use Rattle.spec_client_go.specs.WorkQueues.{WorkKey, handed}
-use Rattle.spec_sim_cluster.specs.Clusters.{Cluster, history}
-use Rattle.spec_sim_cluster.specs.Followers.{Link, Follower}
-use Rattle.spec_sim_control_plane.specs.ControlPlanes.{ControlPlane, Step, in_cluster, handle, works, tick, client, after_request, step_in, step}
-use Rattle.spec_sim_control_plane.specs.Managers.{Acted, Action, Delivery, delivered, answer_lost, dropped, requested, take_key, carry_out, act}
-use Rattle.spec_sim_control_plane.specs.NextSteps.{NextStep, next, look, ask_satisfied, read, expect, issue, finish}
-use Rattle.spec_sim_control_plane.specs.Turns.{Turn, hand, commands, version_answered}
+use Rattle.spec_sim.specs.Clusters.{Cluster, history}
+use Rattle.spec_sim.specs.Followers.{Link, Follower}
+use Rattle.spec_sim.specs.ControlPlanes.{ControlPlane, Step, in_cluster, handle, works, tick, client, after_request, step_in, step}
+use Rattle.spec_sim.specs.Managers.{Acted, Action, Delivery, delivered, answer_lost, dropped, requested, take_key, carry_out, act}
+use Rattle.spec_sim.specs.NextSteps.{NextStep, next, look, ask_satisfied, read, expect, issue, finish}
+use Rattle.spec_sim.specs.Turns.{Turn, hand, commands, version_answered}
 use Rattle.sim_worker_laws.proofs.Acting.{by_act}
 use Rattle.sim_worker_laws.proofs.Counting.{by_counted}
 use Rattle.sim_worker_laws.proofs.Growing.{step_begins}

@@ -14,13 +14,13 @@ use Rattle.spec_client_go.specs.Informers.{applied, all_applied}
 use Rattle.spec_client_go.specs.Reflectors.{Delta, replace}
 use Rattle.spec_client_go.specs.Shifts.{Shift, shifts_of, all_shifts}
 use Rattle.spec_server.specs.Snapshots.{Snapshot}
-use Rattle.spec_sim_cluster.specs.declared.initial_syncs.InitialSync.{InitialSync}
-use Rattle.spec_sim_cluster.specs.Clusters.{Cluster, history, with_follower}
-use Rattle.spec_sim_cluster.specs.Followers.{Notification, notified, notifications, after_publishing}
+use Rattle.spec_sim.specs.declared.initial_syncs.InitialSync.{InitialSync}
+use Rattle.spec_sim.specs.Clusters.{Cluster, history, with_follower}
+use Rattle.spec_sim.specs.Followers.{Notification, notified, notifications, after_publishing}
 use Rattle.sim_cluster_laws.specs.LeadLaws.{Leads}
-use Rattle.spec_sim_control_plane.specs.ControlPlanes.{ControlPlane, Step, opened, step, run}
-use Rattle.spec_sim_control_plane.specs.Managers.{Manager}
-use Rattle.spec_sim_control_plane.specs.Turns.{Turn}
+use Rattle.spec_sim.specs.ControlPlanes.{ControlPlane, Step, opened, step, run}
+use Rattle.spec_sim.specs.Managers.{Manager}
+use Rattle.spec_sim.specs.Turns.{Turn}
 use Rattle.sim_control_plane_laws.proofs.PlaneRuns.{followed, run_append}
 use Rattle.sim_overshoot_laws.specs.ClaimLaws.{LetAloneIsClaimed, LetAloneIsFair}
 use Rattle.sim_overshoot_laws.specs.Overshoot.{LetAlone}

@@ -34,7 +34,7 @@ use Rattle.spec_laws.proofs.Removals.{member-updated, member-restated, at_held}
 use Rattle.spec_laws.proofs.VerbLaws.{found-state, none_from, of_none}
 use Rattle.spec_client_go.specs.Boards.{creation_observed}
 use Rattle.spec_client_go.specs.Expectations.{Owner}
-use Rattle.spec_sim_control_plane.specs.PodObservations.{set_named, sets_of, creation}
+use Rattle.spec_sim.specs.PodObservations.{set_named, sets_of, creation}
 use Rattle.sim_overshoot_laws.specs.Reserves.{is_set, is_controlled, shown as shows}
 use Rattle.sim_overshoot_laws.specs.ClaimLaws.{StoredHaveOneController}
 use Rattle.sim_overshoot_laws.proofs.StoredParts.{member-created, member-marked}

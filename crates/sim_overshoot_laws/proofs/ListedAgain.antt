@@ -14,8 +14,8 @@ use Rattle.spec_client_go.specs.Expectations.{Owner}
 use Rattle.spec_client_go.specs.OwedKeys.{one_of}
 use Rattle.spec_client_go.specs.Shifts.{Shift, overlaid, shift_at, is_change, shifts_between}
 use Rattle.spec_client_go.proofs.WorkKeyOrder.{name_tells}
-use Rattle.spec_sim_control_plane.specs.PodObservations.{observations_by, observations_of_pod, sets_of, deletion}
-use Rattle.spec_sim_cluster.specs.Followers.{notified}
+use Rattle.spec_sim.specs.PodObservations.{observations_by, observations_of_pod, sets_of, deletion}
+use Rattle.spec_sim.specs.Followers.{notified}
 use Rattle.sim_overshoot_laws.specs.Reserves.{shown, to_be_seen}
 use Rattle.sim_overshoot_laws.specs.StockLaws.{stock, of_one, shown_at, ListsShowWhatIsNew}
 use Rattle.sim_overshoot_laws.proofs.Stocks.{stock_after}

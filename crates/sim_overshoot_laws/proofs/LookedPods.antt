@@ -8,10 +8,10 @@ use Rattle.spec_api.specs.declared.kinds.Kind.TheVariants.{ConfigMap, Pod, Repli
 use Rattle.spec_api.specs.History.{History, Entries, up_to, state, entries_at, found, list, unfiltered, in_view}
 use Rattle.spec_api.specs.Keys.{Key}
 use Rattle.spec_server.specs.Snapshots.{Snapshot}
-use Rattle.spec_sim_cluster.specs.declared.initial_syncs.InitialSync.{InitialSync}
-use Rattle.spec_sim_cluster.specs.Clusters.{history, follower}
-use Rattle.spec_sim_control_plane.specs.ControlPlanes.{ControlPlane, Step, opened, run}
-use Rattle.spec_sim_control_plane.specs.Turns.{Turn, Sight, looked, satisfied, shown, hand, is_pod}
+use Rattle.spec_sim.specs.declared.initial_syncs.InitialSync.{InitialSync}
+use Rattle.spec_sim.specs.Clusters.{history, follower}
+use Rattle.spec_sim.specs.ControlPlanes.{ControlPlane, Step, opened, run}
+use Rattle.spec_sim.specs.Turns.{Turn, Sight, looked, satisfied, shown, hand, is_pod}
 use Rattle.sim_worker_laws.specs.IssuedLaws.{IsSeen}
 use Rattle.sim_worker_laws.specs.LookLaws.{WasPublishedSince}
 use Rattle.sim_worker_laws.proofs.Lists.{all_map}

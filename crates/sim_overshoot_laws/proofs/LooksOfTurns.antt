@@ -11,16 +11,16 @@ use Rattle.spec_api.specs.Keys.{Key, key_cmp, is_same_key}
 use Rattle.spec_api.specs.Kinds.{rank}
 use Rattle.spec_laws.proofs.SentChanges.{same_kind}
 use Rattle.spec_reconcile.specs.ReplicaSets.{set_looked_at}
-use Rattle.spec_sim_control_plane.specs.ControlPlanes.{Step, opened, run}
-use Rattle.spec_sim_control_plane.specs.Turns.{Turn, Sight, looked, satisfied, shown, hand}
+use Rattle.spec_sim.specs.ControlPlanes.{Step, opened, run}
+use Rattle.spec_sim.specs.Turns.{Turn, Sight, looked, satisfied, shown, hand}
 use Rattle.sim_worker_laws.specs.IssuedLaws.{IsSeen}
 use Rattle.sim_worker_laws.specs.LookLaws.{WasPublishedSince}
 use Rattle.sim_worker_laws.proofs.Lists.{all_map}
 use Rattle.sim_worker_laws.proofs.LookRuns.{under_way}
 use Rattle.sim_control_plane_laws.specs.PlaneLaws.{IsServerList}
 use Rattle.sim_control_plane_laws.proofs.PlaneRuns.{look_listed}
-use Rattle.spec_sim_cluster.specs.declared.initial_syncs.InitialSync.{InitialSync}
-use Rattle.spec_sim_cluster.specs.Clusters.{history}
+use Rattle.spec_sim.specs.declared.initial_syncs.InitialSync.{InitialSync}
+use Rattle.spec_sim.specs.Clusters.{history}
 use Rattle.sim_overshoot_laws.proofs.Bounding.{lists_show, shows_there}
 use Rattle.sim_overshoot_laws.proofs.LookedPods.{list_standing}
 use Rattle.sim_overshoot_laws.proofs.PodWrites.{WasPod}

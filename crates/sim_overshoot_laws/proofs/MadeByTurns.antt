@@ -26,11 +26,11 @@ use Rattle.spec_laws.proofs.VerbLaws.{found-state, none_from, of_none, present-w
 use Rattle.spec_reconcile.specs.NewPods.{new_pod}
 use Rattle.spec_reconcile.specs.PodClaims.{released, adopted}
 use Rattle.spec_reconcile.specs.ReplicaSets.{set_looked_at}
-use Rattle.spec_sim_cluster.specs.Clusters.{Cluster, history}
-use Rattle.spec_sim_control_plane.specs.ControlPlanes.{ControlPlane, works, client, after_request, step, step_in}
-use Rattle.spec_sim_control_plane.specs.Managers.{Manager, Acted, Action, Delivery, delivered, answer_lost, dropped, requested, carry_out}
-use Rattle.spec_sim_control_plane.specs.NextSteps.{NextStep, next, look, ask_satisfied, read, expect, issue, finish}
-use Rattle.spec_sim_control_plane.specs.Turns.{Turn, hand, left, owner_by, version_answered}
+use Rattle.spec_sim.specs.Clusters.{Cluster, history}
+use Rattle.spec_sim.specs.ControlPlanes.{ControlPlane, works, client, after_request, step, step_in}
+use Rattle.spec_sim.specs.Managers.{Manager, Acted, Action, Delivery, delivered, answer_lost, dropped, requested, carry_out}
+use Rattle.spec_sim.specs.NextSteps.{NextStep, next, look, ask_satisfied, read, expect, issue, finish}
+use Rattle.spec_sim.specs.Turns.{Turn, hand, left, owner_by, version_answered}
 use Rattle.sim_worker_laws.specs.IssuedLaws.{IsSeen}
 use Rattle.sim_worker_laws.proofs.Acting.{by_act}
 use Rattle.sim_worker_laws.proofs.Counting.{by_counted}

@@ -19,11 +19,11 @@ use Rattle.spec_laws.proofs.Traced.{traced}
 use Rattle.spec_reconcile.specs.PodClaims.{have_one_uid}
 use Rattle.spec_reconcile.specs.Pods.{is_active, matches}
 use Rattle.spec_reconcile.specs.ReplicaSets.{set_looked_at}
-use Rattle.spec_sim_cluster.specs.declared.initial_syncs.InitialSync.{InitialSync}
-use Rattle.spec_sim_cluster.specs.Clusters.{history}
-use Rattle.spec_sim_control_plane.specs.ControlPlanes.{ControlPlane, Step, in_cluster, handle, works, tick, opened, step, run}
-use Rattle.spec_sim_control_plane.specs.Managers.{Action}
-use Rattle.spec_sim_control_plane.specs.Turns.{Turn, begun, hand, owner_by, is_pod}
+use Rattle.spec_sim.specs.declared.initial_syncs.InitialSync.{InitialSync}
+use Rattle.spec_sim.specs.Clusters.{history}
+use Rattle.spec_sim.specs.ControlPlanes.{ControlPlane, Step, in_cluster, handle, works, tick, opened, step, run}
+use Rattle.spec_sim.specs.Managers.{Action}
+use Rattle.spec_sim.specs.Turns.{Turn, begun, hand, owner_by, is_pod}
 use Rattle.sim_worker_laws.specs.IssuedLaws.{IsSeen}
 use Rattle.sim_worker_laws.proofs.Growing.{present_grows, state_stands, step_begins}
 use Rattle.sim_control_plane_laws.specs.PlaneLaws.{IsServerList}

@@ -27,7 +27,7 @@ use Rattle.spec_reconcile.specs.MetadataEdits.{with_list}
 use Rattle.spec_reconcile.specs.PodClaims.{claim, claims, is_released, released, is_adoptable, adopted, may_adopt, own_pods}
 use Rattle.spec_reconcile.specs.PodRanks.{missing, victims}
 use Rattle.spec_reconcile.specs.ReplicaSets.{set_looked_at, pods_looked_at, replicas, status, with_status, delete_pod, scale, scale_if, report, new_status, plan_with, plan_of}
-use Rattle.spec_sim_control_plane.specs.Turns.{Turn, begun, hand, plan_by, left as still_left}
+use Rattle.spec_sim.specs.Turns.{Turn, begun, hand, plan_by, left as still_left}
 use Rattle.sim_overshoot_laws.specs.Overshoot.{is_replica_sets}
 use Rattle.sim_overshoot_laws.proofs.LookedPods.{IsStanding}
 use Rattle.sim_overshoot_laws.proofs.StoredParts.{member-marked}

@@ -16,8 +16,8 @@ use Rattle.spec_client_go.specs.Expectations.{Owner}
 use Rattle.spec_client_go.specs.OwedKeys.{one_of}
 use Rattle.spec_client_go.specs.OwnerReferences.{is_text}
 use Rattle.spec_client_go.specs.Shifts.{shifts_between}
-use Rattle.spec_sim_cluster.specs.Followers.{notified}
-use Rattle.spec_sim_control_plane.specs.PodObservations.{observations_by, observations_of_pod, creation, deletion, is_same_pod, was_being_deleted}
+use Rattle.spec_sim.specs.Followers.{notified}
+use Rattle.spec_sim.specs.PodObservations.{observations_by, observations_of_pod, creation, deletion, is_same_pod, was_being_deleted}
 use Rattle.sim_overshoot_laws.specs.Reserves.{shown, to_be_seen, born}
 use Rattle.sim_overshoot_laws.specs.StockLaws.{stock, shown_at, new_at, RelistsShowBirths}
 use Rattle.sim_overshoot_laws.proofs.ListedAgain.{ascending, lists_show, no_creation, shown-append}

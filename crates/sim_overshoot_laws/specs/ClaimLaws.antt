@@ -7,9 +7,9 @@ use Rattle.spec_api.specs.Keys.{Key}
 use Rattle.spec_api.specs.Metadata.{owners}
 use Rattle.spec_api.specs.Reached.{IsReached}
 use Rattle.spec_client_go.specs.Expectations.{Owner}
-use Rattle.spec_sim_cluster.specs.declared.initial_syncs.InitialSync.{InitialSync}
-use Rattle.spec_sim_cluster.specs.Clusters.{history}
-use Rattle.spec_sim_control_plane.specs.ControlPlanes.{Step, opened, run}
+use Rattle.spec_sim.specs.declared.initial_syncs.InitialSync.{InitialSync}
+use Rattle.spec_sim.specs.Clusters.{history}
+use Rattle.spec_sim.specs.ControlPlanes.{Step, opened, run}
 use Rattle.sim_overshoot_laws.specs.Overshoot.{LetAlone}
 use Rattle.sim_overshoot_laws.specs.ShowLaws.{AreClaimedSince}
 use Rattle.sim_overshoot_laws.specs.StepLaws.{AreFair}

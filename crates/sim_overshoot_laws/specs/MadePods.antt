@@ -7,9 +7,9 @@ use Rattle.spec_api.specs.Keys.{Key}
 use Rattle.spec_api.specs.Metadata.{uid}
 use Rattle.spec_client_go.specs.Expectations.{Owner}
 use Rattle.spec_reconcile.specs.Pods.{matches}
-use Rattle.spec_sim_control_plane.specs.ControlPlanes.{Step, opened, run}
-use Rattle.spec_sim_cluster.specs.declared.initial_syncs.InitialSync.{InitialSync}
-use Rattle.spec_sim_cluster.specs.Clusters.{history}
+use Rattle.spec_sim.specs.ControlPlanes.{Step, opened, run}
+use Rattle.spec_sim.specs.declared.initial_syncs.InitialSync.{InitialSync}
+use Rattle.spec_sim.specs.Clusters.{history}
 use Rattle.sim_overshoot_laws.specs.BoundRuns.{AllAreKept}
 use Rattle.sim_overshoot_laws.specs.KeptPods.{is_among}
 use Rattle.sim_overshoot_laws.specs.Overshoot.{made, LetAlone}

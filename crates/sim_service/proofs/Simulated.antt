@@ -4,10 +4,10 @@ use Rattle.line_service.specs.Replies as service
 use Rattle.line_service.proofs.Alongside.{all-run, some-run}
 use Rattle.line_service.specs.Replies.{replies, none_refused, reply_or_refusal, next_or_same}
 use Rattle.line_service.specs.declared.fault.RunFault.{RunFault}
-use Rattle.spec_sim_control_plane.specs.ControlPlanes as planes
-use Rattle.spec_sim_control_plane.specs.ControlPlanes.{ControlPlane, Step}
-use Rattle.spec_sim_control_plane.specs.OutcomeTexts.{outcome_text}
-use Rattle.spec_sim_control_plane.specs.StepLines.{opened_with}
+use Rattle.spec_sim.specs.ControlPlanes as planes
+use Rattle.spec_sim.specs.ControlPlanes.{ControlPlane, Step}
+use Rattle.spec_sim.specs.ControlPlaneOutcomeTexts.{outcome_text}
+use Rattle.spec_sim.specs.ControlPlaneStepLines.{opened_with}
 use Rattle.sim_step_lines.proofs.Following as following
 use Rattle.sim_step_lines.proofs.Simulated.{simulated}
 use Rattle.sim_step_lines.specs.Planes.{plane_after, told_by_plane, reply_by_plane, next_plane}

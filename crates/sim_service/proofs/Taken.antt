@@ -1,9 +1,9 @@
 -- What is told of a step that a line asks for, and the world after it.
 use Rattle.std.proofs.Common.{◌≡◌, ℕ, List, Vec, Global, Result, Ok, Err, IfOk, OnOk, OnErr, false, true, ap, ◌∙◌}
 use Rattle.std.specs.Result.{IsErr}
-use Rattle.spec_sim_control_plane.specs.ControlPlanes.{Step}
-use Rattle.spec_sim_control_plane.specs.Outcomes.{Outcome}
-use Rattle.spec_sim_control_plane.specs.OutcomeTexts.{outcome_text}
+use Rattle.spec_sim.specs.ControlPlanes.{Step}
+use Rattle.spec_sim.specs.Outcomes.{Outcome}
+use Rattle.spec_sim.specs.ControlPlaneOutcomeTexts.{outcome_text}
 use Rattle.sim_service.specs.SimulationStates.{told_by_stored, stored_after}
 use Rattle.world.specs.WorldStates.{WorldState, step}
 

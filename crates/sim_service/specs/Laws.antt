@@ -4,8 +4,8 @@ use Rattle.std.specs.Prelude.{◌≡◌, ℕ, List, Option, None}
 use Rattle.line_service.specs.Replies as service
 use Rattle.line_service.specs.Replies.{lines_of, replies, none_refused, reply_or_refusal, next_or_same}
 use Rattle.line_service.specs.declared.fault.RunFault.{RunFault}
-use Rattle.spec_sim_control_plane.specs.ControlPlanes.{ControlPlane}
-use Rattle.spec_sim_control_plane.specs.StepLines.{simulate}
+use Rattle.spec_sim.specs.ControlPlanes.{ControlPlane}
+use Rattle.spec_sim.specs.ControlPlaneStepLines.{simulate}
 use Rattle.sim_step_lines.specs.Lines.{FollowsBy}
 use Rattle.sim_step_lines.specs.Planes.{reply_by_plane, next_plane}
 use Rattle.sim_service.specs.Refusals.{refusal}

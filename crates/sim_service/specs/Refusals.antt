@@ -1,10 +1,10 @@
 -- What a line is told for which there was no memory.
 use Rattle.std.specs.Prelude.{ℕ, List, Option, Some, None, is_some, if◌then◌else◌}
 use Rattle.line_replies.specs.Shown.{no_memory_line}
-use Rattle.spec_sim_cluster.specs.Clusters.{ClusterStep, request, compact, moves, restart}
-use Rattle.spec_sim_cluster.specs.StepLines.{config_of_line}
-use Rattle.spec_sim_control_plane.specs.ControlPlanes.{Step, in_cluster, handle, works, tick}
-use Rattle.spec_sim_control_plane.specs.StepLines.{step_asked}
+use Rattle.spec_sim.specs.Clusters.{ClusterStep, request, compact, moves, restart}
+use Rattle.spec_sim.specs.StepLines.{config_of_line}
+use Rattle.spec_sim.specs.ControlPlanes.{Step, in_cluster, handle, works, tick}
+use Rattle.spec_sim.specs.ControlPlaneStepLines.{step_asked}
 
 -- a request is answered that there was none
 abbrev pub of_cluster_step : ClusterStep → Option (List ℕ)

@@ -1,9 +1,9 @@
 -- What a simulation answers and how it goes on, as it is stored.
 use Rattle.std.specs.Prelude.{ℕ, List, Option}
 use Rattle.std.specs.Coded.{Coded, coded_option}
-use Rattle.spec_sim_cluster.specs.StepLines.{Config}
-use Rattle.spec_sim_control_plane.specs.ControlPlanes.{Step}
-use Rattle.spec_sim_control_plane.specs.OutcomeTexts.{outcome_text}
+use Rattle.spec_sim.specs.StepLines.{Config}
+use Rattle.spec_sim.specs.ControlPlanes.{Step}
+use Rattle.spec_sim.specs.ControlPlaneOutcomeTexts.{outcome_text}
 use Rattle.sim_step_lines.specs.Lines as lines
 use Rattle.world.specs.WorldStates as stored
 use Rattle.world.specs.WorldStates.{WorldState, coded_world}

@@ -1,11 +1,11 @@
 //! A simulated control plane that answers lines.
 ghost use Rattle.std.specs.Prelude.{◌≡◌, IfOk, OnOk, OnErr, None, option_map};
-ghost use Rattle.spec_sim_control_plane.specs.StepLines.{step_asked};
+ghost use Rattle.spec_sim.specs.ControlPlaneStepLines.{step_asked};
 ghost use Rattle.sim_outcome_lines.specs.Ready.{IsReady};
 ghost use Rattle.sim_service.specs.Refusals.{of_step};
 ghost use Rattle.sim_steps.specs.PlaneSteps.{plane_step_of};
 ghost use Rattle.sim_service.specs.SimulationStates.{told_by_stored, stored_after, first_text, first_stored};
-ghost use Rattle.spec_sim_control_plane.specs.OutcomeTexts.{outcome_text};
+ghost use Rattle.spec_sim.specs.ControlPlaneOutcomeTexts.{outcome_text};
 ghost use Rattle.world.specs.Outcomes.{outcome_of};
 
 use line_replies::no_memory_line;
@@ -82,7 +82,7 @@ impl Model for Simulation {
 impl Simulation {
     ghost use Rattle.std.specs.Prelude.{◌≡◌, IfOk, OnOk, OnErr, Some, None};
     ghost use Rattle.sim_service.specs.SimulationStates.{first_text, first_stored};
-    ghost use Rattle.spec_sim_cluster.specs.StepLines.{config_of_line};
+    ghost use Rattle.spec_sim.specs.StepLines.{config_of_line};
 
     /// Returns a simulation that has not begun.
     pub fn new() -> Simulation

@@ -1,9 +1,9 @@
 -- Two simulations of which one goes along with the other, line by line.
 use Rattle.std.proofs.Common.{◌≡◌, ℕ, List, [], ◌∷◌, false, ◌==◌, length, Option, Some, None, refl, arith}
 use Rattle.std.proofs.lemmas.Bool.Decides.{nat_tests}
-use Rattle.spec_sim_control_plane.specs.ControlPlanes.{Step}
-use Rattle.spec_sim_control_plane.specs.StepLines.{step_asked}
-use Rattle.spec_sim_cluster.specs.StepLines.{Config, default_config, config_of_line}
+use Rattle.spec_sim.specs.ControlPlanes.{Step}
+use Rattle.spec_sim.specs.ControlPlaneStepLines.{step_asked}
+use Rattle.spec_sim.specs.StepLines.{Config, default_config, config_of_line}
 use Rattle.sim_step_lines.specs.Lines.{reply, next, FollowsBy}
 
 pub not-empty : (x : ℕ) (t : List ℕ) → (length (x ∷ t) == 0) ≡ false

@@ -5,11 +5,11 @@ use Rattle.line_service.proofs.Splitting.{replies-split}
 use Rattle.line_service.specs.Replies as service
 use Rattle.line_service.specs.Replies.{replies}
 use Rattle.spec_line_protocol.specs.Lines as lines
-use Rattle.spec_sim_control_plane.specs.ControlPlanes as planes
-use Rattle.spec_sim_control_plane.specs.ControlPlanes.{ControlPlane}
-use Rattle.spec_sim_control_plane.specs.OutcomeTexts.{outcome_text}
-use Rattle.spec_sim_control_plane.specs.StepLines.{opened_with, step_asked, outcome_lines, run_from, simulate_lines, simulate}
-use Rattle.spec_sim_cluster.specs.StepLines.{Config, default_config, config_of_line}
+use Rattle.spec_sim.specs.ControlPlanes as planes
+use Rattle.spec_sim.specs.ControlPlanes.{ControlPlane}
+use Rattle.spec_sim.specs.ControlPlaneOutcomeTexts.{outcome_text}
+use Rattle.spec_sim.specs.ControlPlaneStepLines.{opened_with, step_asked, outcome_lines, run_from, simulate_lines, simulate}
+use Rattle.spec_sim.specs.StepLines.{Config, default_config, config_of_line}
 use Rattle.sim_step_lines.proofs.Following.{not-empty}
 use Rattle.sim_step_lines.specs.Planes.{reply_by_plane, next_plane}
 

@@ -2,9 +2,9 @@
 -- not empty nothing is there. A world may be as the definitions have it, or as it is stored: `opened` is one of these sizes, `after` what
 -- it is after a step, and `told` the text by which a step is told.
 use Rattle.std.specs.Prelude.{ℕ, ◌==◌, List, [], length, Option, Some, None, if◌then◌else◌}
-use Rattle.spec_sim_cluster.specs.StepLines.{Config, default_config, config_of_line}
-use Rattle.spec_sim_control_plane.specs.ControlPlanes.{Step}
-use Rattle.spec_sim_control_plane.specs.StepLines.{step_asked}
+use Rattle.spec_sim.specs.StepLines.{Config, default_config, config_of_line}
+use Rattle.spec_sim.specs.ControlPlanes.{Step}
+use Rattle.spec_sim.specs.ControlPlaneStepLines.{step_asked}
 
 module _ {W : Type 0} (opened : Config → W) (after : W → Step → W) (told : W → Step → List ℕ) where
   -- the first line may be a configuration, for which nothing is written

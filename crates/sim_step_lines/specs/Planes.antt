@@ -1,9 +1,9 @@
 -- What a simulation answers and how it goes on, as the definitions have it.
 use Rattle.std.specs.Prelude.{ℕ, List, Option}
-use Rattle.spec_sim_control_plane.specs.ControlPlanes as planes
-use Rattle.spec_sim_control_plane.specs.ControlPlanes.{ControlPlane, Step}
-use Rattle.spec_sim_control_plane.specs.OutcomeTexts.{outcome_text}
-use Rattle.spec_sim_control_plane.specs.StepLines.{opened_with}
+use Rattle.spec_sim.specs.ControlPlanes as planes
+use Rattle.spec_sim.specs.ControlPlanes.{ControlPlane, Step}
+use Rattle.spec_sim.specs.ControlPlaneOutcomeTexts.{outcome_text}
+use Rattle.spec_sim.specs.ControlPlaneStepLines.{opened_with}
 use Rattle.sim_step_lines.specs.Lines as lines
 
 abbrev pub plane_after : ControlPlane → Step → ControlPlane

@@ -1,6 +1,6 @@
 //! Steps that lines ask for.
 ghost use Rattle.std.specs.Prelude.{◌≡◌};
-ghost use Rattle.spec_sim_control_plane.specs.StepLines.{step_asked};
+ghost use Rattle.spec_sim.specs.ControlPlaneStepLines.{step_asked};
 ghost use Rattle.sim_steps.specs.PlaneSteps.{plane_step_of};
 
 use sim_steps::{PlaneStep, Step};

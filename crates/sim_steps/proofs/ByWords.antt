@@ -2,8 +2,8 @@
 use Rattle.std.proofs.Common.{◌≡◌, ◌==◌, ℕ, List, [], ◌∷◌, Bool, true, false, Option, Some, None, option_map, option_and_then, cond, if◌then◌else◌, refl, sym, ap, ◌∙◌}
 use Rattle.std.specs.List.{onto_first}
 use Rattle.spec_line_protocol.specs.Lines.{cut}
-use Rattle.spec_sim_control_plane.specs.StepLines.{step_in_words}
-use Rattle.spec_sim_cluster.specs.StepLines.{words, move_of, config_in}
+use Rattle.spec_sim.specs.ControlPlaneStepLines.{step_in_words}
+use Rattle.spec_sim.specs.StepLines.{words, move_of, config_in}
 use Rattle.sim_steps.specs.Words.{with_first, few_words, step_by_words}
 use Rattle.sim_steps.specs.PlaneSteps.{plane_step_by_words}
 

@@ -10,7 +10,7 @@ use Rattle.std.specs.Str.Parse.{digits_value, IsNumeral, without_leading_plus}
 use Rattle.spec_api.proofs.Truths.{both_true}
 use Rattle.spec_api.specs.Moments.{is_digit}
 use Rattle.spec_api.specs.Revisions.{revision_of}
-use Rattle.spec_sim_cluster.specs.StepLines.{number_of}
+use Rattle.spec_sim.specs.StepLines.{number_of}
 use Rattle.sim_steps.specs.Words.{is_number}
 
 -- ---- digits are text

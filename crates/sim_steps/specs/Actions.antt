@@ -1,5 +1,5 @@
 -- Workers' actions as code has them.
-use Rattle.spec_sim_control_plane.specs.Managers as managers
+use Rattle.spec_sim.specs.Managers as managers
 use Rattle.sim_steps.specs.declared.actions.Action.{Action}
 use Rattle.sim_steps.specs.declared.actions.Action.TheVariants.{Take, Look, AskSatisfied, ReadLive, Expect, Issue, Finish}
 use Rattle.sim_steps.specs.declared.actions.Delivery.{Delivery}

@@ -1,5 +1,5 @@
 -- Sizes as code has them.
-use Rattle.spec_sim_cluster.specs.StepLines as lines
+use Rattle.spec_sim.specs.StepLines as lines
 use Rattle.sim_steps.specs.declared.config.Config.{Config}
 
 abbrev pub config_seen : Config → lines.Config

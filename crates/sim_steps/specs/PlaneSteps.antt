@@ -1,7 +1,7 @@
 -- Steps of a control plane as code has them.
 use Rattle.std.specs.Prelude.{List, ℕ, Option, Some, None}
-use Rattle.spec_sim_control_plane.specs.ControlPlanes as planes
-use Rattle.spec_sim_control_plane.specs.StepLines.{action_with, step_named, works_as}
+use Rattle.spec_sim.specs.ControlPlanes as planes
+use Rattle.spec_sim.specs.ControlPlaneStepLines.{action_with, step_named, works_as}
 use Rattle.sim_steps.specs.Actions.{action_of}
 use Rattle.sim_steps.specs.Steps.{step_of}
 use Rattle.sim_steps.specs.declared.plane_steps.PlaneStep.{PlaneStep}

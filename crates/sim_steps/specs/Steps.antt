@@ -1,7 +1,7 @@
 -- Steps as code has them.
-use Rattle.spec_sim_cluster.specs.Clusters as clusters
-use Rattle.spec_sim_cluster.specs.Clusters.{ClusterStep}
-use Rattle.spec_sim_cluster.specs.Moves as moves
+use Rattle.spec_sim.specs.Clusters as clusters
+use Rattle.spec_sim.specs.Clusters.{ClusterStep}
+use Rattle.spec_sim.specs.Moves as moves
 use Rattle.sim_steps.specs.declared.moves.Move.{Move}
 use Rattle.sim_steps.specs.declared.moves.Move.TheVariants as code
 use Rattle.sim_steps.specs.declared.steps.Step.{Step}

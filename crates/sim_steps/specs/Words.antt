@@ -3,11 +3,11 @@ use Rattle.std.specs.Prelude.{ℕ, ◌&&◌, nat_lt, nat_le, List, [], ◌∷◌
 use Rattle.std.specs.Borrow.{Bor}
 use Rattle.std.specs.List.{list_all}
 use Rattle.spec_api.specs.Moments.{is_digit}
-use Rattle.spec_sim_cluster.specs.declared.initial_syncs.InitialSync.{InitialSync}
-use Rattle.spec_sim_cluster.specs.declared.initial_syncs.InitialSync.TheVariants as sync
-use Rattle.spec_sim_cluster.specs.StepLines.{kind_of, move_named, move_with, Config, initial_said, config_said}
-use Rattle.spec_sim_cluster.specs.Clusters.{ClusterStep, moves}
-use Rattle.spec_sim_cluster.specs.Moves.{Move}
+use Rattle.spec_sim.specs.declared.initial_syncs.InitialSync.{InitialSync}
+use Rattle.spec_sim.specs.declared.initial_syncs.InitialSync.TheVariants as sync
+use Rattle.spec_sim.specs.StepLines.{kind_of, move_named, move_with, Config, initial_said, config_said}
+use Rattle.spec_sim.specs.Clusters.{ClusterStep, moves}
+use Rattle.spec_sim.specs.Moves.{Move}
 use Rattle.sim_steps.specs.declared.words.Words.{Words}
 
 abbrev pub both_now : Bor (List ℕ) × Bor (List ℕ) → List ℕ × List ℕ

@@ -1,6 +1,6 @@
 //! What workers do.
 ghost use Rattle.std.specs.Prelude.{◌≡◌, option_map};
-ghost use Rattle.spec_sim_control_plane.specs.StepLines.{action_named, action_with, delivery_named};
+ghost use Rattle.spec_sim.specs.ControlPlaneStepLines.{action_named, action_with, delivery_named};
 ghost use Rattle.sim_steps.specs.Actions.{action_of, delivery_of};
 
 use crate::words::{is, kind};
@@ -52,8 +52,8 @@ impl Delivery {
 }
 
 impl Action {
-    ghost use Rattle.spec_sim_control_plane.specs.Managers.{look, issue};
-    ghost use Rattle.spec_sim_cluster.specs.StepLines.{kind_of};
+    ghost use Rattle.spec_sim.specs.Managers.{look, issue};
+    ghost use Rattle.spec_sim.specs.StepLines.{kind_of};
 
     /// Returns the action that a verb alone asks for.
     pub(crate) fn named(verb: &[u8]) -> Option<Action>

@@ -1,10 +1,10 @@
 //! The sizes of a simulation, and how its followers begin.
 ghost use Rattle.std.specs.Prelude.{◌≡◌, option_map};
-ghost use Rattle.spec_sim_cluster.specs.StepLines.{number_after, initial_said, initial_sync_of};
+ghost use Rattle.spec_sim.specs.StepLines.{number_after, initial_said, initial_sync_of};
 ghost use Rattle.sim_steps.specs.Words.{words_seen, initial_by, config_by};
 
 use crate::words::{Words, cut, is, number};
-use spec_sim_cluster::initial_syncs::InitialSync;
+use spec_sim::initial_syncs::InitialSync;
 
 /// The greatest window.
 const GREATEST_WINDOW: u64 = 65_536;
@@ -25,7 +25,7 @@ pub struct Config {
 
 impl Default for Config {
     ghost use Rattle.std.specs.Prelude.{◌≡◌};
-    ghost use Rattle.spec_sim_cluster.specs.StepLines.{default_config};
+    ghost use Rattle.spec_sim.specs.StepLines.{default_config};
     ghost use Rattle.sim_steps.specs.Configs.{config_seen};
 
     /// Returns what holds where nothing is said: windows of 1024 changes, 4 workers, and followers that begin with lists.
@@ -79,7 +79,7 @@ fn initial_by(word: Option<&[u8]>) -> Option<InitialSync>
 
 impl Config {
     ghost use Rattle.std.specs.Prelude.{◌≡◌, ◌∷◌, option_map, option_and_then};
-    ghost use Rattle.spec_sim_cluster.specs.StepLines.{words, config_within, config_in, config_of_line};
+    ghost use Rattle.spec_sim.specs.StepLines.{words, config_within, config_in, config_of_line};
     ghost use Rattle.sim_steps.specs.Configs.{config_seen};
     ghost use Rattle.sim_steps.specs.Words.{few_words};
 

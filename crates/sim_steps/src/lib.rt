@@ -13,5 +13,5 @@ pub use actions::{Action, Delivery};
 pub use config::Config;
 pub use moves::Move;
 pub use plane_steps::PlaneStep;
-pub use spec_sim_cluster::initial_syncs::InitialSync;
+pub use spec_sim::initial_syncs::InitialSync;
 pub use steps::Step;

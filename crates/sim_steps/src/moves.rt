@@ -27,7 +27,7 @@ pub enum Move {
 }
 
 impl Move {
-    ghost use Rattle.spec_sim_cluster.specs.StepLines.{move_named, send_of, deliver_of, move_with};
+    ghost use Rattle.spec_sim.specs.StepLines.{move_named, send_of, deliver_of, move_with};
     ghost use Rattle.sim_steps.specs.Steps.{move_of};
 
     /// Returns the move that a verb alone asks for.

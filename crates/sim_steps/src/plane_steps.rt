@@ -20,9 +20,9 @@ pub enum PlaneStep<'t> {
 }
 
 impl<'t> PlaneStep<'t> {
-    ghost use Rattle.spec_sim_control_plane.specs.ControlPlanes as planes;
-    ghost use Rattle.spec_sim_control_plane.specs.StepLines.{step_in_words, step_named, step_of_line, works_as};
-    ghost use Rattle.spec_sim_cluster.specs.StepLines.{kind_of, number_of, words};
+    ghost use Rattle.spec_sim.specs.ControlPlanes as planes;
+    ghost use Rattle.spec_sim.specs.ControlPlaneStepLines.{step_in_words, step_named, step_of_line, works_as};
+    ghost use Rattle.spec_sim.specs.StepLines.{kind_of, number_of, words};
     ghost use Rattle.sim_steps.specs.Actions.{action_of};
     ghost use Rattle.sim_steps.specs.PlaneSteps.{plane_step_of, plane_step_by_words};
     ghost use Rattle.sim_steps.specs.Words.{words_seen};

@@ -43,9 +43,9 @@ fn movement(words: &Words<'_>) -> Option<Move>
 }
 
 impl<'t> Step<'t> {
-    ghost use Rattle.spec_sim_cluster.specs.Clusters.{compact};
-    ghost use Rattle.spec_sim_cluster.specs.StepLines as lines;
-    ghost use Rattle.spec_sim_cluster.specs.StepLines.{words, step_from, step_of_line};
+    ghost use Rattle.spec_sim.specs.Clusters.{compact};
+    ghost use Rattle.spec_sim.specs.StepLines as lines;
+    ghost use Rattle.spec_sim.specs.StepLines.{words, step_from, step_of_line};
     ghost use Rattle.sim_steps.specs.Steps.{step_of};
 
     /// Returns the step that a revision asks for, which is compacted up to.

@@ -4,7 +4,7 @@ ghost use Rattle.std.specs.List.{list_all};
 ghost use Rattle.std.specs.Str.{bytes_eq};
 ghost use Rattle.spec_api.specs.Moments.{is_digit};
 ghost use Rattle.spec_line_protocol.specs.Lines.{cut};
-ghost use Rattle.spec_sim_cluster.specs.StepLines.{words, number_of, kind_of};
+ghost use Rattle.spec_sim.specs.StepLines.{words, number_of, kind_of};
 ghost use Rattle.sim_steps.specs.Words.{both_now, words_seen, with_first, few_words, is_number};
 
 use spec_api::kinds::Kind;

@@ -5,14 +5,14 @@ use Rattle.std.specs.Coded.{Coded, code_by, coded×, coded⊎, coded_ℕ, coded_
 use Rattle.spec_api.specs.contracts.kinds.Kind as kind
 use Rattle.spec_api.specs.declared.kinds.Kind.{Kind}
 use Rattle.model_encodings.specs.Codes.{coded_text}
-use Rattle.spec_sim_cluster.specs.contracts.initial_syncs.InitialSync as initial_sync
-use Rattle.spec_sim_cluster.specs.declared.initial_syncs.InitialSync.{InitialSync}
-use Rattle.spec_sim_cluster.specs.Clusters.{ClusterStep, request, compact, moves, restart}
-use Rattle.spec_sim_cluster.specs.Moves as move
-use Rattle.spec_sim_cluster.specs.Moves.{Move}
-use Rattle.spec_sim_control_plane.specs.ControlPlanes.{Step, in_cluster, handle, works, tick}
-use Rattle.spec_sim_control_plane.specs.Managers as action
-use Rattle.spec_sim_control_plane.specs.Managers.{Action, Delivery, delivered, answer_lost, dropped}
+use Rattle.spec_sim.specs.contracts.initial_syncs.InitialSync as initial_sync
+use Rattle.spec_sim.specs.declared.initial_syncs.InitialSync.{InitialSync}
+use Rattle.spec_sim.specs.Clusters.{ClusterStep, request, compact, moves, restart}
+use Rattle.spec_sim.specs.Moves as move
+use Rattle.spec_sim.specs.Moves.{Move}
+use Rattle.spec_sim.specs.ControlPlanes.{Step, in_cluster, handle, works, tick}
+use Rattle.spec_sim.specs.Managers as action
+use Rattle.spec_sim.specs.Managers.{Action, Delivery, delivered, answer_lost, dropped}
 use Rattle.sim_traces.specs.Taken.{Taken}
 
 -- ---- actions

@@ -1,7 +1,7 @@
 -- What was done since a control plane was opened.
 use Rattle.std.specs.Prelude.{ℕ, List, [], ◌∷◌, ◌++◌}
-use Rattle.spec_sim_cluster.specs.declared.initial_syncs.InitialSync.{InitialSync}
-use Rattle.spec_sim_control_plane.specs.ControlPlanes.{ControlPlane, Step, opened, run}
+use Rattle.spec_sim.specs.declared.initial_syncs.InitialSync.{InitialSync}
+use Rattle.spec_sim.specs.ControlPlanes.{ControlPlane, Step, opened, run}
 
 -- the size of the server's windows, the number of workers and how followers begin, as it was opened, and the steps that were taken since, the first
 -- one first

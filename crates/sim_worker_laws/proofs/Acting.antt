@@ -1,9 +1,9 @@
 -- An action is closed, or it takes a key, or it goes on with a turn.
 use Rattle.std.proofs.Common.{◌≡◌, ℕ, Bool, true, false, ◌&&◌, Option, Some, None, slice_get, refl, cond}
 use Rattle.spec_client_go.specs.WorkQueues.{handed}
-use Rattle.spec_sim_control_plane.specs.Managers.{Client, Manager, Action, Acted, Delivery, closed, take_key, carry_out, is_take, is_for, delivery_of, act_in, act}
-use Rattle.spec_sim_control_plane.specs.NextSteps.{next}
-use Rattle.spec_sim_control_plane.specs.Turns.{Turn}
+use Rattle.spec_sim.specs.Managers.{Client, Manager, Action, Acted, Delivery, closed, take_key, carry_out, is_take, is_for, delivery_of, act_in, act}
+use Rattle.spec_sim.specs.NextSteps.{next}
+use Rattle.spec_sim.specs.Turns.{Turn}
 
 either : (P : Acted → Type 0) (b : Bool) (x y : Acted) → (b ≡ true → P x) → P y → P (cond b x y)
 either P true x y p q = p refl

@@ -12,15 +12,15 @@ use Rattle.spec_client_go.proofs.Expected.{get_put}
 use Rattle.spec_client_go.proofs.WorkKeyOrder.{work_key_total}
 use Rattle.spec_laws.specs.ExpectationLaws.{creations_of, creations_left}
 use Rattle.spec_client_go.specs.Boards.{Board, Observation, creation_observed, deletion_observed, all_lowered, finished, requeued}
-use Rattle.spec_sim_control_plane.specs.ControlPlanes.{client}
-use Rattle.spec_sim_control_plane.specs.Managers.{Client, Manager, Action, Delivery, Acted, closed, act, act_in, carry_out, take_key, is_for, delivery_of, requested, ended, ask, is_satisfied_for, forgotten_unless}
-use Rattle.spec_sim_control_plane.specs.Managers as action
-use Rattle.spec_sim_control_plane.specs.NextSteps as next_step
-use Rattle.spec_sim_control_plane.specs.Outcomes as outcome
+use Rattle.spec_sim.specs.ControlPlanes.{client}
+use Rattle.spec_sim.specs.Managers.{Client, Manager, Action, Delivery, Acted, closed, act, act_in, carry_out, take_key, is_for, delivery_of, requested, ended, ask, is_satisfied_for, forgotten_unless}
+use Rattle.spec_sim.specs.Managers as action
+use Rattle.spec_sim.specs.NextSteps as next_step
+use Rattle.spec_sim.specs.Outcomes as outcome
 use Rattle.std.specs.FinSet as set
 use Rattle.std.specs.List.{filter_map}
-use Rattle.spec_sim_control_plane.specs.NextSteps.{NextStep, next}
-use Rattle.spec_sim_control_plane.specs.Turns.{Turn, Issue, refused, lost, is_refused, commands, all_accepted, creates_pod, pod_deleted, undone, taken_back, taken_back_by}
+use Rattle.spec_sim.specs.NextSteps.{NextStep, next}
+use Rattle.spec_sim.specs.Turns.{Turn, Issue, refused, lost, is_refused, commands, all_accepted, creates_pod, pod_deleted, undone, taken_back, taken_back_by}
 use Rattle.sim_worker_laws.specs.ActionLaws.{IsAt, member, IssuesAreTied, OnlyIssuesAsk, LostIsNotDropped, LiveReadsFindWhatIsThere, AnswersAreTheBoards, LostMayBeDone, UndoneIsExpectedNoMore, FailedKeysWait}
 use Rattle.sim_worker_laws.proofs.Acting.{by_act}
 

@@ -1,11 +1,11 @@
 -- A step that is counted changes nothing else, and a tick changes the board alone.
 use Rattle.std.proofs.Common.{ℕ, ◌+◌, Bool, true, false, cond}
 use Rattle.spec_client_go.specs.Boards.{may_tick, passed}
-use Rattle.spec_sim_cluster.specs.Clusters.{Cluster}
-use Rattle.spec_sim_control_plane.specs.ControlPlanes.{ControlPlane, Stepped, tick_in, closed, counted}
-use Rattle.spec_sim_control_plane.specs.Managers.{Manager}
-use Rattle.spec_sim_control_plane.specs.Outcomes as outcomes
-use Rattle.spec_sim_control_plane.specs.Outcomes.{Outcome, no_step, was_open}
+use Rattle.spec_sim.specs.Clusters.{Cluster}
+use Rattle.spec_sim.specs.ControlPlanes.{ControlPlane, Stepped, tick_in, closed, counted}
+use Rattle.spec_sim.specs.Managers.{Manager}
+use Rattle.spec_sim.specs.Outcomes as outcomes
+use Rattle.spec_sim.specs.Outcomes.{Outcome, no_step, was_open}
 
 pub by_counted : (P : Cluster → Manager → Outcome → Type 0) (s : Stepped) → P s.plane.cluster s.plane.manager s.outcome → P (counted s).plane.cluster (counted s).plane.manager (counted s).outcome
 by_counted P s p = by (was_open s.outcome)

@@ -8,10 +8,10 @@ use Rattle.spec_client_go.proofs.WorkKeyOrder.{work_key_total}
 use Rattle.spec_laws.proofs.WorkQueueRuns.{added-wanted}
 use Rattle.spec_client_go.specs.Boards as boards
 use Rattle.spec_client_go.specs.Boards.{Board, all_added}
-use Rattle.spec_sim_control_plane.specs.Managers.{Client, Manager, Action, Acted, Delivery, take_key, carry_out, act, forgotten_unless}
-use Rattle.spec_sim_control_plane.specs.NextSteps.{NextStep, next, look, ask_satisfied, read, expect, issue, finish}
-use Rattle.spec_sim_control_plane.specs.Turns as turns
-use Rattle.spec_sim_control_plane.specs.Turns.{Turn, Expected, all_accepted, owner}
+use Rattle.spec_sim.specs.Managers.{Client, Manager, Action, Acted, Delivery, take_key, carry_out, act, forgotten_unless}
+use Rattle.spec_sim.specs.NextSteps.{NextStep, next, look, ask_satisfied, read, expect, issue, finish}
+use Rattle.spec_sim.specs.Turns as turns
+use Rattle.spec_sim.specs.Turns.{Turn, Expected, all_accepted, owner}
 use Rattle.sim_worker_laws.specs.OwedLaws.{IsAmong, tells_taken}
 use Rattle.sim_worker_laws.proofs.Acting.{by_act}
 use Rattle.sim_worker_laws.proofs.InHands.{same}

@@ -8,9 +8,9 @@ use Rattle.spec_server.specs.Snapshots.{Snapshot}
 use Rattle.spec_client_go.specs.Commands.{Command}
 use Rattle.spec_client_go.specs.Hands.{Read}
 use Rattle.spec_client_go.specs.WorkQueues.{WorkKey, handed}
-use Rattle.spec_sim_control_plane.specs.Managers.{Client, Manager, Issued, Action, Delivery, learnt, requested, take_key, carry_out, act, is_satisfied_for}
-use Rattle.spec_sim_control_plane.specs.NextSteps.{Sighting, order, unseen, NextStep, look, ask_satisfied, read, expect, issue, finish, next}
-use Rattle.spec_sim_control_plane.specs.Turns.{Turn, Sight, looked, satisfied, Issue, begun, with_sight, with_read, with_expected, with_issue, asks, commands, expected, all_accepted, left, owner}
+use Rattle.spec_sim.specs.Managers.{Client, Manager, Issued, Action, Delivery, learnt, requested, take_key, carry_out, act, is_satisfied_for}
+use Rattle.spec_sim.specs.NextSteps.{Sighting, order, unseen, NextStep, look, ask_satisfied, read, expect, issue, finish, next}
+use Rattle.spec_sim.specs.Turns.{Turn, Sight, looked, satisfied, Issue, begun, with_sight, with_read, with_expected, with_issue, asks, commands, expected, all_accepted, left, owner}
 use Rattle.sim_worker_laws.specs.IssuedLaws.{IsSeen, sighting_of, commands_of, IsNext}
 use Rattle.sim_worker_laws.proofs.Acting.{by_act}
 use Rattle.sim_worker_laws.proofs.Lists.{grows, untouched, all_push, all_map}

@@ -14,12 +14,12 @@ use Rattle.spec_line_protocol.specs.Lines.{Line, line_of, session_after}
 use Rattle.spec_laws.proofs.Past.{writes-append}
 use Rattle.spec_laws.proofs.Runs.{Begins, nothing, kept_asked, kept_watched, begins-write, begins-entry, by_compaction}
 use Rattle.spec_client_go.specs.Hands.{Read}
-use Rattle.spec_sim_cluster.specs.Clusters.{Cluster, history, follower, ClusterStep, request, compact, moves, restart}
-use Rattle.spec_sim_cluster.specs.Clusters as clusters
-use Rattle.spec_sim_cluster.specs.Followers.{Notification}
-use Rattle.spec_sim_cluster.specs.Moves as moving
-use Rattle.spec_sim_control_plane.specs.ControlPlanes.{ControlPlane, Step, in_cluster, handle, works, tick, client, after_request, handle_in, step_in, step}
-use Rattle.spec_sim_control_plane.specs.Managers.{act}
+use Rattle.spec_sim.specs.Clusters.{Cluster, history, follower, ClusterStep, request, compact, moves, restart}
+use Rattle.spec_sim.specs.Clusters as clusters
+use Rattle.spec_sim.specs.Followers.{Notification}
+use Rattle.spec_sim.specs.Moves as moving
+use Rattle.spec_sim.specs.ControlPlanes.{ControlPlane, Step, in_cluster, handle, works, tick, client, after_request, handle_in, step_in, step}
+use Rattle.spec_sim.specs.Managers.{act}
 use Rattle.sim_worker_laws.specs.IssuedLaws.{WasThere}
 use Rattle.sim_worker_laws.proofs.Counting.{by_counted, by_tick}
 use Rattle.sim_worker_laws.proofs.Moved.{same_session}

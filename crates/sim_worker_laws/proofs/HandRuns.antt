@@ -3,13 +3,13 @@ use Rattle.std.proofs.Common.{ℕ, ◌+◌, List, [], ◌∷◌, Bool, true, fal
 use Rattle.spec_api.specs.declared.kinds.Kind.{Kind}
 use Rattle.spec_client_go.specs.Delays.{due}
 use Rattle.spec_client_go.specs.Boards.{may_tick, passed}
-use Rattle.spec_sim_cluster.specs.declared.initial_syncs.InitialSync.{InitialSync}
-use Rattle.spec_sim_cluster.specs.Clusters.{ClusterStep, request, compact, moves, restart, follower}
-use Rattle.spec_sim_cluster.specs.Followers.{Notification}
-use Rattle.spec_sim_control_plane.specs.ControlPlanes.{ControlPlane, Step, Stepped, in_cluster, handle, works, tick, client, handle_in, tick_in, closed, step_in, counted, step, opened, run, owed, manager_after}
-use Rattle.spec_sim_control_plane.specs.Managers.{Manager}
-use Rattle.spec_sim_control_plane.specs.Outcomes as outcomes
-use Rattle.spec_sim_control_plane.specs.Outcomes.{was_open}
+use Rattle.spec_sim.specs.declared.initial_syncs.InitialSync.{InitialSync}
+use Rattle.spec_sim.specs.Clusters.{ClusterStep, request, compact, moves, restart, follower}
+use Rattle.spec_sim.specs.Followers.{Notification}
+use Rattle.spec_sim.specs.ControlPlanes.{ControlPlane, Step, Stepped, in_cluster, handle, works, tick, client, handle_in, tick_in, closed, step_in, counted, step, opened, run, owed, manager_after}
+use Rattle.spec_sim.specs.Managers.{Manager}
+use Rattle.spec_sim.specs.Outcomes as outcomes
+use Rattle.spec_sim.specs.Outcomes.{was_open}
 use Rattle.sim_worker_laws.specs.TurnLaws.{HandsAreApart, ProcessingIsInHands}
 use Rattle.sim_worker_laws.proofs.InHands.{unique}
 use Rattle.sim_worker_laws.proofs.Processing.{Fits, fits-added, fits-act, fits-begun, fits-restarted}

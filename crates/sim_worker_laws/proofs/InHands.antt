@@ -5,7 +5,7 @@ use Rattle.std.specs.Cmp.{eq_by_cmp_equiv, IsEquivalence}
 use Rattle.std.specs.Ordering.{eq_by_cmp}
 use Rattle.spec_client_go.specs.WorkQueues.{WorkKey, work_key_cmp}
 use Rattle.spec_client_go.proofs.WorkKeyOrder.{work_key_total}
-use Rattle.spec_sim_control_plane.specs.Turns.{Turn}
+use Rattle.spec_sim.specs.Turns.{Turn}
 use Rattle.sim_worker_laws.specs.TurnLaws.{is_of, is_in_hands}
 
 abbrev pub same : WorkKey → WorkKey → Bool

@@ -9,12 +9,12 @@ use Rattle.spec_server.specs.Snapshots.{Snapshot}
 use Rattle.spec_client_go.specs.WorkQueues.{WorkKey, handed}
 use Rattle.spec_line_protocol.specs.Lines as lines
 use Rattle.spec_line_protocol.specs.Lines.{line_of, session_after}
-use Rattle.spec_sim_cluster.specs.Clusters.{Cluster, history, follower, request, compact, moves, restart}
-use Rattle.spec_sim_cluster.specs.Followers.{Follower, Notification}
-use Rattle.spec_sim_cluster.specs.Moves.{answers_after}
-use Rattle.spec_sim_control_plane.specs.ControlPlanes.{ControlPlane, Step, in_cluster, handle, works, tick, opened, client, have_all_listed, after_request, handle_in, step_in, step, run}
-use Rattle.spec_sim_control_plane.specs.Managers.{Manager, Acted, act, take_key}
-use Rattle.spec_sim_control_plane.specs.Turns.{Turn}
+use Rattle.spec_sim.specs.Clusters.{Cluster, history, follower, request, compact, moves, restart}
+use Rattle.spec_sim.specs.Followers.{Follower, Notification}
+use Rattle.spec_sim.specs.Moves.{answers_after}
+use Rattle.spec_sim.specs.ControlPlanes.{ControlPlane, Step, in_cluster, handle, works, tick, opened, client, have_all_listed, after_request, handle_in, step_in, step, run}
+use Rattle.spec_sim.specs.Managers.{Manager, Acted, act, take_key}
+use Rattle.spec_sim.specs.Turns.{Turn}
 use Rattle.sim_worker_laws.specs.IssuedLaws.{WasPublished, WasThere, IssuedIsNext}
 use Rattle.sim_worker_laws.proofs.Acting.{by_act}
 use Rattle.sim_worker_laws.proofs.Counting.{by_counted, by_tick}

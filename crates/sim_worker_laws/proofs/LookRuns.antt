@@ -9,15 +9,15 @@ use Rattle.spec_server.specs.Snapshots.{Snapshot}
 use Rattle.spec_client_go.specs.Commands.{Command}
 use Rattle.spec_client_go.specs.Hands.{Read}
 use Rattle.spec_client_go.specs.WorkQueues.{WorkKey, handed}
-use Rattle.spec_sim_cluster.specs.declared.initial_syncs.InitialSync.{InitialSync}
-use Rattle.spec_sim_cluster.specs.Clusters.{history, follower, request, compact, moves, restart}
-use Rattle.spec_sim_cluster.specs.Followers.{Notification}
-use Rattle.spec_sim_control_plane.specs.ControlPlanes.{ControlPlane, Step, in_cluster, handle, works, tick, opened, client, handle_in, step_in, step, run}
-use Rattle.spec_sim_control_plane.specs.Managers as action
-use Rattle.spec_sim_control_plane.specs.Managers.{Client, Manager, Issued, Action, Delivery, take_key, carry_out, is_take, is_for, delivery_of, act_in, act}
-use Rattle.spec_sim_control_plane.specs.NextSteps as next_step
-use Rattle.spec_sim_control_plane.specs.NextSteps.{NextStep, next}
-use Rattle.spec_sim_control_plane.specs.Turns.{Turn}
+use Rattle.spec_sim.specs.declared.initial_syncs.InitialSync.{InitialSync}
+use Rattle.spec_sim.specs.Clusters.{history, follower, request, compact, moves, restart}
+use Rattle.spec_sim.specs.Followers.{Notification}
+use Rattle.spec_sim.specs.ControlPlanes.{ControlPlane, Step, in_cluster, handle, works, tick, opened, client, handle_in, step_in, step, run}
+use Rattle.spec_sim.specs.Managers as action
+use Rattle.spec_sim.specs.Managers.{Client, Manager, Issued, Action, Delivery, take_key, carry_out, is_take, is_for, delivery_of, act_in, act}
+use Rattle.spec_sim.specs.NextSteps as next_step
+use Rattle.spec_sim.specs.NextSteps.{NextStep, next}
+use Rattle.spec_sim.specs.Turns.{Turn}
 use Rattle.sim_worker_laws.specs.IssuedLaws.{WasThere, IsNext}
 use Rattle.sim_worker_laws.specs.LookLaws.{WasPublishedSince, TurnsAreUnderWay, WasIssued, CommandsWereIssued}
 use Rattle.sim_worker_laws.specs.OwedLaws.{NoRestart}

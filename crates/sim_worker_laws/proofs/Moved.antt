@@ -9,10 +9,10 @@ use Rattle.spec_api.specs.Versions.{Watched}
 use Rattle.spec_client_go.specs.declared.reflectors.Phase.{Phase}
 use Rattle.spec_client_go.specs.declared.reflectors.Phase.TheVariants.{Listing, Streaming, Watching}
 use Rattle.spec_client_go.specs.Reflectors.{Listed, Fed, fed}
-use Rattle.spec_sim_cluster.specs.Clusters.{Cluster, follower, with_follower}
-use Rattle.spec_sim_cluster.specs.Followers.{Link, Follower, streaming_at, after_list, after_open, after_expiry, after_bytes, after_cut, after_publishing}
-use Rattle.spec_sim_cluster.specs.Moves as moving
-use Rattle.spec_sim_cluster.specs.Moves.{Moved, Answers, Move, list_in, take_list, listed_of, watch_in, open_by, stream_in, after_lines, after_refusal, after_initial, with_link, write_changes, send_next, send_on, write_bookmark, bookmark_next, bookmark_on, deliver_from, deliver_on, deliver_all_on, cut_on, left_open, publish_now, closed, move_by}
+use Rattle.spec_sim.specs.Clusters.{Cluster, follower, with_follower}
+use Rattle.spec_sim.specs.Followers.{Link, Follower, streaming_at, after_list, after_open, after_expiry, after_bytes, after_cut, after_publishing}
+use Rattle.spec_sim.specs.Moves as moving
+use Rattle.spec_sim.specs.Moves.{Moved, Answers, Move, list_in, take_list, listed_of, watch_in, open_by, stream_in, after_lines, after_refusal, after_initial, with_link, write_changes, send_next, send_on, write_bookmark, bookmark_next, bookmark_on, deliver_from, deliver_on, deliver_all_on, cut_on, left_open, publish_now, closed, move_by}
 
 -- ---- one follower
 

@@ -5,8 +5,8 @@ use Rattle.std.specs.Option.{option_or, unwrap_or}
 use Rattle.spec_api.specs.declared.kinds.Kind.{Kind}
 use Rattle.spec_api.specs.Keys.{Key}
 use Rattle.spec_client_go.specs.Commands.{Command}
-use Rattle.spec_sim_control_plane.specs.NextSteps.{Sighting, of_kind, of_expectations, unseen, NextStep, look, ask_satisfied, read, expect, issue, finish, seeing, first, expecting, issuing, next}
-use Rattle.spec_sim_control_plane.specs.Turns.{Turn, Expected, asks, expected, all_accepted, left}
+use Rattle.spec_sim.specs.NextSteps.{Sighting, of_kind, of_expectations, unseen, NextStep, look, ask_satisfied, read, expect, issue, finish, seeing, first, expecting, issuing, next}
+use Rattle.spec_sim.specs.Turns.{Turn, Expected, asks, expected, all_accepted, left}
 
 pub data Stands (t : Turn) : NextStep → Type 0 where
   to_look : (k : Kind) (rest : List Sighting) → unseen t ≡ of_kind k ∷ rest → Stands t (look k)

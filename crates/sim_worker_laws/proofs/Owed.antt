@@ -9,13 +9,13 @@ use Rattle.spec_client_go.specs.Delays.{due}
 use Rattle.spec_client_go.specs.WorkQueues.{WorkKey}
 use Rattle.spec_line_protocol.specs.Lines as lines
 use Rattle.spec_line_protocol.specs.Lines.{line_of, session_after}
-use Rattle.spec_sim_cluster.specs.Clusters.{Cluster, history, follower, with_follower, request, compact, moves, restart}
-use Rattle.spec_sim_cluster.specs.Followers.{Follower, Notification, notifications}
-use Rattle.spec_sim_cluster.specs.Moves.{Move, publish, answers_after, move_by, publish_now, closed}
-use Rattle.spec_sim_control_plane.specs.ControlPlanes.{ControlPlane, Step, in_cluster, handle, works, tick, opened, client, after_request, handle_in, step_in, step, run, owed}
-use Rattle.spec_sim_control_plane.specs.Managers.{Manager, act}
-use Rattle.spec_sim_control_plane.specs.NextSteps.{first}
-use Rattle.spec_sim_control_plane.specs.Outcomes.{Outcome}
+use Rattle.spec_sim.specs.Clusters.{Cluster, history, follower, with_follower, request, compact, moves, restart}
+use Rattle.spec_sim.specs.Followers.{Follower, Notification, notifications}
+use Rattle.spec_sim.specs.Moves.{Move, publish, answers_after, move_by, publish_now, closed}
+use Rattle.spec_sim.specs.ControlPlanes.{ControlPlane, Step, in_cluster, handle, works, tick, opened, client, after_request, handle_in, step_in, step, run, owed}
+use Rattle.spec_sim.specs.Managers.{Manager, act}
+use Rattle.spec_sim.specs.NextSteps.{first}
+use Rattle.spec_sim.specs.Outcomes.{Outcome}
 use Rattle.sim_worker_laws.specs.OwedLaws.{IsAmong, unhandled, published, NoRestart, tells_taken, was_taken, is_dirty, IsKept, waits, was_handled, NothingIsForgotten}
 use Rattle.sim_worker_laws.proofs.Counting.{by_counted, by_tick}
 use Rattle.sim_worker_laws.proofs.Dirty.{or_false, or_right, dirty-all, shut-all, all-dirty, act-dirty, act-open}

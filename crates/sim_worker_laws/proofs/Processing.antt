@@ -8,10 +8,10 @@ use Rattle.spec_client_go.proofs.WorkKeyOrder.{work_key_total}
 use Rattle.spec_laws.proofs.WorkQueueRuns.{IsSound, after-sound, idle-sound, queued_is_free, front_is_queued}
 use Rattle.spec_client_go.specs.Boards as boards
 use Rattle.spec_client_go.specs.Boards.{Board, all_added}
-use Rattle.spec_sim_control_plane.specs.Managers.{Client, Manager, Action, Delivery, take_key, carry_out, act, forgotten_unless, is_satisfied_for}
-use Rattle.spec_sim_control_plane.specs.NextSteps.{NextStep, next, look, ask_satisfied, read, expect, issue, finish}
-use Rattle.spec_sim_control_plane.specs.Turns as turns
-use Rattle.spec_sim_control_plane.specs.Turns.{Turn, Expected, all_accepted, owner, with_sight, with_expected}
+use Rattle.spec_sim.specs.Managers.{Client, Manager, Action, Delivery, take_key, carry_out, act, forgotten_unless, is_satisfied_for}
+use Rattle.spec_sim.specs.NextSteps.{NextStep, next, look, ask_satisfied, read, expect, issue, finish}
+use Rattle.spec_sim.specs.Turns as turns
+use Rattle.spec_sim.specs.Turns.{Turn, Expected, all_accepted, owner, with_sight, with_expected}
 use Rattle.sim_worker_laws.specs.TurnLaws.{is_in_hands}
 use Rattle.sim_worker_laws.proofs.Acting.{by_act}
 use Rattle.sim_worker_laws.proofs.InHands.{same, Apart, hands_with, apart_with, hands_without, apart_without, hands_on, apart_on, is_there}

@@ -9,19 +9,19 @@ use Rattle.spec_client_go.specs.WorkQueues.{WorkKey, handed}
 use Rattle.spec_client_go.specs.Boards.{may_tick, passed, all_lowered}
 use Rattle.spec_laws.specs.DueLaws.{IsDue}
 use Rattle.spec_laws.proofs.DueKeys.{have_come}
-use Rattle.spec_sim_cluster.specs.Clusters.{Cluster, history, follower, with_follower, request, compact, moves, restart}
-use Rattle.spec_sim_cluster.specs.Followers as followers
-use Rattle.spec_sim_cluster.specs.Followers.{Follower, Notification}
-use Rattle.spec_sim_cluster.specs.Moves as moving
-use Rattle.spec_sim_cluster.specs.Moves.{Moved, answers_after, move_by}
-use Rattle.spec_sim_control_plane.specs.ControlPlanes.{ControlPlane, Step, Stepped, in_cluster, handle, works, tick, opened, client, handle_in, after_action, closed, step_in, step, run}
-use Rattle.spec_sim_control_plane.specs.Managers as managers
-use Rattle.spec_sim_control_plane.specs.Managers.{Manager, Acted, Delivery, act, take_key, carry_out}
-use Rattle.spec_sim_control_plane.specs.NextSteps.{first, NextStep, next, look, ask_satisfied, read, expect, issue, finish}
-use Rattle.spec_sim_control_plane.specs.Outcomes as outcomes
-use Rattle.spec_sim_control_plane.specs.Outcomes.{Outcome, of_cluster, was_open}
-use Rattle.spec_sim_control_plane.specs.PodObservations.{observations_by}
-use Rattle.spec_sim_control_plane.specs.Turns.{Turn}
+use Rattle.spec_sim.specs.Clusters.{Cluster, history, follower, with_follower, request, compact, moves, restart}
+use Rattle.spec_sim.specs.Followers as followers
+use Rattle.spec_sim.specs.Followers.{Follower, Notification}
+use Rattle.spec_sim.specs.Moves as moving
+use Rattle.spec_sim.specs.Moves.{Moved, answers_after, move_by}
+use Rattle.spec_sim.specs.ControlPlanes.{ControlPlane, Step, Stepped, in_cluster, handle, works, tick, opened, client, handle_in, after_action, closed, step_in, step, run}
+use Rattle.spec_sim.specs.Managers as managers
+use Rattle.spec_sim.specs.Managers.{Manager, Acted, Delivery, act, take_key, carry_out}
+use Rattle.spec_sim.specs.NextSteps.{first, NextStep, next, look, ask_satisfied, read, expect, issue, finish}
+use Rattle.spec_sim.specs.Outcomes as outcomes
+use Rattle.spec_sim.specs.Outcomes.{Outcome, of_cluster, was_open}
+use Rattle.spec_sim.specs.PodObservations.{observations_by}
+use Rattle.spec_sim.specs.Turns.{Turn}
 use Rattle.sim_worker_laws.specs.OwedLaws.{IsAmong, unhandled, is_dirty}
 use Rattle.sim_worker_laws.specs.StepLaws.{ClosedStepsChangeNothing, OpenStepsAreCounted, RestartsBeginAnew, FirstListsShowNothing, TicksAddWhatIsDue}
 use Rattle.sim_worker_laws.proofs.Acting.{by_act}

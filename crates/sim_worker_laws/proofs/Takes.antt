@@ -3,15 +3,15 @@ use Rattle.std.proofs.Common.{◌≡◌, ◌⊎◌, inl, inr, ℕ, zero, suc, Li
 use Rattle.std.specs.FinSet as set
 use Rattle.spec_client_go.specs.WorkQueues.{WorkKey, front, got_from}
 use Rattle.spec_api.specs.declared.kinds.Kind.{Kind}
-use Rattle.spec_sim_cluster.specs.Clusters.{follower, request, compact, moves, restart}
-use Rattle.spec_sim_cluster.specs.Followers.{Notification}
-use Rattle.spec_sim_control_plane.specs.ControlPlanes.{ControlPlane, Step, in_cluster, handle, works, tick, client, handle_in, step_in}
-use Rattle.spec_sim_control_plane.specs.Managers as action
-use Rattle.spec_sim_control_plane.specs.Managers.{Client, Manager, Action, Acted, Delivery, take_key, carry_out, is_take, is_for, delivery_of, act_in, act}
-use Rattle.spec_sim_control_plane.specs.NextSteps as next_step
-use Rattle.spec_sim_control_plane.specs.NextSteps.{NextStep, next}
-use Rattle.spec_sim_control_plane.specs.Outcomes.{took}
-use Rattle.spec_sim_control_plane.specs.Turns.{Turn, begun}
+use Rattle.spec_sim.specs.Clusters.{follower, request, compact, moves, restart}
+use Rattle.spec_sim.specs.Followers.{Notification}
+use Rattle.spec_sim.specs.ControlPlanes.{ControlPlane, Step, in_cluster, handle, works, tick, client, handle_in, step_in}
+use Rattle.spec_sim.specs.Managers as action
+use Rattle.spec_sim.specs.Managers.{Client, Manager, Action, Acted, Delivery, take_key, carry_out, is_take, is_for, delivery_of, act_in, act}
+use Rattle.spec_sim.specs.NextSteps as next_step
+use Rattle.spec_sim.specs.NextSteps.{NextStep, next}
+use Rattle.spec_sim.specs.Outcomes.{took}
+use Rattle.spec_sim.specs.Turns.{Turn, begun}
 use Rattle.sim_worker_laws.specs.TakeLaws.{TakesTheHead, TakesGiveTheHead, OnlyTakesGive}
 use Rattle.sim_worker_laws.proofs.Counting.{by_counted, by_tick}
 use Rattle.sim_worker_laws.proofs.IssuedRuns.{none_after}

@@ -11,13 +11,13 @@ use Rattle.spec_client_go.specs.Delays.{delay_after, earlier, failures}
 use Rattle.spec_client_go.specs.Expectations.{Owner}
 use Rattle.spec_client_go.specs.Boards.{Board, is_satisfied, forgotten}
 use Rattle.spec_laws.specs.ExpectationLaws.{creations_left}
-use Rattle.spec_sim_cluster.specs.Clusters.{Cluster, history}
-use Rattle.spec_sim_control_plane.specs.ControlPlanes.{client}
-use Rattle.spec_sim_control_plane.specs.Managers.{Client, Manager, Issued, Action, ask_satisfied, read_live, issue, Delivery, delivered, answer_lost, dropped, act, answer_of, learnt, reaching, requested, ended}
-use Rattle.spec_sim_control_plane.specs.NextSteps as next_step
-use Rattle.spec_sim_control_plane.specs.NextSteps.{next}
-use Rattle.spec_sim_control_plane.specs.Outcomes as outcome
-use Rattle.spec_sim_control_plane.specs.Turns.{Turn, refused, lost, with_read, with_issue, commands, all_accepted, owner, creates_pod, undone}
+use Rattle.spec_sim.specs.Clusters.{Cluster, history}
+use Rattle.spec_sim.specs.ControlPlanes.{client}
+use Rattle.spec_sim.specs.Managers.{Client, Manager, Issued, Action, ask_satisfied, read_live, issue, Delivery, delivered, answer_lost, dropped, act, answer_of, learnt, reaching, requested, ended}
+use Rattle.spec_sim.specs.NextSteps as next_step
+use Rattle.spec_sim.specs.NextSteps.{next}
+use Rattle.spec_sim.specs.Outcomes as outcome
+use Rattle.spec_sim.specs.Turns.{Turn, refused, lost, with_read, with_issue, commands, all_accepted, owner, creates_pod, undone}
 
 -- a worker is in a turn, and this is the next step of it
 abbrev pub IsAt : ℕ → Turn → next_step.NextStep → Manager → Type 0

@@ -6,12 +6,12 @@ use Rattle.spec_api.specs.History.{History, present, state}
 use Rattle.spec_server.specs.Snapshots.{Snapshot}
 use Rattle.spec_client_go.specs.Commands.{Command}
 use Rattle.spec_client_go.specs.Hands.{Read}
-use Rattle.spec_sim_cluster.specs.declared.initial_syncs.InitialSync.{InitialSync}
-use Rattle.spec_sim_cluster.specs.Clusters.{history, follower}
-use Rattle.spec_sim_control_plane.specs.ControlPlanes.{ControlPlane, Step, opened, run}
-use Rattle.spec_sim_control_plane.specs.Managers.{Issued}
-use Rattle.spec_sim_control_plane.specs.NextSteps.{Sighting, of_kind, of_expectations, order}
-use Rattle.spec_sim_control_plane.specs.Turns.{Turn, Sight, looked, satisfied, Issue, asks, commands, expected, all_accepted}
+use Rattle.spec_sim.specs.declared.initial_syncs.InitialSync.{InitialSync}
+use Rattle.spec_sim.specs.Clusters.{history, follower}
+use Rattle.spec_sim.specs.ControlPlanes.{ControlPlane, Step, opened, run}
+use Rattle.spec_sim.specs.Managers.{Issued}
+use Rattle.spec_sim.specs.NextSteps.{Sighting, of_kind, of_expectations, order}
+use Rattle.spec_sim.specs.Turns.{Turn, Sight, looked, satisfied, Issue, asks, commands, expected, all_accepted}
 
 -- ---- what was seen and read
 

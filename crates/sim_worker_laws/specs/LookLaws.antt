@@ -4,12 +4,12 @@ use Rattle.std.specs.List.{AllByRecursion}
 use Rattle.spec_api.specs.declared.kinds.Kind.{Kind}
 use Rattle.spec_server.specs.Snapshots.{Snapshot}
 use Rattle.spec_client_go.specs.Hands.{Read}
-use Rattle.spec_sim_cluster.specs.declared.initial_syncs.InitialSync.{InitialSync}
-use Rattle.spec_sim_cluster.specs.Clusters.{history, follower}
-use Rattle.spec_sim_control_plane.specs.ControlPlanes.{ControlPlane, Step, works, opened, run}
-use Rattle.spec_sim_control_plane.specs.Managers.{Issued, Delivery, issue}
-use Rattle.spec_sim_control_plane.specs.NextSteps.{order, unseen}
-use Rattle.spec_sim_control_plane.specs.Turns.{Turn, commands, left}
+use Rattle.spec_sim.specs.declared.initial_syncs.InitialSync.{InitialSync}
+use Rattle.spec_sim.specs.Clusters.{history, follower}
+use Rattle.spec_sim.specs.ControlPlanes.{ControlPlane, Step, works, opened, run}
+use Rattle.spec_sim.specs.Managers.{Issued, Delivery, issue}
+use Rattle.spec_sim.specs.NextSteps.{order, unseen}
+use Rattle.spec_sim.specs.Turns.{Turn, commands, left}
 use Rattle.sim_worker_laws.specs.IssuedLaws.{WasThere, IsSeen, sighting_of, commands_of, IsNext}
 use Rattle.sim_worker_laws.specs.OwedLaws.{NoRestart}
 

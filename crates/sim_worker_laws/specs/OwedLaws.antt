@@ -4,13 +4,13 @@ use Rattle.std.specs.FinSet as set
 use Rattle.spec_api.specs.declared.kinds.Kind.{Kind}
 use Rattle.spec_client_go.specs.WorkQueues.{WorkKey}
 use Rattle.spec_laws.specs.WorkQueueLaws.{is_key}
-use Rattle.spec_sim_cluster.specs.declared.initial_syncs.InitialSync.{InitialSync}
-use Rattle.spec_sim_cluster.specs.Clusters.{Cluster, follower, moves, restart}
-use Rattle.spec_sim_cluster.specs.Followers.{Notification, notifications}
-use Rattle.spec_sim_cluster.specs.Moves.{publish}
-use Rattle.spec_sim_control_plane.specs.ControlPlanes.{ControlPlane, Step, in_cluster, handle, opened, step, run, owed}
-use Rattle.spec_sim_control_plane.specs.NextSteps.{first}
-use Rattle.spec_sim_control_plane.specs.Outcomes.{Outcome, took}
+use Rattle.spec_sim.specs.declared.initial_syncs.InitialSync.{InitialSync}
+use Rattle.spec_sim.specs.Clusters.{Cluster, follower, moves, restart}
+use Rattle.spec_sim.specs.Followers.{Notification, notifications}
+use Rattle.spec_sim.specs.Moves.{publish}
+use Rattle.spec_sim.specs.ControlPlanes.{ControlPlane, Step, in_cluster, handle, opened, step, run, owed}
+use Rattle.spec_sim.specs.NextSteps.{first}
+use Rattle.spec_sim.specs.Outcomes.{Outcome, took}
 
 abbrev pub IsAmong : {A : Type 0} → A → List A → Type 0
 IsAmong a [] = ⊥

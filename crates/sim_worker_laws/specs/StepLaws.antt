@@ -5,14 +5,14 @@ use Rattle.spec_laws.specs.DueLaws.{IsDue}
 use Rattle.spec_client_go.specs.WorkQueues.{WorkKey}
 use Rattle.spec_client_go.specs.Boards as boards
 use Rattle.spec_client_go.specs.Boards.{may_tick}
-use Rattle.spec_sim_cluster.specs.declared.initial_syncs.InitialSync.{InitialSync}
-use Rattle.spec_sim_cluster.specs.Clusters.{follower, restart}
-use Rattle.spec_sim_cluster.specs.Followers as followers
-use Rattle.spec_sim_cluster.specs.Followers.{Notification}
-use Rattle.spec_sim_control_plane.specs.ControlPlanes.{ControlPlane, Step, in_cluster, handle, tick, opened, step, run}
-use Rattle.spec_sim_control_plane.specs.NextSteps.{first}
-use Rattle.spec_sim_control_plane.specs.Outcomes.{was_open}
-use Rattle.spec_sim_control_plane.specs.Turns.{Turn}
+use Rattle.spec_sim.specs.declared.initial_syncs.InitialSync.{InitialSync}
+use Rattle.spec_sim.specs.Clusters.{follower, restart}
+use Rattle.spec_sim.specs.Followers as followers
+use Rattle.spec_sim.specs.Followers.{Notification}
+use Rattle.spec_sim.specs.ControlPlanes.{ControlPlane, Step, in_cluster, handle, tick, opened, step, run}
+use Rattle.spec_sim.specs.NextSteps.{first}
+use Rattle.spec_sim.specs.Outcomes.{was_open}
+use Rattle.spec_sim.specs.Turns.{Turn}
 use Rattle.sim_worker_laws.specs.OwedLaws.{unhandled, is_dirty}
 
 -- a step that is not open changes nothing

@@ -2,10 +2,10 @@
 use Rattle.std.specs.Prelude.{◌≡◌, ◌⊎◌, ℕ, List, ◌∷◌, true, Some, None, slice_get, slice_set}
 use Rattle.std.specs.FinSet as set
 use Rattle.spec_client_go.specs.WorkQueues.{WorkKey}
-use Rattle.spec_sim_control_plane.specs.ControlPlanes.{ControlPlane, Step, works, have_all_listed, step}
-use Rattle.spec_sim_control_plane.specs.Managers.{Manager, take}
-use Rattle.spec_sim_control_plane.specs.Outcomes.{took}
-use Rattle.spec_sim_control_plane.specs.Turns.{Turn, begun}
+use Rattle.spec_sim.specs.ControlPlanes.{ControlPlane, Step, works, have_all_listed, step}
+use Rattle.spec_sim.specs.Managers.{Manager, take}
+use Rattle.spec_sim.specs.Outcomes.{took}
+use Rattle.spec_sim.specs.Turns.{Turn, begun}
 
 -- a worker has a turn in its hands, or none
 abbrev pub HasInHand : ℕ → Turn → ControlPlane → Type 0

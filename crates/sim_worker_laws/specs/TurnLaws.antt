@@ -4,10 +4,10 @@ use Rattle.std.specs.FinSet as set
 use Rattle.std.specs.List.{list_any}
 use Rattle.std.specs.Ordering.{eq_by_cmp}
 use Rattle.spec_client_go.specs.WorkQueues.{WorkKey, work_key_cmp}
-use Rattle.spec_sim_cluster.specs.declared.initial_syncs.InitialSync.{InitialSync}
-use Rattle.spec_sim_control_plane.specs.ControlPlanes.{Step, opened, run}
-use Rattle.spec_sim_control_plane.specs.Managers.{Manager}
-use Rattle.spec_sim_control_plane.specs.Turns.{Turn}
+use Rattle.spec_sim.specs.declared.initial_syncs.InitialSync.{InitialSync}
+use Rattle.spec_sim.specs.ControlPlanes.{Step, opened, run}
+use Rattle.spec_sim.specs.Managers.{Manager}
+use Rattle.spec_sim.specs.Turns.{Turn}
 
 -- whether a turn is of a key
 abbrev pub is_of : WorkKey → Option Turn → Bool

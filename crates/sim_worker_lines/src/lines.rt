@@ -2,9 +2,9 @@
 //! so that a step that runs out of memory changes nothing.
 ghost use Rattle.std.specs.Prelude.{◌≡◌, IfOk, option_map, string_bytes, length};
 ghost use Rattle.object_keys.specs.Keys.{key_of};
-ghost use Rattle.spec_sim_control_plane.specs.OutcomeTexts as texts;
-ghost use Rattle.spec_sim_control_plane.specs.OutcomeTexts.{outcome_text, answer_text, verb};
-ghost use Rattle.spec_sim_control_plane.specs.Outcomes as outcomes;
+ghost use Rattle.spec_sim.specs.ControlPlaneOutcomeTexts as texts;
+ghost use Rattle.spec_sim.specs.ControlPlaneOutcomeTexts.{outcome_text, answer_text, verb};
+ghost use Rattle.spec_sim.specs.Outcomes as outcomes;
 ghost use Rattle.reconcile_types.specs.Commands.{command_of};
 ghost use Rattle.work_keys.specs.WorkKeys.{work_key_of};
 ghost use Rattle.reconcile_parts.specs.Seen.{answer_of};

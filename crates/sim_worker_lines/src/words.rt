@@ -1,7 +1,7 @@
 //! Words of a line.
 ghost use Rattle.std.specs.Prelude.{◌≡◌, ◌++◌, ◌∷◌, [], IfOk, OnOk, option_map, decimal};
 ghost use Rattle.object_keys.specs.Keys.{key_of};
-ghost use Rattle.spec_sim_control_plane.specs.OutcomeTexts.{controller_text, key_text};
+ghost use Rattle.spec_sim.specs.ControlPlaneOutcomeTexts.{controller_text, key_text};
 
 use object_keys::Key;
 use spec_api::kinds::Kind;

@@ -1,5 +1,5 @@
 -- Issued commands, as the definitions have them.
-use Rattle.spec_sim_control_plane.specs.Managers as managers
+use Rattle.spec_sim.specs.Managers as managers
 use Rattle.reconcile_types.specs.Commands.{command_of}
 use Rattle.reconcile_turn.specs.Seen.{answer_of}
 use Rattle.sim_worker_slots.specs.declared.issued.Issued.{Issued}

@@ -1,7 +1,7 @@
 -- The turns of workers, each in its slot.
 use Rattle.std.specs.Prelude.{ℕ, List, Bool, true, false, Option, Some, None, option_map, slice_get, slice_set}
-use Rattle.spec_sim_control_plane.specs.NextSteps.{NextStep, next}
-use Rattle.spec_sim_control_plane.specs.Turns.{Turn}
+use Rattle.spec_sim.specs.NextSteps.{NextStep, next}
+use Rattle.spec_sim.specs.Turns.{Turn}
 
 abbrev pub Slots : Type 0
 Slots = List (Option Turn)

@@ -1,7 +1,7 @@
 //! What workers learn of their commands.
 ghost use Rattle.std.specs.Prelude.{◌≡◌, true, is_some, IfOk, string_bytes};
-ghost use Rattle.spec_sim_control_plane.specs.NextSteps.{next};
-ghost use Rattle.spec_sim_control_plane.specs.Turns as turns;
+ghost use Rattle.spec_sim.specs.NextSteps.{next};
+ghost use Rattle.spec_sim.specs.Turns as turns;
 ghost use Rattle.reconcile_turn.specs.Seen.{answer_of, answered_to, command_issued, data_of};
 
 use reconcile_turn::{CommandAnswer, Turn};

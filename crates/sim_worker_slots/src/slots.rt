@@ -1,6 +1,6 @@
 //! Slots of workers.
 ghost use Rattle.std.specs.Prelude.{◌≡◌, true, OnOk, OnErr, Some, None, map, option_map, option_and_then, is_some};
-ghost use Rattle.spec_sim_control_plane.specs.Turns.{with_expected, with_sight};
+ghost use Rattle.spec_sim.specs.Turns.{with_expected, with_sight};
 ghost use Rattle.sim_worker_slots.specs.Slots.{next_in};
 ghost use Rattle.reconcile_turn.specs.Seen.{sight_of, step_of, key_read, found_under};
 
@@ -28,7 +28,7 @@ impl Model for Slots {
 
 impl Slots {
     ghost use Rattle.std.specs.Prelude.{◌≡◌, ◌<◌, true, IfOk, OnOk, OnErr, Some, None, length, map, option_map, option_and_then, is_some, replicate, slice_set};
-    ghost use Rattle.spec_sim_control_plane.specs.Turns.{with_expected, with_sight};
+    ghost use Rattle.spec_sim.specs.Turns.{with_expected, with_sight};
     ghost use Rattle.sim_worker_slots.specs.Slots.{is_idle, turn_of, next_in, gone_on};
     ghost use Rattle.reconcile_turn.specs.Seen.{sight_of, step_of, key_read, found_under};
 

@@ -1,7 +1,7 @@
 //! Whether an action is what comes next in a turn.
 ghost use Rattle.std.specs.Prelude.{◌≡◌};
-ghost use Rattle.spec_sim_control_plane.specs.Managers.{is_for};
-ghost use Rattle.spec_sim_control_plane.specs.NextSteps.{next};
+ghost use Rattle.spec_sim.specs.Managers.{is_for};
+ghost use Rattle.spec_sim.specs.NextSteps.{next};
 ghost use Rattle.sim_steps.specs.Actions.{action_of};
 
 use reconcile_turn::{NextStep, Turn};

@@ -6,14 +6,14 @@ use Rattle.spec_api.specs.Keys.{Key}
 use Rattle.spec_api.specs.Values.{data_of}
 use Rattle.spec_client_go.specs.declared.controller.Controller.TheVariants as controller
 use Rattle.spec_client_go.specs.Commands.{create, update, update_status, delete}
-use Rattle.spec_sim_cluster.specs.Clusters.{restart, request, moves}
-use Rattle.spec_sim_cluster.specs.Moves.{publish}
-use Rattle.spec_sim_control_plane.specs.ControlPlanes.{in_cluster, handle, works, tick}
-use Rattle.spec_sim_control_plane.specs.Managers.{take, look, ask_satisfied, read_live, expect, issue, finish, delivered, answer_lost, dropped}
-use Rattle.spec_sim_control_plane.specs.Outcomes.{handled, took, looked, satisfied, read, expected, issued, finished, time, no_step}
-use Rattle.spec_sim_control_plane.specs.OutcomeTexts.{outcome_text}
-use Rattle.spec_sim_control_plane.specs.StepLines.{step_of_line}
-use Rattle.spec_sim_control_plane.specs.Turns.{accepted, refused, lost}
+use Rattle.spec_sim.specs.Clusters.{restart, request, moves}
+use Rattle.spec_sim.specs.Moves.{publish}
+use Rattle.spec_sim.specs.ControlPlanes.{in_cluster, handle, works, tick}
+use Rattle.spec_sim.specs.Managers.{take, look, ask_satisfied, read_live, expect, issue, finish, delivered, answer_lost, dropped}
+use Rattle.spec_sim.specs.Outcomes.{handled, took, looked, satisfied, read, expected, issued, finished, time, no_step}
+use Rattle.spec_sim.specs.ControlPlaneOutcomeTexts.{outcome_text}
+use Rattle.spec_sim.specs.ControlPlaneStepLines.{step_of_line}
+use Rattle.spec_sim.specs.Turns.{accepted, refused, lost}
 
 -- an action with the number of a worker, and what it is of
 abbrev pub ActionsAreRead : Type 0

@@ -1,10 +1,10 @@
 -- Worked facts of lines, computed from the definitions: which lines ask for which steps.
 use Rattle.std.specs.Prelude.{◌≡◌, Some, None, codes}
 use Rattle.spec_api.specs.declared.kinds.Kind.TheVariants.{ConfigMap, Pod, ReplicaSet, Deployment}
-use Rattle.spec_sim_cluster.specs.declared.initial_syncs.InitialSync.TheVariants as sync
-use Rattle.spec_sim_cluster.specs.Moves.{list, watch, stream, send, send_bookmark, deliver, deliver_all, cut, publish}
-use Rattle.spec_sim_cluster.specs.Clusters.{request, compact, moves, restart}
-use Rattle.spec_sim_cluster.specs.StepLines.{step_of_line, config_of_line}
+use Rattle.spec_sim.specs.declared.initial_syncs.InitialSync.TheVariants as sync
+use Rattle.spec_sim.specs.Moves.{list, watch, stream, send, send_bookmark, deliver, deliver_all, cut, publish}
+use Rattle.spec_sim.specs.Clusters.{request, compact, moves, restart}
+use Rattle.spec_sim.specs.StepLines.{step_of_line, config_of_line}
 
 -- a verb, a kind by its plural name, and how much, in one to nine digits
 abbrev pub MovesAreRead : Type 0

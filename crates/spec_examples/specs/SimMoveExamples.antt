@@ -1,10 +1,10 @@
 -- Worked facts of moves, computed from the definitions: what a follower is after steps.
 use Rattle.std.specs.Prelude.{◌≡◌, ℕ, List, [], ◌∷◌, ◌++◌, map, Bool, true, false, Option, Some, None, option_map, codes, length, take}
 use Rattle.spec_api.specs.declared.kinds.Kind.TheVariants.{ConfigMap, Pod}
-use Rattle.spec_sim_cluster.specs.declared.initial_syncs.InitialSync.TheVariants as sync
-use Rattle.spec_sim_cluster.specs.Followers.{Follower, begun}
-use Rattle.spec_sim_cluster.specs.Clusters.{Cluster, opened, history, follower, looks, run}
-use Rattle.spec_sim_cluster.specs.StepLines.{step_asked}
+use Rattle.spec_sim.specs.declared.initial_syncs.InitialSync.TheVariants as sync
+use Rattle.spec_sim.specs.Followers.{Follower, begun}
+use Rattle.spec_sim.specs.Clusters.{Cluster, opened, history, follower, looks, run}
+use Rattle.spec_sim.specs.StepLines.{step_asked}
 use Rattle.spec_examples.specs.SimTexts.{create, accent}
 
 -- a cluster after these lines

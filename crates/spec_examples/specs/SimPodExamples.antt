@@ -6,7 +6,7 @@ use Rattle.spec_api.specs.Keys.{Key}
 use Rattle.spec_api.specs.Values.{data_of}
 use Rattle.spec_client_go.specs.Expectations.{Owner}
 use Rattle.spec_client_go.specs.Boards.{Observation, creation_observed, deletion_observed}
-use Rattle.spec_sim_control_plane.specs.PodObservations.{observations}
+use Rattle.spec_sim.specs.PodObservations.{observations}
 
 -- a pod with a uid, these members more in its metadata, and an owner reference to the ReplicaSet `web`
 abbrev pod_by : List ℕ → List ℕ → List ℕ → Data

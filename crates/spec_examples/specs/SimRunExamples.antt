@@ -1,6 +1,6 @@
 -- Worked facts of whole runs, computed from the definitions: what is written for what is read.
 use Rattle.std.specs.Prelude.{◌≡◌, [], ◌∷◌, codes}
-use Rattle.spec_sim_cluster.specs.StepLines.{simulate}
+use Rattle.spec_sim.specs.StepLines.{simulate}
 use Rattle.spec_examples.specs.SimTexts.{text, create, created, bad_line, accent}
 
 -- a watch that is cut within a letter goes on where the reflector is, and nothing is lost

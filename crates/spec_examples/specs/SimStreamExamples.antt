@@ -1,6 +1,6 @@
 -- Worked facts of runs whose followers begin with streams of initial events, computed from the definitions.
 use Rattle.std.specs.Prelude.{◌≡◌, List, ℕ, [], ◌∷◌, ◌++◌, codes}
-use Rattle.spec_sim_cluster.specs.StepLines.{simulate}
+use Rattle.spec_sim.specs.StepLines.{simulate}
 use Rattle.spec_examples.specs.SimTexts.{text, create, created}
 
 -- two objects, and a stream of which both have been delivered

@@ -4,11 +4,11 @@ use Rattle.spec_api.specs.declared.kinds.Kind.TheVariants.{Pod, ReplicaSet}
 use Rattle.spec_client_go.specs.declared.controller.Controller.TheVariants as controller
 use Rattle.spec_client_go.specs.WorkQueues.{WorkKey}
 use Rattle.spec_client_go.specs.Boards.{Board}
-use Rattle.spec_sim_cluster.specs.Clusters.{follower}
-use Rattle.spec_sim_cluster.specs.declared.initial_syncs.InitialSync.TheVariants as sync
-use Rattle.spec_sim_control_plane.specs.ControlPlanes.{ControlPlane, opened, run}
-use Rattle.spec_sim_control_plane.specs.StepLines.{step_asked, outcome_lines}
-use Rattle.spec_sim_control_plane.specs.Turns.{Turn, begun, looked, satisfied, with_sight}
+use Rattle.spec_sim.specs.Clusters.{follower}
+use Rattle.spec_sim.specs.declared.initial_syncs.InitialSync.TheVariants as sync
+use Rattle.spec_sim.specs.ControlPlanes.{ControlPlane, opened, run}
+use Rattle.spec_sim.specs.ControlPlaneStepLines.{step_asked, outcome_lines}
+use Rattle.spec_sim.specs.Turns.{Turn, begun, looked, satisfied, with_sight}
 
 abbrev text : List (List ℕ) → List ℕ
 text ls = flat_map (λ l. l ++ 10 ∷ []) ls

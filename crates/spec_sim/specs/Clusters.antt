@@ -7,9 +7,9 @@ use Rattle.spec_api.specs.Replies.{Session, start}
 use Rattle.spec_line_protocol.specs.Lines as lines
 use Rattle.spec_line_protocol.specs.Lines.{line_of, reply_to, session_after}
 use Rattle.spec_client_go.specs.Informers.{Looks}
-use Rattle.spec_sim_cluster.specs.declared.initial_syncs.InitialSync.{InitialSync}
-use Rattle.spec_sim_cluster.specs.Followers.{Follower, begun}
-use Rattle.spec_sim_cluster.specs.Moves.{Move, Outcome, replied, restarted, Moved, move}
+use Rattle.spec_sim.specs.declared.initial_syncs.InitialSync.{InitialSync}
+use Rattle.spec_sim.specs.Followers.{Follower, begun}
+use Rattle.spec_sim.specs.Moves.{Move, Outcome, replied, restarted, Moved, move}
 
 -- what has happened at the server, the moment and the size of its windows; how followers begin; and what follows each kind
 pub record Cluster : Type 0 where

@@ -11,8 +11,8 @@ use Rattle.spec_client_go.specs.Informers.{Informer}
 use Rattle.spec_client_go.specs.Reflectors.{Reflector}
 use Rattle.spec_client_go.specs.Shifts.{Shift}
 use Rattle.spec_api.specs.Streams.{Line}
-use Rattle.spec_sim_cluster.specs.Followers.{Link, Notification, Follower}
-use Rattle.spec_sim_cluster.specs.LineCodes.{coded_line}
+use Rattle.spec_sim.specs.Followers.{Link, Notification, Follower}
+use Rattle.spec_sim.specs.LineCodes.{coded_line}
 
 abbrev pub coded_link : Coded Link
 coded_link =

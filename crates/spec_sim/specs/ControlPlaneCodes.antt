@@ -16,8 +16,8 @@ use Rattle.spec_client_go.specs.Codes.{coded_work_key}
 use Rattle.spec_client_go.specs.Commands.{Version, seen, answered, Command, create, update, update_status, delete}
 use Rattle.spec_client_go.specs.Hands.{Read}
 use Rattle.spec_client_go.specs.WorkQueues.{WorkKey}
-use Rattle.spec_sim_control_plane.specs.Managers.{Issued}
-use Rattle.spec_sim_control_plane.specs.Turns.{Sight, looked, satisfied, Answer, accepted, refused, lost, Issue, Turn}
+use Rattle.spec_sim.specs.Managers.{Issued}
+use Rattle.spec_sim.specs.Turns.{Sight, looked, satisfied, Answer, accepted, refused, lost, Issue, Turn}
 
 -- ---- what is seen
 

@@ -8,10 +8,10 @@ use Rattle.spec_client_go.specs.declared.controller.Controller.{Controller}
 use Rattle.spec_client_go.specs.declared.controller.Controller.TheVariants.{ReplicaSet, Deployment, Collector}
 use Rattle.spec_client_go.specs.Commands.{Command, create, update, update_status, delete}
 use Rattle.spec_client_go.specs.WorkQueues.{WorkKey}
-use Rattle.spec_sim_cluster.specs.OutcomeTexts as cluster_texts
-use Rattle.spec_sim_cluster.specs.OutcomeTexts.{words_line}
-use Rattle.spec_sim_control_plane.specs.Outcomes.{Outcome, of_cluster, handled, took, looked, satisfied, read, expected, issued, finished, time}
-use Rattle.spec_sim_control_plane.specs.Turns.{Answer, accepted, refused, lost}
+use Rattle.spec_sim.specs.OutcomeTexts as cluster_texts
+use Rattle.spec_sim.specs.OutcomeTexts.{words_line}
+use Rattle.spec_sim.specs.Outcomes.{Outcome, of_cluster, handled, took, looked, satisfied, read, expected, issued, finished, time}
+use Rattle.spec_sim.specs.Turns.{Answer, accepted, refused, lost}
 
 -- a key by its resource, namespace and name, with slashes between them
 abbrev pub key_text : Key → List ℕ

@@ -2,13 +2,13 @@
 use Rattle.std.specs.Prelude.{ℕ, List, [], ◌∷◌, ◌++◌, Option, Some, None, option_map, option_and_then, unwrap_or, codes, if◌then◌else◌}
 use Rattle.std.specs.Option.{option_or}
 use Rattle.std.specs.Str.{bytes_eq}
-use Rattle.spec_sim_cluster.specs.Clusters.{request}
-use Rattle.spec_sim_cluster.specs.StepLines as cluster_lines
-use Rattle.spec_sim_cluster.specs.StepLines.{words, number_of, kind_of, Config, default_config, config_of_line, full_lines}
-use Rattle.spec_sim_control_plane.specs.ControlPlanes.{ControlPlane, opened, Step, in_cluster, handle, works, tick, step}
-use Rattle.spec_sim_control_plane.specs.Managers as action
-use Rattle.spec_sim_control_plane.specs.Managers.{Action, Delivery, delivered, answer_lost, dropped}
-use Rattle.spec_sim_control_plane.specs.OutcomeTexts.{outcome_text}
+use Rattle.spec_sim.specs.Clusters.{request}
+use Rattle.spec_sim.specs.StepLines as cluster_lines
+use Rattle.spec_sim.specs.StepLines.{words, number_of, kind_of, Config, default_config, config_of_line, full_lines}
+use Rattle.spec_sim.specs.ControlPlanes.{ControlPlane, opened, Step, in_cluster, handle, works, tick, step}
+use Rattle.spec_sim.specs.Managers as action
+use Rattle.spec_sim.specs.Managers.{Action, Delivery, delivered, answer_lost, dropped}
+use Rattle.spec_sim.specs.ControlPlaneOutcomeTexts.{outcome_text}
 
 -- ---- a worker's actions
 

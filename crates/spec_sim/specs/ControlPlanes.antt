@@ -8,14 +8,14 @@ use Rattle.spec_client_go.specs.OwedKeys.{Change, keys_of}
 use Rattle.spec_client_go.specs.Shifts.{Shift}
 use Rattle.spec_client_go.specs.WorkQueues.{WorkKey}
 use Rattle.spec_client_go.specs.Boards.{observed, may_tick, ticked}
-use Rattle.spec_sim_cluster.specs.declared.initial_syncs.InitialSync.{InitialSync}
-use Rattle.spec_sim_cluster.specs.Clusters as clusters
-use Rattle.spec_sim_cluster.specs.Clusters.{Cluster, history, follower, with_follower, looks, ClusterStep, restart}
-use Rattle.spec_sim_cluster.specs.Followers.{Notification}
-use Rattle.spec_sim_control_plane.specs.Managers as managers
-use Rattle.spec_sim_control_plane.specs.Managers.{Client, Manager, Action, Acted, act}
-use Rattle.spec_sim_control_plane.specs.Outcomes.{Outcome, of_cluster, handled, time, no_step, was_open}
-use Rattle.spec_sim_control_plane.specs.PodObservations.{observations}
+use Rattle.spec_sim.specs.declared.initial_syncs.InitialSync.{InitialSync}
+use Rattle.spec_sim.specs.Clusters as clusters
+use Rattle.spec_sim.specs.Clusters.{Cluster, history, follower, with_follower, looks, ClusterStep, restart}
+use Rattle.spec_sim.specs.Followers.{Notification}
+use Rattle.spec_sim.specs.Managers as managers
+use Rattle.spec_sim.specs.Managers.{Client, Manager, Action, Acted, act}
+use Rattle.spec_sim.specs.Outcomes.{Outcome, of_cluster, handled, time, no_step, was_open}
+use Rattle.spec_sim.specs.PodObservations.{observations}
 
 -- a cluster, the controller manager, and how many steps were taken
 pub record ControlPlane : Type 0 where

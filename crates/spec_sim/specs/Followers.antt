@@ -9,8 +9,8 @@ use Rattle.spec_client_go.specs.Informers.{Informer, after_publish}
 use Rattle.spec_client_go.specs.Reflectors as reflectors
 use Rattle.spec_client_go.specs.Reflectors.{Reflector, Delta, replace, Listed, Fed, with_list, list_delta, apply_delta}
 use Rattle.spec_client_go.specs.Shifts.{Shift, shifts_of, all_shifts}
-use Rattle.spec_sim_cluster.specs.declared.initial_syncs.InitialSync.{InitialSync}
-use Rattle.spec_sim_cluster.specs.declared.initial_syncs.InitialSync.TheVariants as sync
+use Rattle.spec_sim.specs.declared.initial_syncs.InitialSync.{InitialSync}
+use Rattle.spec_sim.specs.declared.initial_syncs.InitialSync.TheVariants as sync
 
 -- ---- links
 

@@ -5,3 +5,12 @@ pub mod Moves
 pub mod Clusters
 pub mod OutcomeTexts
 pub mod StepLines
+pub mod PodObservations
+pub mod Turns
+pub mod NextSteps
+pub mod Outcomes
+pub mod Managers
+pub mod ControlPlanes
+pub mod ControlPlaneOutcomeTexts
+pub mod ControlPlaneStepLines
+pub mod ControlPlaneCodes

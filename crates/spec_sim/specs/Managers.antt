@@ -14,11 +14,11 @@ use Rattle.spec_client_go.specs.Expectations.{Owner}
 use Rattle.spec_client_go.specs.WorkQueues.{WorkKey, handed}
 use Rattle.spec_client_go.specs.Boards as boards
 use Rattle.spec_client_go.specs.Boards.{Board, is_satisfied, forgotten, expecting_creations, expecting_deletions, requeued}
-use Rattle.spec_sim_control_plane.specs.NextSteps as next_step
-use Rattle.spec_sim_control_plane.specs.NextSteps.{NextStep, next}
-use Rattle.spec_sim_control_plane.specs.Outcomes.{Outcome, no_step, took, looked, satisfied, read, expected, issued, finished}
-use Rattle.spec_sim_control_plane.specs.Turns as turns
-use Rattle.spec_sim_control_plane.specs.Turns.{Turn, Answer, accepted, refused, lost, Expected, with_sight, with_read, with_expected, with_issue, all_accepted, version_answered, owner, taken_back}
+use Rattle.spec_sim.specs.NextSteps as next_step
+use Rattle.spec_sim.specs.NextSteps.{NextStep, next}
+use Rattle.spec_sim.specs.Outcomes.{Outcome, no_step, took, looked, satisfied, read, expected, issued, finished}
+use Rattle.spec_sim.specs.Turns as turns
+use Rattle.spec_sim.specs.Turns.{Turn, Answer, accepted, refused, lost, Expected, with_sight, with_read, with_expected, with_issue, all_accepted, version_answered, owner, taken_back}
 
 -- ---- what a worker can reach
 

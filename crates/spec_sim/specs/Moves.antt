@@ -13,7 +13,7 @@ use Rattle.spec_client_go.specs.declared.reflectors.Phase.{Phase}
 use Rattle.spec_client_go.specs.declared.reflectors.Phase.TheVariants.{Listing, Streaming, Watching}
 use Rattle.spec_client_go.specs.Reflectors as reflectors
 use Rattle.spec_client_go.specs.Reflectors.{Listed, Fed}
-use Rattle.spec_sim_cluster.specs.Followers.{Link, Follower, after_list, after_open, after_stream, after_expiry, after_bytes, after_cut, after_publishing}
+use Rattle.spec_sim.specs.Followers.{Link, Follower, after_list, after_open, after_stream, after_expiry, after_bytes, after_cut, after_publishing}
 
 -- a list is answered and taken in; a watch is opened, or one that begins with all that is there; the server writes the next lines on
 -- it, at most so many, or a bookmark; the next bytes, at most so many, or all, are delivered; the link is cut; what waits is published

@@ -7,7 +7,7 @@ use Rattle.spec_api.specs.Keys.{Key}
 use Rattle.spec_client_go.specs.declared.controller.Controller.{Controller}
 use Rattle.spec_client_go.specs.declared.controller.Controller.TheVariants.{ReplicaSet, Deployment, Collector}
 use Rattle.spec_client_go.specs.Commands.{Command}
-use Rattle.spec_sim_control_plane.specs.Turns.{Turn, Expected, asks, expected, all_accepted, left}
+use Rattle.spec_sim.specs.Turns.{Turn, Expected, asks, expected, all_accepted, left}
 
 -- ---- the order of a turn
 

@@ -3,7 +3,7 @@ use Rattle.std.specs.Prelude.{ℕ, List, [], ◌∷◌, ◌++◌, Option, Some, 
 use Rattle.spec_api.specs.Kinds.{plural}
 use Rattle.spec_client_go.specs.declared.reflectors.End.{End}
 use Rattle.spec_client_go.specs.declared.reflectors.End.TheVariants.{Expired, Unreadable}
-use Rattle.spec_sim_cluster.specs.Moves.{Outcome, replied, no_step, listed, opened, streaming, expired, sent, fed, was_cut, published, restarted}
+use Rattle.spec_sim.specs.Moves.{Outcome, replied, no_step, listed, opened, streaming, expired, sent, fed, was_cut, published, restarted}
 
 -- a line of words, with a space between them
 abbrev pub words_line : List ℕ → List (List ℕ) → List ℕ

@@ -4,8 +4,8 @@ use Rattle.spec_api.specs.declared.kinds.Kind.{Kind}
 use Rattle.spec_api.specs.Keys.{Key}
 use Rattle.spec_client_go.specs.Commands.{Command}
 use Rattle.spec_client_go.specs.WorkQueues.{WorkKey}
-use Rattle.spec_sim_cluster.specs.Moves as moves
-use Rattle.spec_sim_control_plane.specs.Turns.{Answer}
+use Rattle.spec_sim.specs.Moves as moves
+use Rattle.spec_sim.specs.Turns.{Answer}
 
 -- what is told of a step of the cluster; how many keys a change of a kind owed; what a worker did: the key that it took, if one was
 -- queued, the revision of its look at a kind, the answer whether all expected pods have been seen, the version that a live read of a

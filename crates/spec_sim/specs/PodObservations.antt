@@ -11,7 +11,7 @@ use Rattle.spec_client_go.specs.OwnerReferences.{key_named, namespace_of, contro
 use Rattle.spec_client_go.specs.Shifts.{Shift}
 use Rattle.spec_reconcile.specs.PodClaims.{have_one_uid}
 use Rattle.spec_client_go.specs.Boards.{Observation, creation_observed, deletion_observed}
-use Rattle.spec_sim_cluster.specs.Followers.{Notification}
+use Rattle.spec_sim.specs.Followers.{Notification}
 
 -- ---- whose pod it is
 

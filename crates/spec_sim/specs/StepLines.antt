@@ -8,12 +8,12 @@ use Rattle.spec_api.specs.Kinds.{kinds, plural}
 use Rattle.spec_api.specs.Moments.{is_digit}
 use Rattle.spec_api.specs.Revisions.{revision_of}
 use Rattle.spec_line_protocol.specs.Lines.{cut, lines_of}
-use Rattle.spec_sim_cluster.specs.declared.initial_syncs.InitialSync.{InitialSync}
-use Rattle.spec_sim_cluster.specs.declared.initial_syncs.InitialSync.TheVariants as sync
-use Rattle.spec_sim_cluster.specs.Moves as move
-use Rattle.spec_sim_cluster.specs.Moves.{Move}
-use Rattle.spec_sim_cluster.specs.Clusters.{Cluster, opened, ClusterStep, request, compact, moves, restart, step}
-use Rattle.spec_sim_cluster.specs.OutcomeTexts.{outcome_text}
+use Rattle.spec_sim.specs.declared.initial_syncs.InitialSync.{InitialSync}
+use Rattle.spec_sim.specs.declared.initial_syncs.InitialSync.TheVariants as sync
+use Rattle.spec_sim.specs.Moves as move
+use Rattle.spec_sim.specs.Moves.{Move}
+use Rattle.spec_sim.specs.Clusters.{Cluster, opened, ClusterStep, request, compact, moves, restart, step}
+use Rattle.spec_sim.specs.OutcomeTexts.{outcome_text}
 
 -- ---- words
 

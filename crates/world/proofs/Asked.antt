@@ -1,8 +1,8 @@
 -- What workers ask of the server of a world can be read of bytes.
 use Rattle.std.proofs.Common.{◌≡◌, sym, subst, ℕ, IfSome}
 use Rattle.spec_api.specs.Reached.{CanBeRead}
-use Rattle.spec_sim_control_plane.specs.ControlPlanes as planes
-use Rattle.spec_sim_control_plane.specs.Managers.{Action, Acted, act}
+use Rattle.spec_sim.specs.ControlPlanes as planes
+use Rattle.spec_sim.specs.Managers.{Action, Acted, act}
 use Rattle.sim_control_plane_laws.proofs.Asking.{asks_readable}
 use Rattle.sim_control_plane_laws.proofs.PlaneRuns.{all_well}
 use Rattle.sim_manager.specs.Reached.{client_of, CanBeAsked}

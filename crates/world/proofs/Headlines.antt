@@ -5,10 +5,10 @@ use Rattle.spec_api.specs.declared.kinds.Kind.{Kind}
 use Rattle.spec_server.specs.Snapshots.{Snapshot}
 use Rattle.spec_client_go.specs.Commands.{Command}
 use Rattle.spec_client_go.specs.Hands.{Read}
-use Rattle.spec_sim_cluster.specs.Clusters as clusters
-use Rattle.spec_sim_control_plane.specs.ControlPlanes.{Step}
-use Rattle.spec_sim_control_plane.specs.Managers.{Manager, Issued}
-use Rattle.spec_sim_control_plane.specs.Turns.{Turn, Sight, looked, satisfied}
+use Rattle.spec_sim.specs.Clusters as clusters
+use Rattle.spec_sim.specs.ControlPlanes.{Step}
+use Rattle.spec_sim.specs.Managers.{Manager, Issued}
+use Rattle.spec_sim.specs.Turns.{Turn, Sight, looked, satisfied}
 use Rattle.sim_worker_laws.specs.IssuedLaws.{IsNext, IsSeen, WasPublished, WasThere}
 use Rattle.sim_worker_laws.specs.LookLaws.{WasIssued}
 use Rattle.sim_worker_laws.specs.TurnLaws.{AreApart}

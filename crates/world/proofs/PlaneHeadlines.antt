@@ -7,12 +7,12 @@ use Rattle.spec_api.specs.Metadata.{version}
 use Rattle.spec_api.specs.ObjectRequests.{Request}
 use Rattle.spec_api.specs.Verbs.{Outcome, accept, history_after, write_of}
 use Rattle.spec_laws.specs.LifecycleLaws.{ReplacesVersion}
-use Rattle.spec_sim_cluster.specs.Clusters.{history, follower, request, compact, moves, restart}
+use Rattle.spec_sim.specs.Clusters.{history, follower, request, compact, moves, restart}
 use Rattle.sim_cluster_laws.specs.ClusterLaws.{NamesVersion}
-use Rattle.spec_sim_control_plane.specs.ControlPlanes.{ControlPlane, Step, in_cluster, handle, works, tick, step}
-use Rattle.spec_sim_control_plane.specs.Managers.{Manager}
-use Rattle.spec_sim_control_plane.specs.Managers as action
-use Rattle.spec_sim_control_plane.specs.Turns.{Turn, begun}
+use Rattle.spec_sim.specs.ControlPlanes.{ControlPlane, Step, in_cluster, handle, works, tick, step}
+use Rattle.spec_sim.specs.Managers.{Manager}
+use Rattle.spec_sim.specs.Managers as action
+use Rattle.spec_sim.specs.Turns.{Turn, begun}
 use Rattle.spec_client_go.specs.WorkQueues.{WorkKey}
 use Rattle.sim_worker_laws.specs.TakeLaws.{HasInHand, HasNothing, TakesTheHead}
 use Rattle.sim_worker_laws.proofs.IssuedRuns.{run_one}

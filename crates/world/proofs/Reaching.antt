@@ -7,8 +7,8 @@ use Rattle.spec_api.specs.ObjectRequests.{Request}
 use Rattle.spec_laws.proofs.VerbLaws.{found-state}
 use Rattle.spec_server.specs.Snapshots.{Snapshot}
 use Rattle.line_session.proofs.Followed.{same_outcome}
-use Rattle.spec_sim_cluster.specs.Clusters.{Cluster, history}
-use Rattle.spec_sim_control_plane.specs.ControlPlanes as planes
+use Rattle.spec_sim.specs.Clusters.{Cluster, history}
+use Rattle.spec_sim.specs.ControlPlanes as planes
 use Rattle.sim_cluster.proofs.Requests.{stands_after}
 use Rattle.sim_cluster.proofs.Stood.{same_follower}
 use Rattle.sim_cluster.specs.ClusterStates.{ClusterState}

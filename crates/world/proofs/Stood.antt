@@ -1,9 +1,9 @@
 -- A world stands for the control plane that was opened, after the steps that were taken.
 use Rattle.std.proofs.Common.{◌≡◌, sym, ap, subst, ◌∙◌, ℕ, List, [], ◌∷◌, Result, Ok, Err, IfOk, OnOk, append-nil, append_assoc}
-use Rattle.spec_sim_cluster.specs.declared.initial_syncs.InitialSync.{InitialSync}
-use Rattle.spec_sim_control_plane.specs.ControlPlanes as planes
-use Rattle.spec_sim_control_plane.specs.ControlPlanes.{ControlPlane, Step}
-use Rattle.spec_sim_control_plane.specs.Outcomes.{Outcome}
+use Rattle.spec_sim.specs.declared.initial_syncs.InitialSync.{InitialSync}
+use Rattle.spec_sim.specs.ControlPlanes as planes
+use Rattle.spec_sim.specs.ControlPlanes.{ControlPlane, Step}
+use Rattle.spec_sim.specs.Outcomes.{Outcome}
 use Rattle.sim_worker_laws.proofs.IssuedRuns.{run_one}
 use Rattle.sim_traces.specs.Taken.{Taken, begun, opening, plane, followed, followed_by_all}
 use Rattle.world.proofs.StoredStood as stored

@@ -6,15 +6,15 @@ use Rattle.spec_client_go.specs.Informers.{Looks}
 use Rattle.spec_client_go.specs.OwedKeys.{keys_of}
 use Rattle.spec_client_go.specs.WorkQueues.{WorkKey}
 use Rattle.spec_client_go.specs.Boards.{observed, may_tick, ticked}
-use Rattle.spec_sim_cluster.specs.declared.initial_syncs.InitialSync.{InitialSync}
-use Rattle.spec_sim_cluster.specs.Clusters as clusters
-use Rattle.spec_sim_cluster.specs.Clusters.{Cluster, ClusterStep}
-use Rattle.spec_sim_cluster.specs.Followers.{Follower, Notification}
-use Rattle.spec_sim_control_plane.specs.ControlPlanes as planes
-use Rattle.spec_sim_control_plane.specs.ControlPlanes.{ControlPlane, Step, in_cluster, handle, works, tick, change_of, manager_after, counted, step_in}
-use Rattle.spec_sim_control_plane.specs.Managers.{Manager, Action, Acted, act}
-use Rattle.spec_sim_control_plane.specs.Outcomes.{of_cluster, handled, time}
-use Rattle.spec_sim_control_plane.specs.PodObservations.{observations}
+use Rattle.spec_sim.specs.declared.initial_syncs.InitialSync.{InitialSync}
+use Rattle.spec_sim.specs.Clusters as clusters
+use Rattle.spec_sim.specs.Clusters.{Cluster, ClusterStep}
+use Rattle.spec_sim.specs.Followers.{Follower, Notification}
+use Rattle.spec_sim.specs.ControlPlanes as planes
+use Rattle.spec_sim.specs.ControlPlanes.{ControlPlane, Step, in_cluster, handle, works, tick, change_of, manager_after, counted, step_in}
+use Rattle.spec_sim.specs.Managers.{Manager, Action, Acted, act}
+use Rattle.spec_sim.specs.Outcomes.{of_cluster, handled, time}
+use Rattle.spec_sim.specs.PodObservations.{observations}
 use Rattle.sim_worker_laws.proofs.Counting.{by_counted}
 use Rattle.sim_cluster.specs.Changes.{looks}
 use Rattle.sim_cluster.specs.ClusterStates.{ClusterState, follower}

@@ -6,15 +6,15 @@ use Rattle.std.proofs.lemmas.List.{length-map}
 use Rattle.spec_api.specs.declared.kinds.Kind.{Kind}
 use Rattle.spec_client_go.specs.WorkQueues as queues
 use Rattle.spec_client_go.specs.Boards.{Observation, observed, may_tick, passed, ticked}
-use Rattle.spec_sim_cluster.specs.declared.initial_syncs.InitialSync.{InitialSync}
-use Rattle.spec_sim_cluster.specs.Clusters.{ClusterStep}
-use Rattle.spec_sim_cluster.specs.Followers.{Notification}
-use Rattle.spec_sim_control_plane.specs.ControlPlanes.{in_cluster, handle, works, tick, manager_after}
-use Rattle.spec_sim_control_plane.specs.Managers as managers
-use Rattle.spec_sim_control_plane.specs.Managers.{Manager, Action, Acted, act}
-use Rattle.spec_sim_control_plane.specs.Outcomes as outcomes
-use Rattle.spec_sim_control_plane.specs.Outcomes.{time}
-use Rattle.spec_sim_control_plane.specs.PodObservations.{observations}
+use Rattle.spec_sim.specs.declared.initial_syncs.InitialSync.{InitialSync}
+use Rattle.spec_sim.specs.Clusters.{ClusterStep}
+use Rattle.spec_sim.specs.Followers.{Notification}
+use Rattle.spec_sim.specs.ControlPlanes.{in_cluster, handle, works, tick, manager_after}
+use Rattle.spec_sim.specs.Managers as managers
+use Rattle.spec_sim.specs.Managers.{Manager, Action, Acted, act}
+use Rattle.spec_sim.specs.Outcomes as outcomes
+use Rattle.spec_sim.specs.Outcomes.{time}
+use Rattle.spec_sim.specs.PodObservations.{observations}
 use Rattle.sim_cluster.specs.Changes.{without_oldest}
 use Rattle.sim_cluster.specs.ClusterStates as clusters
 use Rattle.sim_cluster.specs.ClusterStates.{ClusterState, follower}

@@ -12,15 +12,15 @@ use Rattle.spec_api.specs.ObjectRequests.{Request}
 use Rattle.spec_client_go.specs.Commands.{Command}
 use Rattle.spec_client_go.specs.Expectations.{Owner}
 use Rattle.spec_client_go.specs.WorkQueues.{WorkKey}
-use Rattle.spec_sim_cluster.specs.Clusters as clusters
-use Rattle.spec_sim_cluster.specs.Clusters.{follower, request, moves}
-use Rattle.spec_sim_cluster.specs.Followers.{Notification}
-use Rattle.spec_sim_cluster.specs.Moves.{publish}
+use Rattle.spec_sim.specs.Clusters as clusters
+use Rattle.spec_sim.specs.Clusters.{follower, request, moves}
+use Rattle.spec_sim.specs.Followers.{Notification}
+use Rattle.spec_sim.specs.Moves.{publish}
 use Rattle.sim_cluster_laws.specs.ClusterLaws.{Asks, NamesVersion}
-use Rattle.spec_sim_control_plane.specs.ControlPlanes as planes
-use Rattle.spec_sim_control_plane.specs.ControlPlanes.{ControlPlane, Step, in_cluster, works, client, have_all_listed}
-use Rattle.spec_sim_control_plane.specs.Managers.{Issued, Action, act, take}
-use Rattle.spec_sim_control_plane.specs.Turns.{Turn, begun}
+use Rattle.spec_sim.specs.ControlPlanes as planes
+use Rattle.spec_sim.specs.ControlPlanes.{ControlPlane, Step, in_cluster, works, client, have_all_listed}
+use Rattle.spec_sim.specs.Managers.{Issued, Action, act, take}
+use Rattle.spec_sim.specs.Turns.{Turn, begun}
 use Rattle.sim_worker_laws.specs.IssuedLaws.{IsNext, WasThere}
 use Rattle.sim_worker_laws.specs.LookLaws.{WasPublishedSince, IsUnderWay, WasIssued}
 use Rattle.sim_worker_laws.specs.OwedLaws.{IsAmong, NoRestart, IsKept, published}

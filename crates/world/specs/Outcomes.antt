@@ -1,7 +1,7 @@
 -- What comes of a step, as the definitions have it.
 use Rattle.sim_followers.specs.Outcomes as followers
 use Rattle.sim_manager.specs.Outcomes as managers
-use Rattle.spec_sim_control_plane.specs.Outcomes as outcomes
+use Rattle.spec_sim.specs.Outcomes as outcomes
 use Rattle.world.specs.declared.outcomes.Outcome.{Outcome}
 use Rattle.world.specs.declared.outcomes.Outcome.TheVariants.{InCluster, Work}
 

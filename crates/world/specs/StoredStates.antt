@@ -5,14 +5,14 @@ use Rattle.spec_api.specs.declared.kinds.Kind.{Kind}
 use Rattle.spec_client_go.specs.Boards.{observed, may_tick, ticked}
 use Rattle.spec_client_go.specs.OwedKeys.{keys_of}
 use Rattle.spec_client_go.specs.WorkQueues.{WorkKey}
-use Rattle.spec_sim_cluster.specs.declared.initial_syncs.InitialSync.{InitialSync}
-use Rattle.spec_sim_cluster.specs.Clusters.{ClusterStep}
-use Rattle.spec_sim_cluster.specs.Followers.{Notification}
-use Rattle.spec_sim_control_plane.specs.ControlPlanes.{Step, in_cluster, handle, works, tick, change_of, manager_after}
-use Rattle.spec_sim_control_plane.specs.Managers as managers
-use Rattle.spec_sim_control_plane.specs.Managers.{Manager, Acted, act}
-use Rattle.spec_sim_control_plane.specs.Outcomes.{Outcome, of_cluster, handled, time, no_step}
-use Rattle.spec_sim_control_plane.specs.PodObservations.{observations}
+use Rattle.spec_sim.specs.declared.initial_syncs.InitialSync.{InitialSync}
+use Rattle.spec_sim.specs.Clusters.{ClusterStep}
+use Rattle.spec_sim.specs.Followers.{Notification}
+use Rattle.spec_sim.specs.ControlPlanes.{Step, in_cluster, handle, works, tick, change_of, manager_after}
+use Rattle.spec_sim.specs.Managers as managers
+use Rattle.spec_sim.specs.Managers.{Manager, Acted, act}
+use Rattle.spec_sim.specs.Outcomes.{Outcome, of_cluster, handled, time, no_step}
+use Rattle.spec_sim.specs.PodObservations.{observations}
 use Rattle.sim_cluster.specs.Changes.{looks, without_oldest}
 use Rattle.sim_cluster.specs.ClusterStates as clusters
 use Rattle.sim_cluster.specs.ClusterStates.{ClusterState, coded_cluster, follower}

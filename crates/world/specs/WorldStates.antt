@@ -1,9 +1,9 @@
 -- A world: what is stored of it, with what it was opened, and the steps that it took since.
 use Rattle.std.specs.Prelude.{ℕ, List, [], ◌∷◌, refl}
 use Rattle.std.specs.Coded.{Coded, code_by, coded×}
-use Rattle.spec_sim_cluster.specs.declared.initial_syncs.InitialSync.{InitialSync}
-use Rattle.spec_sim_control_plane.specs.ControlPlanes.{Step}
-use Rattle.spec_sim_control_plane.specs.Outcomes.{Outcome}
+use Rattle.spec_sim.specs.declared.initial_syncs.InitialSync.{InitialSync}
+use Rattle.spec_sim.specs.ControlPlanes.{Step}
+use Rattle.spec_sim.specs.Outcomes.{Outcome}
 use Rattle.sim_traces.specs.Codes.{coded_taken}
 use Rattle.sim_traces.specs.Taken as traces
 use Rattle.sim_traces.specs.Taken.{Taken, followed}

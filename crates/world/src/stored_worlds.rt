@@ -2,7 +2,7 @@
 ghost use Rattle.std.specs.Prelude.{◌≡◌, IfOk, map};
 ghost use Rattle.work_board.specs.Seen.{observation_of};
 ghost use Rattle.sim_followers.specs.Notified.{notification_of};
-ghost use Rattle.spec_sim_control_plane.specs.PodObservations.{observations};
+ghost use Rattle.spec_sim.specs.PodObservations.{observations};
 ghost use Rattle.work_keys.specs.WorkKeys.{work_key_of};
 ghost use Rattle.world.specs.StoredStates.{owed};
 
@@ -73,7 +73,7 @@ impl StoredWorld {
     ghost use Rattle.std.specs.Arc.{arc_value};
     ghost use Rattle.sim_cluster.specs.ClusterStates.{follower};
     ghost use Rattle.sim_manager.specs.Reached.{client_of};
-    ghost use Rattle.spec_sim_control_plane.specs.Managers.{act};
+    ghost use Rattle.spec_sim.specs.Managers.{act};
     ghost use Rattle.sim_steps.specs.Actions.{action_of};
     ghost use Rattle.sim_steps.specs.PlaneSteps.{plane_step_of};
     ghost use Rattle.sim_steps.specs.Steps.{step_of};

@@ -33,7 +33,7 @@ impl Model for World {
 impl World {
     ghost use Rattle.std.specs.Prelude.{◌≡◌, ◌<◌, IfOk, IfErr, OnOk, OnErr, length, map, take};
     ghost use Rattle.std.specs.Arc.{arc_value};
-    ghost use Rattle.spec_sim_control_plane.specs.ControlPlanes as planes;
+    ghost use Rattle.spec_sim.specs.ControlPlanes as planes;
     ghost use Rattle.sim_server.specs.Entries.{entry_of};
     ghost use Rattle.sim_steps.specs.PlaneSteps.{plane_step_of};
     ghost use Rattle.sim_traces.specs.Taken.{plane, followed, followed_by_all};

@@ -2,7 +2,7 @@
 use Rattle.std.proofs.Common.{ap, subst}
 use Rattle.std.specs.Str.{IsUtf8}
 use Rattle.std.proofs.lemmas.Str.{IsUtf8-string_bytes}
-use Rattle.spec_sim_control_plane.specs.Turns.{accepted}
+use Rattle.spec_sim.specs.Turns.{accepted}
 use Rattle.reconcile_turn.specs.Seen.{data_of}
 use Rattle.manager_worker.proofs.answers.accepted.Goals as goal
 

@@ -2,7 +2,7 @@ use Rattle.std.proofs.Common.{◌≡◌, ◌∙◌, ap, sym, map}
 use Rattle.spec_client_go.specs.Boards.{deletion_observed}
 use Rattle.work_board.specs.Seen.{observation_of}
 use Rattle.spec_client_go.specs.Expectations.{Owner}
-use Rattle.spec_sim_control_plane.specs.PodObservations.{sets_of, deletion}
+use Rattle.spec_sim.specs.PodObservations.{sets_of, deletion}
 use Rattle.pod_observations.proofs.Deletions.{deletion_is, told}
 use Rattle.pod_observations.proofs.showing.deletion.Goals as goal
 

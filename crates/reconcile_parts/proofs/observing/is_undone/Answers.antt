@@ -3,7 +3,7 @@ use Rattle.std.specs.Arc.{arc_value}
 use Rattle.std.specs.Global.{Global}
 use Rattle.std.specs.declared.sync.Arc.{Arc}
 use Rattle.std.proofs.lemmas.Option.{slice_get_past, slice_get_read, slice_get-map}
-use Rattle.spec_sim_control_plane.specs.Turns as turns
+use Rattle.spec_sim.specs.Turns as turns
 use Rattle.reconcile_parts.specs.Answers.{is_undone}
 use Rattle.reconcile_parts.specs.Seen.{answer_of}
 use Rattle.reconcile_parts.specs.declared.answers.CommandAnswer.{CommandAnswer}

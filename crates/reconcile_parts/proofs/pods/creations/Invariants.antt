@@ -1,5 +1,5 @@
 use Rattle.std.proofs.Common.{◌≡◌, ℕ, ◌+◌, ◌≤◌, length, drop, filter}
-use Rattle.spec_sim_control_plane.specs.Turns.{creates_pod}
+use Rattle.spec_sim.specs.Turns.{creates_pod}
 use Rattle.reconcile_parts.specs.Pods.{commands_lent}
 use Rattle.reconcile_parts.proofs.pods.creations.Given as goal
 

@@ -1,5 +1,5 @@
 use Rattle.std.proofs.Common.{◌≡◌, ◌++◌, map, drop, filter_map, string_bytes}
-use Rattle.spec_sim_control_plane.specs.Turns.{pod_deleted}
+use Rattle.spec_sim.specs.Turns.{pod_deleted}
 use Rattle.reconcile_parts.specs.Pods.{commands_lent}
 use Rattle.reconcile_parts.proofs.pods.deletions.Given as goal
 

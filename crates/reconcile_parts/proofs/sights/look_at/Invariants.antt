@@ -1,5 +1,5 @@
 use Rattle.std.proofs.Common.{◌≡◌, map, drop}
-use Rattle.spec_sim_control_plane.specs.Turns.{shown}
+use Rattle.spec_sim.specs.Turns.{shown}
 use Rattle.reconcile_parts.specs.Seen.{sight_of}
 use Rattle.reconcile_parts.proofs.sights.look_at.Given as goal
 

@@ -1,5 +1,5 @@
 use Rattle.std.proofs.Common.{◌≡◌, map, drop}
-use Rattle.spec_sim_control_plane.specs.Turns.{was_satisfied}
+use Rattle.spec_sim.specs.Turns.{was_satisfied}
 use Rattle.reconcile_parts.specs.Seen.{sight_of}
 use Rattle.reconcile_parts.proofs.sights.was_satisfied.Given as goal
 

@@ -1,5 +1,5 @@
 use Rattle.std.proofs.Common.{rules}
-use Rattle.spec_sim_control_plane.specs.Turns.{asks_by}
+use Rattle.spec_sim.specs.Turns.{asks_by}
 use Rattle.reconcile_turn.proofs.planning.asks.Goals as goal
 
 pub returns-in-ReplicaSet : goal.returns-in-ReplicaSet

@@ -1,6 +1,6 @@
 use Rattle.std.proofs.Common.{◌≡◌, [], map, length, sym, ap}
 use Rattle.std.proofs.lemmas.List.{length-map}
-use Rattle.spec_sim_control_plane.specs.NextSteps.{unseen}
+use Rattle.spec_sim.specs.NextSteps.{unseen}
 use Rattle.reconcile_types.specs.Commands.{commands_of}
 use Rattle.reconcile_types.specs.Hands.{hand_of, reads_of}
 use Rattle.work_keys.specs.WorkKeys.{work_key_of}

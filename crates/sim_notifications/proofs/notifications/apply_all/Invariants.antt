@@ -1,7 +1,7 @@
 use Rattle.std.proofs.Common.{◌≡◌, ◌++◌, map, drop}
 use Rattle.spec_client_go.specs.Informers.{all_applied}
 use Rattle.reflector.specs.Deltas.{deltas_of}
-use Rattle.spec_sim_cluster.specs.Followers.{notifications}
+use Rattle.spec_sim.specs.Followers.{notifications}
 use Rattle.sim_notifications.specs.Notified.{notification_of}
 use Rattle.sim_notifications.proofs.notifications.apply_all.Given as goal
 

@@ -1,6 +1,6 @@
 use Rattle.std.proofs.Common.{◌≡◌, ◌++◌, map}
 use Rattle.indexer.specs.Shifted.{shift_of}
-use Rattle.spec_sim_cluster.specs.Followers.{notified}
+use Rattle.spec_sim.specs.Followers.{notified}
 use Rattle.sim_notifications.specs.Notified.{notification_of}
 use Rattle.sim_notifications.proofs.notifications.notify.Given as goal
 

@@ -1,5 +1,5 @@
 use Rattle.std.proofs.Common.{ap, ◌∙◌}
-use Rattle.spec_sim_control_plane.specs.StepLines.{step_asked}
+use Rattle.spec_sim.specs.ControlPlaneStepLines.{step_asked}
 use Rattle.sim_service.specs.SimulationStates.{told_by_stored, opened_stored}
 use Rattle.sim_service.proofs.simulations.first_step.Goals as goal
 

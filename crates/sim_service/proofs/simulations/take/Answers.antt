@@ -1,5 +1,5 @@
 use Rattle.std.proofs.Common.{refl}
-use Rattle.spec_sim_control_plane.specs.StepLines.{step_asked}
+use Rattle.spec_sim.specs.ControlPlaneStepLines.{step_asked}
 use Rattle.sim_service.proofs.Taken.{told_of_step, world_of_step, nothing_told, nothing_taken, unchanged}
 use Rattle.sim_service.proofs.simulations.take.Goals as goal
 use Rattle.sim_service.specs.SimulationStates.{told_by_stored, stored_after}

@@ -2,8 +2,8 @@ use Rattle.std.proofs.Common.{map, ap, ◌∙◌}
 use Rattle.work_board.specs.Seen.{observation_of}
 use Rattle.spec_client_go.specs.OwedKeys.{keys_of}
 use Rattle.indexer.specs.Shifted.{shift_of}
-use Rattle.spec_sim_control_plane.specs.ControlPlanes.{change_of}
-use Rattle.spec_sim_control_plane.specs.PodObservations.{observations}
+use Rattle.spec_sim.specs.ControlPlanes.{change_of}
+use Rattle.spec_sim.specs.PodObservations.{observations}
 use Rattle.control_desk.specs.Desks.{known}
 use Rattle.reconcile_types.specs.Hands.{looks_of}
 use Rattle.work_keys.specs.WorkKeys.{work_key_of}

@@ -2,7 +2,7 @@ use Rattle.std.proofs.Common.{◌≡◌, ◌∙◌, ◌<◌, ◌^◌, List, leng
 use Rattle.std.specs.Arc.{arc_value}
 use Rattle.spec_client_go.specs.Commands as commands
 use Rattle.work_board.specs.Seen.{owner_of}
-use Rattle.spec_sim_control_plane.specs.Turns.{owner, creates_pod}
+use Rattle.spec_sim.specs.Turns.{owner, creates_pod}
 use Rattle.reconcile_types.specs.Commands.{command_of, commands_of}
 use Rattle.reconcile_parts.specs.Pods.{commands_lent}
 use Rattle.reconcile_parts.proofs.Phases.{few_creations}

@@ -2,7 +2,7 @@ use Rattle.std.proofs.Common.{◌≡◌, ◌∙◌, ◌&&◌, false, not, ap, su
 use Rattle.std.proofs.lemmas.List.{length-map}
 use Rattle.std.specs.Global.{Global}
 use Rattle.std.specs.declared.sync.Arc.{Arc}
-use Rattle.spec_sim_control_plane.specs.NextSteps.{issuing}
+use Rattle.spec_sim.specs.NextSteps.{issuing}
 use Rattle.reconcile_types.specs.declared.commands.Plan.{Plan}
 use Rattle.reconcile_parts.specs.NextCommands.{IsCommandNext}
 use Rattle.reconcile_parts.specs.Seen.{answer_of}

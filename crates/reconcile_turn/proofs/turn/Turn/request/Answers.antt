@@ -3,8 +3,8 @@ use Rattle.std.specs.Global.{Global}
 use Rattle.std.specs.declared.sync.Arc.{Arc}
 use Rattle.spec_client_go.specs.Commands as commands
 use Rattle.spec_api.specs.ObjectRequests as verbs
-use Rattle.spec_sim_control_plane.specs.Managers.{requested}
-use Rattle.spec_sim_control_plane.specs.NextSteps.{NextStep}
+use Rattle.spec_sim.specs.Managers.{requested}
+use Rattle.spec_sim.specs.NextSteps.{NextStep}
 use Rattle.reconcile_types.specs.Commands.{command_of}
 use Rattle.reconcile_parts.specs.Answers.{answers_of, last_version}
 use Rattle.reconcile_parts.specs.Seen.{command_issued}

@@ -5,7 +5,7 @@ use Rattle.std.specs.declared.sync.Arc.{Arc}
 use Rattle.spec_client_go.specs.Commands as commands
 use Rattle.spec_client_go.specs.Expectations as expectations
 use Rattle.work_board.specs.Seen.{owner_of}
-use Rattle.spec_sim_control_plane.specs.Turns.{owner, taken_back, taken_back_by, undone}
+use Rattle.spec_sim.specs.Turns.{owner, taken_back, taken_back_by, undone}
 use Rattle.reconcile_types.specs.Commands.{command_of, commands_of}
 use Rattle.reconcile_parts.specs.Answers.{answers_of, undone_of}
 use Rattle.reconcile_parts.specs.Pods.{commands_lent}

@@ -1,5 +1,5 @@
 use Rattle.std.proofs.Common.{◌≡◌, ◌∙◌, sym, ap, subst, option_map, Some}
-use Rattle.spec_sim_control_plane.specs.Managers.{Manager}
+use Rattle.spec_sim.specs.Managers.{Manager}
 use Rattle.sim_steps.specs.Actions.{delivery_of}
 use Rattle.sim_manager.specs.Issuing.{coming_of}
 use Rattle.sim_worker_slots.specs.Slots.{turn_of}

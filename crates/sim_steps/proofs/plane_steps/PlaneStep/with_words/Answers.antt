@@ -1,5 +1,5 @@
 use Rattle.std.proofs.Common.{◌∙◌, ap, sym, List, ℕ, Option, option_map, Bor}
-use Rattle.spec_sim_control_plane.specs.StepLines.{works_as}
+use Rattle.spec_sim.specs.ControlPlaneStepLines.{works_as}
 use Rattle.sim_steps.specs.PlaneSteps.{plane_step_by_words}
 use Rattle.sim_steps.proofs.plane_steps.PlaneStep.with_words.Goals as goal
 

@@ -1,9 +1,0 @@
-pub mod PodObservations
-pub mod Turns
-pub mod NextSteps
-pub mod Outcomes
-pub mod Managers
-pub mod ControlPlanes
-pub mod OutcomeTexts
-pub mod StepLines
-pub mod Codes
