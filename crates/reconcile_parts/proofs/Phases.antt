@@ -11,8 +11,8 @@ use Rattle.spec_client_go.specs.WorkQueues.{WorkKey}
 use Rattle.spec_api.specs.Keys.{Key as Name}
 use Rattle.object_keys.specs.Keys.{key_of}
 use Rattle.object_keys.specs.declared.key.Key.{Key}
-use Rattle.reconcile_laws.proofs.PlanLaws.{turns_are_bounded}
-use Rattle.reconcile_laws.specs.ReplicaSetLaws.{created}
+use Rattle.spec_laws.proofs.PlanLaws.{turns_are_bounded}
+use Rattle.spec_laws.specs.ReplicaSetLaws.{created}
 use Rattle.spec_reconcile.specs.ReplicaSets as replica_sets
 use Rattle.spec_sim.specs.NextSteps as steps
 use Rattle.spec_sim.specs.NextSteps.{NextStep, Sighting, of_kind, of_expectations, next, seeing, expect, issue, finish, look, ask_satisfied, first, unseen, expecting, issuing}

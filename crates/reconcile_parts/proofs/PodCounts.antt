@@ -2,7 +2,7 @@
 use Rattle.std.proofs.Common.{◌≡◌, ◌≤◌, List, [], ◌∷◌, length, filter, is_some, Some, refl, arith}
 use Rattle.spec_client_go.specs.Commands.{Command, create, update, update_status, delete}
 use Rattle.spec_client_go.specs.Expectations.{Owner}
-use Rattle.reconcile_laws.specs.ReplicaSetLaws.{created}
+use Rattle.spec_laws.specs.ReplicaSetLaws.{created}
 use Rattle.spec_sim.specs.Turns.{creates_pod, expected_by}
 use Rattle.reconcile_parts.specs.Pods.{makes_pods}
 

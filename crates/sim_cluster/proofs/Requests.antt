@@ -5,8 +5,8 @@ use Rattle.spec_api.specs.History.{History, Write}
 use Rattle.spec_api.specs.ObjectRequests.{Request}
 use Rattle.spec_api.specs.Reached.{CanBeRead, asks}
 use Rattle.spec_api.specs.Verbs.{accept, history_after, overflows, with_write, write_of}
-use Rattle.reply_laws.specs.AnswerLaws.{IsOfObject}
-use Rattle.reply_laws.proofs.ReadBacks.{answers_back}
+use Rattle.spec_laws.specs.AnswerLaws.{IsOfObject}
+use Rattle.spec_laws.proofs.ReadBacks.{answers_back}
 use Rattle.spec_laws.proofs.Limits.{room}
 use Rattle.spec_laws.proofs.Runs.{nothing, begins-write}
 use Rattle.spec_laws.proofs.ServerHistories.{accepted_holds}

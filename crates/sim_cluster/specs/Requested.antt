@@ -4,7 +4,7 @@ use Rattle.spec_api.specs.History.{Write}
 use Rattle.spec_api.specs.ObjectRequests.{Request}
 use Rattle.spec_api.specs.Reached.{CanBeRead}
 use Rattle.spec_api.specs.Verbs.{Answer, Outcome, answered, with_write, write_of}
-use Rattle.reply_laws.specs.AnswerLaws.{IsReadBack}
+use Rattle.spec_laws.specs.AnswerLaws.{IsReadBack}
 use Rattle.line_session.specs.SessionStates.{SessionState, accepted, changed_by, of_write}
 use Rattle.sim_cluster.specs.ClusterStates.{ClusterState}
 

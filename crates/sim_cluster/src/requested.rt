@@ -8,7 +8,7 @@ use std::alloc::{AllocError, Global};
 
 impl Cluster {
     ghost use Rattle.std.specs.Prelude.{◌≡◌, OnOk, OnErr, option_map};
-    ghost use Rattle.reply_laws.specs.AnswerLaws.{IsOfObject};
+    ghost use Rattle.spec_laws.specs.AnswerLaws.{IsOfObject};
     ghost use Rattle.verb_parts.specs.Serves.{Serves};
     ghost use Rattle.spec_api.specs.History.{found};
     ghost use Rattle.spec_api.specs.Reached.{CanBeRead};

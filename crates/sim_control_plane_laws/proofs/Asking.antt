@@ -11,8 +11,8 @@ use Rattle.spec_client_go.specs.declared.controller.Controller.TheVariants as co
 use Rattle.spec_client_go.specs.Commands.{Command, create, update, update_status, delete}
 use Rattle.spec_client_go.specs.Hands.{Hand, Read}
 use Rattle.spec_client_go.specs.WorkQueues.{WorkKey, handed}
-use Rattle.reconcile_laws.specs.AskedLaws.{AreStored, IsOfServer, CanBeAsked, AllCanBeAsked}
-use Rattle.reconcile_laws.proofs.AskedPlans.{plans_asked}
+use Rattle.spec_laws.specs.AskedLaws.{AreStored, IsOfServer, CanBeAsked, AllCanBeAsked}
+use Rattle.spec_laws.proofs.AskedPlans.{plans_asked}
 use Rattle.spec_sim.specs.Managers.{Client, Manager, Action, Acted, Delivery, delivered, answer_lost, dropped, take_key, carry_out, act, reaching, requested}
 use Rattle.spec_sim.specs.NextSteps.{NextStep, look, ask_satisfied, read, expect, issue, finish, next}
 use Rattle.spec_sim.specs.Turns.{Turn, Sight, looked, satisfied, hand, shown, commands, plan_by}

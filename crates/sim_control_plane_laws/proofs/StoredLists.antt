@@ -13,8 +13,8 @@ use Rattle.spec_laws.proofs.EachWrite.{AllPut, listed_put}
 use Rattle.spec_laws.proofs.Limited.{limited}
 use Rattle.spec_laws.proofs.ParsedEdits.{IsParsedAt, all_put, stored_parsed}
 use Rattle.spec_laws.proofs.ValidNames.{IsValidAt, all_valid}
-use Rattle.reconcile_laws.specs.AskedLaws.{IsStoredAs, AreStored}
-use Rattle.reconcile_laws.proofs.AskedReplicaSets.{fewer}
+use Rattle.spec_laws.specs.AskedLaws.{IsStoredAs, AreStored}
+use Rattle.spec_laws.proofs.AskedReplicaSets.{fewer}
 
 -- ---- what is written
 

@@ -1,7 +1,7 @@
 -- What a worker learns of its command.
 use Rattle.std.proofs.Common.{◌≡◌, ℕ, List, Option, Ok, refl, option_map}
 use Rattle.std.specs.Prelude.{string_bytes}
-use Rattle.reply_laws.specs.AnswerLaws.{IsOfObject}
+use Rattle.spec_laws.specs.AnswerLaws.{IsOfObject}
 use Rattle.verb_parts.specs.Serves.{Serves}
 use Rattle.sim_cluster.specs.Requested.{IsRead}
 use Rattle.spec_client_go.specs.Commands.{Command, create, update, update_status, delete, request_of}

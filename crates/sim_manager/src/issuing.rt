@@ -1,7 +1,7 @@
 //! Commands that workers issue.
 ghost use Rattle.std.specs.Prelude.{◌≡◌, IfOk, OnOk, OnErr, IfSome, Some, option_map};
 ghost use Rattle.std.specs.Arc.{arc_value};
-ghost use Rattle.reply_laws.specs.AnswerLaws.{IsOfObject};
+ghost use Rattle.spec_laws.specs.AnswerLaws.{IsOfObject};
 ghost use Rattle.sim_cluster.specs.Requested.{IsWriteOf, written};
 ghost use Rattle.spec_api.specs.Reached.{CanBeRead};
 ghost use Rattle.spec_api.specs.Verbs as verbs;

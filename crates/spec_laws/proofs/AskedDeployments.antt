@@ -42,13 +42,13 @@ use Rattle.spec_reconcile.specs.Revisions.{revision_annotation, is_revision, rev
 use Rattle.spec_reconcile.specs.Rollouts.{asked, growth, most, resized, shrunk}
 use Rattle.spec_reconcile.specs.Statuses.{status, with_status}
 use Rattle.spec_reconcile.specs.Templates.{collision_digits, template_hash, hash_label, selector, with_hash, labelled, selecting, set_name, new_set_metadata, new_set_spec}
-use Rattle.reconcile_laws.specs.AskedLaws.{IsStoredAs, AreStored, IsOfServer, CanBeAsked, AllCanBeAsked}
-use Rattle.reconcile_laws.specs.DeploymentLaws.{Bounded}
-use Rattle.reconcile_laws.proofs.AskedEdits.{in_meta, in_spec_parsed, ascii, decimal_utf8, reference_parsed, template_parsed, replicas_low, status_both, status_parsed}
-use Rattle.reconcile_laws.proofs.AskedReplicaSets.{found_all, either}
-use Rattle.reconcile_laws.proofs.DeploymentPlans.{all_kept, all_ordered}
-use Rattle.reconcile_laws.proofs.Permuted.{all_joined}
-use Rattle.reconcile_laws.proofs.RolloutNumbers.{only_shrink}
+use Rattle.spec_laws.specs.AskedLaws.{IsStoredAs, AreStored, IsOfServer, CanBeAsked, AllCanBeAsked}
+use Rattle.spec_laws.specs.DeploymentLaws.{Bounded}
+use Rattle.spec_laws.proofs.AskedEdits.{in_meta, in_spec_parsed, ascii, decimal_utf8, reference_parsed, template_parsed, replicas_low, status_both, status_parsed}
+use Rattle.spec_laws.proofs.AskedReplicaSets.{found_all, either}
+use Rattle.spec_laws.proofs.DeploymentPlans.{all_kept, all_ordered}
+use Rattle.spec_laws.proofs.Permuted.{all_joined}
+use Rattle.spec_laws.proofs.RolloutNumbers.{only_shrink}
 
 abbrev IsAt : Key × Data → Type 0
 IsAt m = IsStoredAs m.0 m.1

@@ -11,7 +11,7 @@ use Rattle.spec_api.proofs.JsonMembers.{apart, metadata_text-with, text_in-put_o
 use Rattle.spec_reconcile.specs.Counts.{count, not_below_0, replicas}
 use Rattle.spec_reconcile.specs.Deployments.{Rollout, new_object, with_replicas}
 use Rattle.spec_reconcile.specs.Revisions.{annotated, raised, revision, with_revision}
-use Rattle.reconcile_laws.specs.DeploymentLaws.{ScalesAskForTheirNumber, MadeSetsAskForTheirNumber, UpdatesNameTheLookedVersion}
+use Rattle.spec_laws.specs.DeploymentLaws.{ScalesAskForTheirNumber, MadeSetsAskForTheirNumber, UpdatesNameTheLookedVersion}
 
 counted : (n : ℕ) → n < 2 ^ 63 → count (Some (unsigned_value n)) ≡ n
 counted n h = ap (λ b. not_below_0 (unwrap_or (if b then Some (pos n) else None) (pos 0))) (lt-ltb n (2 ^ 63) h)

@@ -28,10 +28,10 @@ use Rattle.spec_reconcile.specs.Pods.{is_ready}
 use Rattle.spec_reconcile.specs.ReplicaSets.{set_looked_at, pods_looked_at, delete_pod, scale, scale_if, ready_pods, with_counts, new_status, report, plan_with, plan_of, replicas}
 use Rattle.spec_reconcile.specs.Standings.{standing, standings, is_solid, is_to, waits_for_dependents, dependents, with_owner_if}
 use Rattle.spec_reconcile.specs.Statuses.{status}
-use Rattle.reconcile_laws.specs.AskedLaws.{IsStoredAs, AreStored, IsOfServer, CanBeAsked, AllCanBeAsked}
-use Rattle.reconcile_laws.proofs.AskedEdits.{keeping_parsed, without_parsed, nobody_parsed, controlled_parsed, pod_parsed, generation_low, status_both, status_parsed}
-use Rattle.reconcile_laws.proofs.DeploymentPlans.{all_kept}
-use Rattle.reconcile_laws.proofs.Permuted.{all_joined}
+use Rattle.spec_laws.specs.AskedLaws.{IsStoredAs, AreStored, IsOfServer, CanBeAsked, AllCanBeAsked}
+use Rattle.spec_laws.proofs.AskedEdits.{keeping_parsed, without_parsed, nobody_parsed, controlled_parsed, pod_parsed, generation_low, status_both, status_parsed}
+use Rattle.spec_laws.proofs.DeploymentPlans.{all_kept}
+use Rattle.spec_laws.proofs.Permuted.{all_joined}
 
 -- ---- lists
 

@@ -9,11 +9,11 @@ use Rattle.spec_reconcile.specs.Counts.{replicas}
 use Rattle.spec_reconcile.specs.Deployments.{asked_by, tally}
 use Rattle.spec_reconcile.specs.Rollouts.{total}
 use Rattle.spec_reconcile.specs.declared.rollouts.Tally.{Tally}
-use Rattle.reconcile_laws.specs.DeploymentLaws.{lost}
-use Rattle.reconcile_laws.specs.ReplicaSetLaws.{created}
-use Rattle.reconcile_laws.specs.RolloutLaws.{asked_after, asked_by_made, taken}
-use Rattle.reconcile_laws.proofs.AskedNumbers.{Gives}
-use Rattle.reconcile_laws.proofs.DeploymentPlans.{all_implied}
+use Rattle.spec_laws.specs.DeploymentLaws.{lost}
+use Rattle.spec_laws.specs.ReplicaSetLaws.{created}
+use Rattle.spec_laws.specs.RolloutLaws.{asked_after, asked_by_made, taken}
+use Rattle.spec_laws.proofs.AskedNumbers.{Gives}
+use Rattle.spec_laws.proofs.DeploymentPlans.{all_implied}
 
 -- ---- numbers
 

@@ -14,8 +14,8 @@ use Rattle.spec_reconcile.specs.NewPods.{new_pod}
 use Rattle.spec_reconcile.specs.PodClaims.{adopted, claim, claims, is_adoptable, is_released, own_pods, released}
 use Rattle.spec_reconcile.specs.PodRanks.{missing, rank, rank_cmp, ranked, surplus, victims}
 use Rattle.spec_reconcile.specs.ReplicaSets.{delete_pod, plan_with, replicas, report, scale, scale_if}
-use Rattle.reconcile_laws.specs.ReplicaSetLaws.{created, deleted}
-use Rattle.reconcile_laws.proofs.Permuted.{in_order_permutes}
+use Rattle.spec_laws.specs.ReplicaSetLaws.{created, deleted}
+use Rattle.spec_laws.proofs.Permuted.{in_order_permutes}
 
 pub created-append : (xs ys : List Command) → created (xs ++ ys) ≡ created xs + created ys
 created-append [] ys = omega arith

@@ -24,10 +24,10 @@ use Rattle.spec_reconcile.specs.Revisions.{raised, revision}
 use Rattle.spec_reconcile.specs.Rollouts.{growth, resized, shrunk}
 use Rattle.spec_reconcile.specs.Statuses.{status, with_status}
 use Rattle.spec_reconcile.specs.declared.rollouts.Pace.{Pace}
-use Rattle.reconcile_laws.specs.ReplicaSetLaws.{created}
-use Rattle.reconcile_laws.specs.DeploymentLaws.{AtMostOneSetIsMade, IsAtMostStatus, WaitingOnesReport, DeletesSpent, OnlySpentSetsAreDeleted, LatestRevisionsStay, latest, limit_of, old_of}
-use Rattle.reconcile_laws.proofs.Counted.{created-append}
-use Rattle.reconcile_laws.proofs.Permuted.{all_taken, all_joined, all_contained, lowest_first}
+use Rattle.spec_laws.specs.ReplicaSetLaws.{created}
+use Rattle.spec_laws.specs.DeploymentLaws.{AtMostOneSetIsMade, IsAtMostStatus, WaitingOnesReport, DeletesSpent, OnlySpentSetsAreDeleted, LatestRevisionsStay, latest, limit_of, old_of}
+use Rattle.spec_laws.proofs.Counted.{created-append}
+use Rattle.spec_laws.proofs.Permuted.{all_taken, all_joined, all_contained, lowest_first}
 
 -- ---- what holds of the parts of a plan holds of it
 

@@ -10,7 +10,7 @@ use Rattle.spec_laws.specs.LifecycleLaws.{OfRemoved, IfRemoved}
 use Rattle.spec_laws.proofs.Removals.{last_removes}
 use Rattle.spec_client_go.specs.Commands.{Command, create, update, update_status, delete}
 use Rattle.spec_reconcile.specs.GarbageCollection.{plan}
-use Rattle.reconcile_laws.specs.CollectorLaws.{Finishes, CollectorUpdatesOnlyFinish}
+use Rattle.spec_laws.specs.CollectorLaws.{Finishes, CollectorUpdatesOnlyFinish}
 
 weaker : (h : History) (o : Outcome) (P Q : Key → Data → Type 0) → ((k : Key) (d : Data) → P k d → Q k d) → OfRemoved h o P → OfRemoved h o Q
 weaker h o P Q f = by_write (write_of o)

@@ -17,7 +17,7 @@ use Rattle.spec_reconcile.specs.declared.standing.Standing.TheVariants.{Solid, W
 use Rattle.spec_reconcile.specs.GarbageCollection.{plan_for, finish, collect, orphaned, is_blocked, remove, remove_after, own_policy, is_between}
 use Rattle.spec_reconcile.specs.MetadataEdits.{without_finalizer, keeping_owners, blocking_nobody}
 use Rattle.spec_reconcile.specs.Standings.{is_to, standing, standing_of, standing_at, standings, is_solid, waits_for_dependents, dependents}
-use Rattle.reconcile_laws.specs.CollectorLaws.{IsGone, WasGone, IsOfGarbage, PlansDeleteGarbage}
+use Rattle.spec_laws.specs.CollectorLaws.{IsGone, WasGone, IsOfGarbage, PlansDeleteGarbage}
 
 -- ---- owners of which none is solid
 

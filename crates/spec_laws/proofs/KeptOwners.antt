@@ -23,8 +23,8 @@ use Rattle.spec_laws.proofs.EditedReferences.{read_again}
 use Rattle.spec_laws.proofs.Removals.{member-updated}
 use Rattle.spec_laws.proofs.VerbLaws.{one_object, metadata_of-defaulted}
 use Rattle.spec_reconcile.specs.MetadataEdits.{references, unblocked, all_unblocked, blocking_nobody}
-use Rattle.reconcile_laws.specs.CollectorLaws.{EachAlike, CutsKeepOwners}
-use Rattle.reconcile_laws.proofs.LikeOwners.{nobody_keeps}
+use Rattle.spec_laws.specs.CollectorLaws.{EachAlike, CutsKeepOwners}
+use Rattle.spec_laws.proofs.LikeOwners.{nobody_keeps}
 
 abbrev refs : List ℕ
 refs = codes "ownerReferences"

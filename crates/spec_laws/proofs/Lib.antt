@@ -81,3 +81,23 @@ pub mod Versions
 pub mod WatchStarts
 pub mod WholeObjects
 pub mod WrittenTexts
+mod ReplyRemovals
+pub mod ReadBacks
+pub mod Finished
+pub mod Garbage
+pub mod KeptOwners
+pub mod LikeOwners
+pub mod RolloutNumbers
+pub mod AskedNumbers
+pub mod Spared
+pub mod Permuted
+pub mod Counted
+pub mod PlanLaws
+pub mod DeploymentPlans
+pub mod SetLists
+pub mod AskedSets
+pub mod RolloutPlans
+pub mod AskedEdits
+pub mod AskedReplicaSets
+pub mod AskedDeployments
+pub mod AskedPlans

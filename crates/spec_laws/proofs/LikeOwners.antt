@@ -10,7 +10,7 @@ use Rattle.spec_api.specs.SelectorValues.{items_in}
 use Rattle.spec_api.specs.Values.{members_of}
 use Rattle.spec_client_go.specs.OwnerReferences.{owner_key}
 use Rattle.spec_reconcile.specs.MetadataEdits.{references, unblocked, all_unblocked, blocking_nobody}
-use Rattle.reconcile_laws.specs.CollectorLaws.{IsGone, AreAlike, EachAlike, BlockingNobodyKeepsOwners}
+use Rattle.spec_laws.specs.CollectorLaws.{IsGone, AreAlike, EachAlike, BlockingNobodyKeepsOwners}
 
 -- ---- alike
 

@@ -18,9 +18,9 @@ use Rattle.spec_reconcile.specs.PodClaims.{adopted, claim, claims, is_adoptable,
 use Rattle.spec_reconcile.specs.PodRanks.{missing, rank, ranked, surplus, victims}
 use Rattle.spec_reconcile.specs.ReplicaSets.{delete_pod, plan, plan_of, plan_with, pods_looked_at, replicas, report, scale, scale_if, set_looked_at}
 use Rattle.spec_reconcile.proofs.RankOrder.{rank_total, rank_tells}
-use Rattle.reconcile_laws.specs.ReplicaSetLaws.{created, deleted, own, DeletesOwn, OnlyOwnPodsAreDeleted, OnlyMissingPodsAreCreated, OnlySurplusPodsAreDeleted, NeverBoth, TurnsAreBounded, ExpectedPodsAreAwaited, LowestGo, PodsGoOrStay, RanksAreTotal}
-use Rattle.reconcile_laws.proofs.Counted.{Harmless, AtMost, plan_at_most, awaited_harmless, ranked_permutes, length_victims}
-use Rattle.reconcile_laws.proofs.Permuted.{all_taken, all_joined, all_contained, lowest_first}
+use Rattle.spec_laws.specs.ReplicaSetLaws.{created, deleted, own, DeletesOwn, OnlyOwnPodsAreDeleted, OnlyMissingPodsAreCreated, OnlySurplusPodsAreDeleted, NeverBoth, TurnsAreBounded, ExpectedPodsAreAwaited, LowestGo, PodsGoOrStay, RanksAreTotal}
+use Rattle.spec_laws.proofs.Counted.{Harmless, AtMost, plan_at_most, awaited_harmless, ranked_permutes, length_victims}
+use Rattle.spec_laws.proofs.Permuted.{all_taken, all_joined, all_contained, lowest_first}
 
 -- ---- the plan, where the set is there and where it is not
 

@@ -31,8 +31,8 @@ use Rattle.spec_laws.proofs.SentObjects.{IsStored, IsHeld, Stores, low_after}
 use Rattle.spec_laws.proofs.SentVerbs.{stores}
 use Rattle.spec_laws.proofs.Stored.{all_stored, found_held}
 use Rattle.spec_laws.proofs.WholeObjects.{AreWhole, whole_said}
-use Rattle.reply_laws.specs.AnswerLaws.{IsReadBack, IsOfObject, AnswersAreReadBack}
-use Rattle.reply_laws.proofs.Removals.{stored_back, updated_back, removal_back}
+use Rattle.spec_laws.specs.AnswerLaws.{IsReadBack, IsOfObject, AnswersAreReadBack}
+use Rattle.spec_laws.proofs.ReplyRemovals.{stored_back, updated_back, removal_back}
 
 -- ---- where an answer comes from
 

@@ -25,7 +25,7 @@ use Rattle.spec_laws.proofs.SentObjects.{IsStored, filled_decimal, neat_generati
 use Rattle.spec_laws.proofs.WholeObjects.{AreWhole, neat_metadata, reads_whole, whole_at, whole_in_place}
 use Rattle.serde_json.specs.Data.{no_members, member}
 use Rattle.spec_api.specs.Values.{members_of}
-use Rattle.reply_laws.specs.AnswerLaws.{IsReadBack}
+use Rattle.spec_laws.specs.AnswerLaws.{IsReadBack}
 
 -- ---- an object
 

@@ -7,7 +7,7 @@ use Rattle.std.specs.Ordering.{nat_cmp, is_le, ordering_then}
 use Rattle.std.proofs.lemmas.Bool.{ltb-true, cases_lt}
 use Rattle.spec_reconcile.specs.Rollouts.{total, asked, available, most, fewest, cuts, less, missing, room, without_missing}
 use Rattle.spec_reconcile.specs.declared.rollouts.Tally.{Tally}
-use Rattle.reconcile_laws.specs.DeploymentLaws.{SurgeIsLeast, UnavailableIsGreatest, GrowthIsGreatest, Bounded, CutsAreGreatest, ResizesStayBelow, MadeStayBelow, OldSetsOnlyShrink, lost, AvailablePodsStay, FewestStay, OldSetsStandIn}
+use Rattle.spec_laws.specs.DeploymentLaws.{SurgeIsLeast, UnavailableIsGreatest, GrowthIsGreatest, Bounded, CutsAreGreatest, ResizesStayBelow, MadeStayBelow, OldSetsOnlyShrink, lost, AvailablePodsStay, FewestStay, OldSetsStandIn}
 
 pub surge : SurgeIsLeast
 surge p r = (omega arith, λ s h. omega arith)

@@ -18,14 +18,14 @@ use Rattle.spec_reconcile.specs.Revisions.{raised, revision}
 use Rattle.spec_reconcile.specs.Rollouts.{asked, fewest, growth, most, resized, shrunk, total}
 use Rattle.spec_reconcile.specs.declared.rollouts.Pace.{Pace}
 use Rattle.spec_reconcile.specs.declared.rollouts.Tally.{Tally}
-use Rattle.reconcile_laws.specs.DeploymentLaws.{Bounded, limit_of, lost}
-use Rattle.reconcile_laws.specs.RolloutLaws.{AreNumbers, FewestStayAvailable, Looked, SurgeIsNeverPassed, TakenLeaveFewest, asked_after, asked_by_made, asked_in_all, available_of, is_rolled, kept_after, kept_of, sets_looked_at, taken}
-use Rattle.reconcile_laws.proofs.AskedNumbers.{made_gives, scaled_gives}
-use Rattle.reconcile_laws.proofs.AskedSets.{Brings, Pairs, Small, Tells, asked_at_most, fused, higher, higher_none, lost_none, made_joined, made_of_first, none_made, taken_at_most}
-use Rattle.reconcile_laws.proofs.DeploymentPlans.{all_both, all_implied, all_ordered, all_kept, deletes_make_none, either, first, kept, plan_is, planned, reported, scales_make_none, spent}
-use Rattle.reconcile_laws.proofs.Permuted.{all_joined, all_taken}
-use Rattle.reconcile_laws.proofs.RolloutNumbers.{fewest_stay, made_below, only_shrink, stays_below}
-use Rattle.reconcile_laws.proofs.SetLists.{Apart, Differs, all_sets, apart_kept, apart_sets, apart_sorted, same_back, sum_sets}
+use Rattle.spec_laws.specs.DeploymentLaws.{Bounded, limit_of, lost}
+use Rattle.spec_laws.specs.RolloutLaws.{AreNumbers, FewestStayAvailable, Looked, SurgeIsNeverPassed, TakenLeaveFewest, asked_after, asked_by_made, asked_in_all, available_of, is_rolled, kept_after, kept_of, sets_looked_at, taken}
+use Rattle.spec_laws.proofs.AskedNumbers.{made_gives, scaled_gives}
+use Rattle.spec_laws.proofs.AskedSets.{Brings, Pairs, Small, Tells, asked_at_most, fused, higher, higher_none, lost_none, made_joined, made_of_first, none_made, taken_at_most}
+use Rattle.spec_laws.proofs.DeploymentPlans.{all_both, all_implied, all_ordered, all_kept, deletes_make_none, either, first, kept, plan_is, planned, reported, scales_make_none, spent}
+use Rattle.spec_laws.proofs.Permuted.{all_joined, all_taken}
+use Rattle.spec_laws.proofs.RolloutNumbers.{fewest_stay, made_below, only_shrink, stays_below}
+use Rattle.spec_laws.proofs.SetLists.{Apart, Differs, all_sets, apart_kept, apart_sets, apart_sorted, same_back, sum_sets}
 
 -- ---- commands that keep to what is wanted
 

@@ -11,7 +11,7 @@ use Rattle.spec_api.specs.Keys.{Key, key_cmp, is_same_key}
 use Rattle.spec_reconcile.specs.Deployments.{and_old, has_its_template, managed, age_cmp, rollout, sets, sets_of, without_first}
 use Rattle.spec_reconcile.specs.Orders.{placed, in_order}
 use Rattle.spec_reconcile.specs.Rollouts.{total}
-use Rattle.reconcile_laws.proofs.DeploymentPlans.{all_kept, all_ordered, all_placed}
+use Rattle.spec_laws.proofs.DeploymentPlans.{all_kept, all_ordered, all_placed}
 
 -- ---- keys that differ
 

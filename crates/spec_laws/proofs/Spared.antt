@@ -30,9 +30,9 @@ use Rattle.spec_client_go.specs.Hands.{Hand, Read, live, is_read, each_once, unr
 use Rattle.spec_client_go.specs.OwnerReferences.{is_text, owner_key, owner_keys, namespace_of}
 use Rattle.spec_reconcile.specs.GarbageCollection.{plan, owner_keys_if}
 use Rattle.spec_reconcile.specs.Standings.{is_to}
-use Rattle.reconcile_laws.specs.CollectorLaws.{IsGone, WasGone, IsOfGarbage, EachAlike, IsReadSince, OwnerIsGone, HasNoLiveOwner, Spares, IsLaterVersion, CollectorSparesLiveOwners}
-use Rattle.reconcile_laws.proofs.Garbage.{garbage}
-use Rattle.reconcile_laws.proofs.LikeOwners.{same_owners, same_key, same_gone, some_alike}
+use Rattle.spec_laws.specs.CollectorLaws.{IsGone, WasGone, IsOfGarbage, EachAlike, IsReadSince, OwnerIsGone, HasNoLiveOwner, Spares, IsLaterVersion, CollectorSparesLiveOwners}
+use Rattle.spec_laws.proofs.Garbage.{garbage}
+use Rattle.spec_laws.proofs.LikeOwners.{same_owners, same_key, same_gone, some_alike}
 
 -- ---- where nothing is asked, all was read
 

@@ -16,7 +16,7 @@ use Rattle.spec_reconcile.specs.Revisions.{raised, revision}
 use Rattle.spec_reconcile.specs.Rollouts.{rounded_up, rounded_down, total, asked, available, most, fewest, growth, resized, cuts, shrunk}
 use Rattle.spec_reconcile.specs.declared.rollouts.Pace.{Pace}
 use Rattle.spec_reconcile.specs.declared.rollouts.Tally.{Tally}
-use Rattle.reconcile_laws.specs.ReplicaSetLaws.{created}
+use Rattle.spec_laws.specs.ReplicaSetLaws.{created}
 
 -- ---- percentages
 

@@ -27,3 +27,9 @@ pub mod UidLaws
 pub mod VersionLaws
 pub mod WatchLaws
 pub mod WindowLaws
+pub mod AnswerLaws
+pub mod AskedLaws
+pub mod CollectorLaws
+pub mod DeploymentLaws
+pub mod ReplicaSetLaws
+pub mod RolloutLaws

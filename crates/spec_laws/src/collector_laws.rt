@@ -1,5 +1,5 @@
 //! What the garbage collector never does.
-ghost use Rattle.reconcile_laws.specs.CollectorLaws.{PlansDeleteGarbage, BlockingNobodyKeepsOwners, CutsKeepOwners, CollectorUpdatesOnlyFinish, CollectorSparesLiveOwners};
+ghost use Rattle.spec_laws.specs.CollectorLaws.{PlansDeleteGarbage, BlockingNobodyKeepsOwners, CutsKeepOwners, CollectorUpdatesOnlyFinish, CollectorSparesLiveOwners};
 
 /// The collector plans to delete only an object that names owners, each of which was gone where it was read live; and each
 /// delete names the uid of the object, and a version.

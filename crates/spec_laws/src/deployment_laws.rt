@@ -1,6 +1,6 @@
 //! Laws of the Deployment controller's plans.
-ghost use Rattle.reconcile_laws.specs.DeploymentLaws.{SurgeIsLeast, UnavailableIsGreatest, GrowthIsGreatest, CutsAreGreatest, MadeStayBelow, ResizesStayBelow, OldSetsOnlyShrink, AvailablePodsStay, FewestStay, OldSetsStandIn, ScalesAskForTheirNumber, MadeSetsAskForTheirNumber, UpdatesNameTheLookedVersion, AtMostOneSetIsMade, WaitingOnesReport, OnlySpentSetsAreDeleted, LatestRevisionsStay};
-ghost use Rattle.reconcile_laws.specs.RolloutLaws.{SurgeIsNeverPassed, TakenLeaveFewest, FewestStayAvailable};
+ghost use Rattle.spec_laws.specs.DeploymentLaws.{SurgeIsLeast, UnavailableIsGreatest, GrowthIsGreatest, CutsAreGreatest, MadeStayBelow, ResizesStayBelow, OldSetsOnlyShrink, AvailablePodsStay, FewestStay, OldSetsStandIn, ScalesAskForTheirNumber, MadeSetsAskForTheirNumber, UpdatesNameTheLookedVersion, AtMostOneSetIsMade, WaitingOnesReport, OnlySpentSetsAreDeleted, LatestRevisionsStay};
+ghost use Rattle.spec_laws.specs.RolloutLaws.{SurgeIsNeverPassed, TakenLeaveFewest, FewestStayAvailable};
 
 /// The surge of a percentage is the least whole number that is no less than it.
 pub fn surge_is_least()

@@ -1,5 +1,5 @@
 //! Laws of the ReplicaSet controller's plans.
-ghost use Rattle.reconcile_laws.specs.ReplicaSetLaws.{OnlyOwnPodsAreDeleted, OnlyMissingPodsAreCreated, OnlySurplusPodsAreDeleted, NeverBoth, TurnsAreBounded, ExpectedPodsAreAwaited, GoneSetsAreLeft, LowestGo, PodsGoOrStay, RanksAreTotal};
+ghost use Rattle.spec_laws.specs.ReplicaSetLaws.{OnlyOwnPodsAreDeleted, OnlyMissingPodsAreCreated, OnlySurplusPodsAreDeleted, NeverBoth, TurnsAreBounded, ExpectedPodsAreAwaited, GoneSetsAreLeft, LowestGo, PodsGoOrStay, RanksAreTotal};
 
 /// A plan deletes no pod but those that the set owns or adopts, and these by their uids.
 pub fn only_own_pods_are_deleted()

@@ -1,5 +1,5 @@
-use Rattle.reconcile_laws.proofs.Finished.{finishes}
-use Rattle.reconcile_laws.proofs.collector_laws.collector_updates_only_finish.Goals as goal
+use Rattle.spec_laws.proofs.Finished.{finishes}
+use Rattle.spec_laws.proofs.collector_laws.collector_updates_only_finish.Goals as goal
 
 pub returns : goal.returns
 returns c = finishes

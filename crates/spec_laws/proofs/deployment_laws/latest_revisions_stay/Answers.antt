@@ -1,5 +1,5 @@
-use Rattle.reconcile_laws.proofs.DeploymentPlans.{latest_revisions_stay}
-use Rattle.reconcile_laws.proofs.deployment_laws.latest_revisions_stay.Goals as goal
+use Rattle.spec_laws.proofs.DeploymentPlans.{latest_revisions_stay}
+use Rattle.spec_laws.proofs.deployment_laws.latest_revisions_stay.Goals as goal
 
 pub returns : goal.returns
 returns c = latest_revisions_stay

@@ -1,5 +1,5 @@
-use Rattle.reconcile_laws.proofs.RolloutNumbers.{unavailable}
-use Rattle.reconcile_laws.proofs.deployment_laws.unavailable_is_greatest.Goals as goal
+use Rattle.spec_laws.proofs.RolloutNumbers.{unavailable}
+use Rattle.spec_laws.proofs.deployment_laws.unavailable_is_greatest.Goals as goal
 
 pub returns : goal.returns
 returns c = unavailable

@@ -1,5 +1,5 @@
-use Rattle.reconcile_laws.proofs.AskedNumbers.{names_looked}
-use Rattle.reconcile_laws.proofs.deployment_laws.updates_name_the_looked_version.Goals as goal
+use Rattle.spec_laws.proofs.AskedNumbers.{names_looked}
+use Rattle.spec_laws.proofs.deployment_laws.updates_name_the_looked_version.Goals as goal
 
 pub returns : goal.returns
 returns c = names_looked

@@ -1,5 +1,5 @@
-use Rattle.reconcile_laws.proofs.PlanLaws.{only_missing_pods_are_created}
-use Rattle.reconcile_laws.proofs.replica_set_laws.only_missing_pods_are_created.Goals as goal
+use Rattle.spec_laws.proofs.PlanLaws.{only_missing_pods_are_created}
+use Rattle.spec_laws.proofs.replica_set_laws.only_missing_pods_are_created.Goals as goal
 
 pub returns : goal.returns
 returns c = only_missing_pods_are_created

@@ -1,2 +1,0 @@
-mod Removals
-pub mod ReadBacks
