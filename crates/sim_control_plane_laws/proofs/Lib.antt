@@ -3,3 +3,11 @@ pub mod PlaneRuns
 pub mod Replacing
 pub mod Rising
 mod StoredLists
+pub mod Asked
+pub mod Collected
+pub mod CutAnswers
+pub mod KeptRuns
+pub mod KeptTurns
+mod PlannedDeletes
+pub mod SameWrites
+pub mod Spared

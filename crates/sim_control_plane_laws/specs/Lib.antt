@@ -1,1 +1,2 @@
 pub mod PlaneLaws
+pub mod SparingLaws

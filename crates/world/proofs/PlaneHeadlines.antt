@@ -21,8 +21,8 @@ use Rattle.sim_worker_laws.proofs.Takes.{only_takes, takes_give}
 use Rattle.sim_control_plane_laws.proofs.PlaneRuns.{run_append}
 use Rattle.sim_control_plane_laws.proofs.Replacing.{replaced, named_replaced}
 use Rattle.sim_control_plane_laws.proofs.Rising.{revisions_rise}
-use Rattle.sim_collector_laws.proofs.Asked.{written_is}
-use Rattle.sim_collector_laws.proofs.Spared.{spared}
+use Rattle.sim_control_plane_laws.proofs.Asked.{written_is}
+use Rattle.sim_control_plane_laws.proofs.Spared.{spared}
 use Rattle.sim_overshoot_laws.proofs.MadePods.{no_overshoot}
 use Rattle.sim_traces.specs.Taken.{Taken, opening}
 use Rattle.world.specs.Headline.{plane_after, IsAskedBy, ReplacesNamedVersions, ForgetsNothing, RevisionsRise, TakesTheHeads, SparesLiveOwners, NeverOvershoots}

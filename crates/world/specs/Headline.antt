@@ -27,8 +27,8 @@ use Rattle.sim_worker_laws.specs.OwedLaws.{IsAmong, NoRestart, IsKept, published
 use Rattle.sim_worker_laws.specs.TakeLaws.{HasInHand, HasNothing, TakesTheHead}
 use Rattle.sim_worker_laws.specs.TurnLaws.{AreApart}
 use Rattle.sim_control_plane_laws.specs.PlaneLaws.{IsServerList}
-use Rattle.sim_collector_laws.specs.SparingLaws as collector
-use Rattle.sim_collector_laws.specs.SparingLaws.{IsOfTheCollector}
+use Rattle.sim_control_plane_laws.specs.SparingLaws as collector
+use Rattle.sim_control_plane_laws.specs.SparingLaws.{IsOfTheCollector}
 use Rattle.sim_overshoot_laws.specs.Overshoot.{LetAlone, NeverMoreThanDeclared}
 use Rattle.sim_traces.specs.Taken.{Taken, opening, plane}
 use Rattle.sim_cluster.specs.Headline.{ShowsLists}
