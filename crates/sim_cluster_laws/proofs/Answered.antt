@@ -9,7 +9,7 @@ use Rattle.spec_api.specs.Versions.{once_present}
 use Rattle.spec_api.specs.WatchReplies.{Initial, initial_at, initial_from, opening_lines}
 use Rattle.spec_laws.proofs.InitialStreams.{begun}
 use Rattle.spec_laws.proofs.Looks.{none_at}
-use Rattle.streaming_list_laws.specs.ServedStreamLaws.{initial_watch, InitialWatchesAreAnswered, FutureStreamsAreRefused, OnlyTheFutureIsRefused, InitialsAreOfThePresent}
+use Rattle.sim_cluster_laws.specs.ServedStreamLaws.{initial_watch, InitialWatchesAreAnswered, FutureStreamsAreRefused, OnlyTheFutureIsRefused, InitialsAreOfThePresent}
 
 -- ---- lines
 

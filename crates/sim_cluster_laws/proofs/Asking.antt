@@ -7,7 +7,7 @@ use Rattle.spec_client_go.specs.declared.reflectors.Phase.TheVariants.{Listing, 
 use Rattle.spec_client_go.specs.Reflectors as reflectors
 use Rattle.spec_client_go.specs.Reflectors.{Reflector, Listed, list_of, with_list, first_phase, anew, asks, ask_at, fed, fed_in}
 use Rattle.reflector.specs.Laws.{IsAt}
-use Rattle.streaming_list_laws.specs.StreamingLaws.{Step, list, bytes, cut, expired, refused, after_step, after_steps, IsNoList, OnlyListsEndRefusals, ExpiriesStreamAgain, CutsDropInitialEvents, StepsKeepStreaming}
+use Rattle.sim_cluster_laws.specs.StreamingLaws.{Step, list, bytes, cut, expired, refused, after_step, after_steps, IsNoList, OnlyListsEndRefusals, ExpiriesStreamAgain, CutsDropInitialEvents, StepsKeepStreaming}
 
 -- ---- what stays
 

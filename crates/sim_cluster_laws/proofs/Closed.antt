@@ -8,7 +8,7 @@ use Rattle.spec_api.specs.declared.frames.FrameKind.TheVariants.{Added, Modified
 use Rattle.spec_api.specs.Frames.{Frame}
 use Rattle.spec_api.specs.History.{Entries}
 use Rattle.spec_client_go.specs.Reflectors.{put_step, remove_step, replace, objects_of, run, is_of, revision, if_reached, marked, Initial, played, under_way, closed, opening, bookmark_opening, opening_by, opening_step, opens_on, open_run, fed_in}
-use Rattle.streaming_list_laws.specs.StreamingLaws.{IsClosing, IsPlayedBy, ArePlayed, ClosingsAreGiven}
+use Rattle.sim_cluster_laws.specs.StreamingLaws.{IsClosing, IsPlayedBy, ArePlayed, ClosingsAreGiven}
 
 -- ---- one frame
 

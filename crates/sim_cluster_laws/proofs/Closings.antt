@@ -5,7 +5,7 @@ use Rattle.spec_api.specs.Events.{Event, events}
 use Rattle.spec_api.specs.History.{Entries, list}
 use Rattle.spec_api.specs.Keys.{Key}
 use Rattle.spec_api.specs.Streams.{Line, event, bookmark, initial, initial_end, added_lines, AreEventsWithBookmarks}
-use Rattle.streaming_list_laws.specs.ServedStreamLaws.{ClosingsFollowTheList, NoneClosesEarly}
+use Rattle.sim_cluster_laws.specs.ServedStreamLaws.{ClosingsFollowTheList, NoneClosesEarly}
 
 -- none among changes
 none_closes : (xs later : List Line) (at b c : ℕ) (cs : List Event) → AreEventsWithBookmarks at b cs (xs ++ initial_end c ∷ later) → ⊥

@@ -14,3 +14,14 @@ mod Rising
 pub mod Runs
 pub mod Serving
 mod Staying
+mod Answered
+mod Asking
+mod Closed
+mod Closings
+mod LastLines
+mod LinesRead
+mod Opening
+mod Played
+mod Standing
+mod TakenIn
+mod ToldLooks

@@ -14,8 +14,8 @@ use Rattle.spec_client_go.specs.ReadFrames.{reading}
 use Rattle.spec_client_go.specs.Reflectors.{shown_above, Step, Run, run, step, step_by, put_step, remove_step, mark_step, marked, or_unreadable, going_on, first_delta, replace, objects_of, Initial, none_yet, Opening, under_way, closed, opening_step, opens_on, open_run, Course, Reflector, Fed, end_of, phase_after, watched, fed, fed_in, all_fed}
 use Rattle.reflector.proofs.Anew.{ends_open_again}
 use Rattle.reflector.proofs.Cutting.{flat, no_cutting_matters}
-use Rattle.streaming_list_laws.specs.StreamingLaws.{IsNoClosing, IsClosing, ArePlayed, IsSmall, Stays, Opens, NothingIsGivenBefore, NothingIsGivenOfPieces, GivenByTheClosing, GivenOfAllFrames}
-use Rattle.streaming_list_laws.proofs.Played.{goes, closes, not_both}
+use Rattle.sim_cluster_laws.specs.StreamingLaws.{IsNoClosing, IsClosing, ArePlayed, IsSmall, Stays, Opens, NothingIsGivenBefore, NothingIsGivenOfPieces, GivenByTheClosing, GivenOfAllFrames}
+use Rattle.sim_cluster_laws.proofs.Played.{goes, closes, not_both}
 
 -- ---- frames
 

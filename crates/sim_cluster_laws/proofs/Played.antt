@@ -7,7 +7,7 @@ use Rattle.spec_api.specs.declared.frames.FrameKind.{FrameKind}
 use Rattle.spec_api.specs.declared.frames.FrameKind.TheVariants.{Added, Modified, Deleted, Bookmark, Error}
 use Rattle.spec_api.specs.Frames.{Frame}
 use Rattle.spec_client_go.specs.Reflectors.{Shown, shown, Step, put_step, remove_step, is_of, revision, if_reached, marked, is_closing, Initial, played, Opening, under_way, closed, opening, bookmark_opening, opening_by, opening_step}
-use Rattle.streaming_list_laws.specs.StreamingLaws.{IsClosing, IsPlayedBy, IsNoClosing}
+use Rattle.sim_cluster_laws.specs.StreamingLaws.{IsClosing, IsPlayedBy, IsNoClosing}
 
 -- ---- bookmarks
 

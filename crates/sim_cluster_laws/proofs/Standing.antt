@@ -18,7 +18,7 @@ use Rattle.reflector.specs.Laws.{IsAtStart, IsReadWithin}
 use Rattle.reflector.proofs.Cutting.{flat, no_cutting_matters}
 use Rattle.reflector.proofs.Opened.{Plays, plays, all_listed, back}
 use Rattle.reflector.proofs.Streamed.{all_back}
-use Rattle.streaming_list_laws.proofs.LastLines.{last_line, runs_to}
+use Rattle.sim_cluster_laws.proofs.LastLines.{last_line, runs_to}
 
 more_lines : (k : Kind) (a : ℕ) (ms : Entries) (ls : List Line) → length ms < length (map (frame_of k) (added_lines ms ++ initial_end a ∷ ls))
 more_lines k a [] ls = omega arith

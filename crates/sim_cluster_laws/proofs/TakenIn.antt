@@ -16,11 +16,11 @@ use Rattle.spec_laws.proofs.StandingWatches.{given_stands, writes_past}
 use Rattle.reflector.specs.Laws.{IsAt, IsAtStart, IsReadWithin, IsServedInitial, Waits, Replaces, whole_lines}
 use Rattle.reflector.proofs.Cutting.{flat}
 use Rattle.reflector.proofs.Opened as opened
-use Rattle.streaming_list_laws.specs.ServedStreamLaws.{IsStreamed, sent_bytes, SentStreamsAreServed, ServedStreamsAreTakenIn, CutServedStreamsAreTakenIn}
-use Rattle.streaming_list_laws.proofs.Answered.{of_the_present}
-use Rattle.streaming_list_laws.proofs.LastLines.{last_look}
-use Rattle.streaming_list_laws.proofs.LinesRead.{initial_lines_back}
-use Rattle.streaming_list_laws.proofs.Standing.{StandsAt, stands}
+use Rattle.sim_cluster_laws.specs.ServedStreamLaws.{IsStreamed, sent_bytes, SentStreamsAreServed, ServedStreamsAreTakenIn, CutServedStreamsAreTakenIn}
+use Rattle.sim_cluster_laws.proofs.Answered.{of_the_present}
+use Rattle.sim_cluster_laws.proofs.LastLines.{last_look}
+use Rattle.sim_cluster_laws.proofs.LinesRead.{initial_lines_back}
+use Rattle.sim_cluster_laws.proofs.Standing.{StandsAt, stands}
 
 -- looks stand at what has happened
 stand_reached : (size : ℕ) (v : View) (h : History) (a : ℕ) (ls : List Look) → a ≤ present h → AreLooks size v h a ls → last_stand a ls ≤ present (last_history h ls)

@@ -29,8 +29,8 @@ use Rattle.spec_laws.proofs.RecordedChanges.{last_n_above}
 use Rattle.spec_laws.proofs.ServedWindows.{within_is, revisions_served}
 use Rattle.spec_laws.proofs.StandingWatches.{given_stands, changes_past}
 use Rattle.spec_laws.proofs.WatchStarts.{present_empty}
-use Rattle.streaming_list_laws.specs.ServedStreamLaws.{told_looks, IsNoBookmark, UnmarkedStreamsShowChanges, PresentStartsGoOn}
-use Rattle.streaming_list_laws.proofs.Answered.{answered_unmarked}
+use Rattle.sim_cluster_laws.specs.ServedStreamLaws.{told_looks, IsNoBookmark, UnmarkedStreamsShowChanges, PresentStartsGoOn}
+use Rattle.sim_cluster_laws.proofs.Answered.{answered_unmarked}
 
 -- ---- events of looks
 

@@ -1,3 +1,5 @@
 pub mod FollowerLaws
 pub mod ClusterLaws
 pub mod LeadLaws
+pub mod ServedStreamLaws
+pub mod StreamingLaws

@@ -1,5 +1,5 @@
 //! Laws of what a server answers to who asks for initial events.
-ghost use Rattle.streaming_list_laws.specs.ServedStreamLaws.{InitialWatchesAreAnswered, FutureStreamsAreRefused, OnlyTheFutureIsRefused, InitialsAreOfThePresent, ClosingsFollowTheList, NoneClosesEarly, UnmarkedStreamsShowChanges, PresentStartsGoOn, SentStreamsAreServed, ServedStreamsAreTakenIn, CutServedStreamsAreTakenIn};
+ghost use Rattle.sim_cluster_laws.specs.ServedStreamLaws.{InitialWatchesAreAnswered, FutureStreamsAreRefused, OnlyTheFutureIsRefused, InitialsAreOfThePresent, ClosingsFollowTheList, NoneClosesEarly, UnmarkedStreamsShowChanges, PresentStartsGoOn, SentStreamsAreServed, ServedStreamsAreTakenIn, CutServedStreamsAreTakenIn};
 
 /// A watch that asks for initial events, of a list no older than a revision up to the present one, is answered with bookmarks by an initial stream
 /// at the present revision, the list and the bookmark that closes it, and without bookmarks by the list alone.

@@ -1,5 +1,5 @@
 //! Laws of reflectors that ask for initial events, whatever bytes come.
-ghost use Rattle.streaming_list_laws.specs.StreamingLaws.{NothingIsGivenBefore, NothingIsGivenOfPieces, GivenByTheClosing, ClosingsAreGiven, GivenOfAllFrames, OnlyListsEndRefusals, ExpiriesStreamAgain, CutsDropInitialEvents, StepsKeepStreaming};
+ghost use Rattle.sim_cluster_laws.specs.StreamingLaws.{NothingIsGivenBefore, NothingIsGivenOfPieces, GivenByTheClosing, ClosingsAreGiven, GivenOfAllFrames, OnlyListsEndRefusals, ExpiriesStreamAgain, CutsDropInitialEvents, StepsKeepStreaming};
 
 /// As long as no bookmark closes the initial events, no bytes make a reflector give anything or name another revision; after an end it drops
 /// what it had of them and asks for a stream.

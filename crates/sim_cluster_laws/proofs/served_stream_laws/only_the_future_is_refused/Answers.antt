@@ -1,5 +1,5 @@
-use Rattle.streaming_list_laws.proofs.Answered.{only_future}
-use Rattle.streaming_list_laws.proofs.served_stream_laws.only_the_future_is_refused.Goals as goal
+use Rattle.sim_cluster_laws.proofs.Answered.{only_future}
+use Rattle.sim_cluster_laws.proofs.served_stream_laws.only_the_future_is_refused.Goals as goal
 
 pub returns : goal.returns
 returns c = only_future

@@ -1,5 +1,5 @@
-use Rattle.streaming_list_laws.proofs.TakenIn.{sent_served}
-use Rattle.streaming_list_laws.proofs.served_stream_laws.sent_streams_are_served.Goals as goal
+use Rattle.sim_cluster_laws.proofs.TakenIn.{sent_served}
+use Rattle.sim_cluster_laws.proofs.served_stream_laws.sent_streams_are_served.Goals as goal
 
 pub returns : goal.returns
 returns c = sent_served

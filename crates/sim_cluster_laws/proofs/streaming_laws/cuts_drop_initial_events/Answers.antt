@@ -1,5 +1,5 @@
-use Rattle.streaming_list_laws.proofs.Asking.{cuts_drop}
-use Rattle.streaming_list_laws.proofs.streaming_laws.cuts_drop_initial_events.Goals as goal
+use Rattle.sim_cluster_laws.proofs.Asking.{cuts_drop}
+use Rattle.sim_cluster_laws.proofs.streaming_laws.cuts_drop_initial_events.Goals as goal
 
 pub returns : goal.returns
 returns c = cuts_drop

@@ -1,5 +1,5 @@
-use Rattle.streaming_list_laws.proofs.Asking.{stream_again}
-use Rattle.streaming_list_laws.proofs.streaming_laws.expiries_stream_again.Goals as goal
+use Rattle.sim_cluster_laws.proofs.Asking.{stream_again}
+use Rattle.sim_cluster_laws.proofs.streaming_laws.expiries_stream_again.Goals as goal
 
 pub returns : goal.returns
 returns c = stream_again

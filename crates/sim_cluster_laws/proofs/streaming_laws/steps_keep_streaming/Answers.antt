@@ -1,5 +1,5 @@
-use Rattle.streaming_list_laws.proofs.Asking.{steps_keep}
-use Rattle.streaming_list_laws.proofs.streaming_laws.steps_keep_streaming.Goals as goal
+use Rattle.sim_cluster_laws.proofs.Asking.{steps_keep}
+use Rattle.sim_cluster_laws.proofs.streaming_laws.steps_keep_streaming.Goals as goal
 
 pub returns : goal.returns
 returns c = steps_keep

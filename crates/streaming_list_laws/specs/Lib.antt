@@ -1,2 +1,0 @@
-pub mod ServedStreamLaws
-pub mod StreamingLaws
