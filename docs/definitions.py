@@ -32,7 +32,7 @@ BESIDE = {
 }
 
 # The crates of laws, whose words stand in the index of words.
-LAWS = ["spec_laws", "keyed_laws", "informer_laws", "sim_worker_laws", "sim_cluster_laws", "sim_control_plane_laws", "sim_overshoot_laws", "list_and_watch_laws", "spec_http_client"]
+LAWS = ["spec_laws", "keyed_laws", "informer_laws", "sim_worker_laws", "sim_cluster_laws", "sim_control_plane_laws", "sim_overshoot_laws", "list_and_watch", "spec_http_client"]
 
 HEAD = """# Definitions
 

@@ -15,7 +15,7 @@ use Rattle.reflector.specs.Laws.{IsAt, IsServed}
 use Rattle.reflector.proofs.Served.{cut_served}
 use Rattle.informer_laws.proofs.Publishing.{applied_both, applied_members, all_fed_names}
 use Rattle.list_and_watch.specs.Followers.{Follower, after_list, after_cut, published}
-use Rattle.list_and_watch_laws.specs.FollowerLaws.{Shows, after_pieces, ListsAreShown, PiecesAreShown}
+use Rattle.list_and_watch.specs.FollowerLaws.{Shows, after_pieces, ListsAreShown, PiecesAreShown}
 
 -- ---- a list
 

@@ -6,7 +6,7 @@ use Rattle.spec_client_go.specs.Reflectors.{Delta, Listed, list_of, apply_delta,
 use Rattle.spec_client_go.specs.Shifts.{Shift, shifts_of, all_shifts}
 use Rattle.informer_laws.proofs.Publishing.{applied_both, applied_members}
 use Rattle.list_and_watch.specs.Followers.{Follower, after_list, changes_in, published_unless, owed_after}
-use Rattle.list_and_watch_laws.specs.GivenLaws.{Told, Step, listed, bytes, cut, expired, refused, publish, give, after_step, after_steps, owed_in, told_nothing, IsGivenOnce, ChangesAreGivenOnce}
+use Rattle.list_and_watch.specs.GivenLaws.{Told, Step, listed, bytes, cut, expired, refused, publish, give, after_step, after_steps, owed_in, told_nothing, IsGivenOnce, ChangesAreGivenOnce}
 
 shifts_both : (ms : Entries) (ds es : List Delta) → all_shifts ms (ds ++ es) ≡ all_shifts ms ds ++ all_shifts (apply_deltas ms ds) es
 shifts_both ms [] es = refl

@@ -1,2 +1,5 @@
 mod Longest
 mod Steps
+mod Followed
+mod Given
+mod Opened

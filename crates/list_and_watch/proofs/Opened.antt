@@ -11,8 +11,8 @@ use Rattle.reflector.specs.Laws.{IsAtStart, IsServedInitial, Waits, Replaces}
 use Rattle.reflector.proofs.Opened.{initial_streams, cuts_open_again}
 use Rattle.informer_laws.proofs.Publishing.{all_fed_names, applied_members}
 use Rattle.list_and_watch.specs.Followers.{Follower, after_cut}
-use Rattle.list_and_watch_laws.proofs.Followed.{kind_of_all, with_pieces, at_rest, all_taken}
-use Rattle.list_and_watch_laws.specs.FollowerLaws.{Shows, Starts, after_pieces, InitialStreamsAreShown}
+use Rattle.list_and_watch.proofs.Followed.{kind_of_all, with_pieces, at_rest, all_taken}
+use Rattle.list_and_watch.specs.FollowerLaws.{Shows, Starts, after_pieces, InitialStreamsAreShown}
 
 -- what a follower that took in pieces shows, where this was published before
 abbrev Result : History → Kind → ℕ → ℕ → Snapshot → Follower → Type 0

@@ -6,3 +6,5 @@ pub mod Answered
 pub mod Given
 pub mod Pauses
 pub mod Codes
+pub mod FollowerLaws
+pub mod GivenLaws

@@ -1,6 +1,6 @@
 //! Laws of what followers publish.
-ghost use Rattle.list_and_watch_laws.specs.FollowerLaws.{ListsAreShown, PiecesAreShown, InitialStreamsAreShown};
-ghost use Rattle.list_and_watch_laws.specs.GivenLaws.{ChangesAreGivenOnce};
+ghost use Rattle.list_and_watch.specs.FollowerLaws.{ListsAreShown, PiecesAreShown, InitialStreamsAreShown};
+ghost use Rattle.list_and_watch.specs.GivenLaws.{ChangesAreGivenOnce};
 
 /// Whoever asked a server: a follower that takes in its list and publishes has the server's list at that revision, whatever it had
 /// before.

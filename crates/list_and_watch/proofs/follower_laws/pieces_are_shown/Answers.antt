@@ -1,5 +1,5 @@
-use Rattle.list_and_watch_laws.proofs.Followed.{pieces_shown}
-use Rattle.list_and_watch_laws.proofs.follower_laws.pieces_are_shown.Goals as goal
+use Rattle.list_and_watch.proofs.Followed.{pieces_shown}
+use Rattle.list_and_watch.proofs.follower_laws.pieces_are_shown.Goals as goal
 
 pub returns : goal.returns
 returns c = pieces_shown

@@ -1,3 +1,0 @@
-mod Followed
-mod Given
-mod Opened

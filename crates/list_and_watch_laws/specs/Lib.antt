@@ -1,2 +1,0 @@
-pub mod FollowerLaws
-pub mod GivenLaws
