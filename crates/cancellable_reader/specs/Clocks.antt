@@ -1,5 +1,5 @@
 -- How long a clock went on that a stop interrupts.
-use Rattle.clocks.specs.declared.stopwatch.Stopwatch.{Stopwatch}
+use Rattle.metadata_values.specs.declared.stopwatch.Stopwatch.{Stopwatch}
 use Rattle.cancellable_reader.specs.declared.stoppable_clock.StoppableClock.{StoppableClock}
 use Rattle.tcp_client.specs.Clocks.{stopwatch_of}
 

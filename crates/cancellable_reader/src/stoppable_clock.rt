@@ -15,7 +15,7 @@ pub struct StoppableClock<'a, R> {
 
 impl<'a, R: Clock> StoppableClock<'a, R> {
     ghost use Rattle.std.specs.Prelude.{◌≡◌, ◌-◌, ◌/◌, ◌^◌, min};
-    ghost use Rattle.clocks.specs.Stopwatches.{passed_in};
+    ghost use Rattle.metadata_values.specs.Stopwatches.{passed_in};
     ghost use Rattle.cancellable_reader.specs.Clocks.{stopwatch_at};
     ghost use Rattle.tcp_client.specs.Clocks.{LooksAgain};
 

@@ -7,7 +7,7 @@ ghost use Rattle.spec_api.specs.SelectorTexts.{selector_of_text};
 ghost use Rattle.collection_texts.specs.Given.{RefusesSelector};
 
 use crate::faults::ScopeFault;
-use name_syntax::is_namespace;
+use metadata_values::is_namespace;
 use selector::{Selector, SelectorFault};
 use std::alloc::{AllocError, Global};
 

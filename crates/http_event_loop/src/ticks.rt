@@ -1,5 +1,5 @@
 //! When a loop is.
-use clocks::moment;
+use metadata_values::moment;
 use metadata_values::moments::Moment;
 use std::time::{Clock, Duration, Instant};
 

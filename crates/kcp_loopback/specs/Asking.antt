@@ -2,7 +2,7 @@
 use Rattle.std.specs.Prelude.{◌≡◌, ◌⊎◌, ℕ, List, Bool, true, false, string_bytes}
 use Rattle.http_client.specs.declared.answer.Answer.{Answer}
 use Rattle.http_client.specs.declared.answer.Answer.TheVariants.{Replied, NotSent, Lost}
-use Rattle.clocks.specs.Seconds.{IsTextSince1970}
+use Rattle.metadata_values.specs.Seconds.{IsTextSince1970}
 use Rattle.spec_api.specs.declared.kinds.Kind.{Kind}
 use Rattle.spec_api.specs.ObjectRequests.{Request}
 use Rattle.spec_api.specs.Refusals.{too_large}

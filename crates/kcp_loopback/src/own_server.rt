@@ -8,11 +8,11 @@ ghost use Rattle.desk.specs.Seats.{desk_at, known_at};
 
 use crate::ringing::Ringer;
 use api_client::{Api, Connect, Opened, Remote};
-use clocks::moment;
 use desk::{Anything, Desk, Seat, StorePass};
 use http_backend::Site;
 use http_client::{Answer, More};
 use http_event_loop::Loops;
+use metadata_values::moment;
 use object_keys::Fault;
 use request_decoding::{Asked, read_request};
 use request_encoding::{can_be_told, request_text};

@@ -16,7 +16,7 @@ const TICK_MILLISECONDS: u64 = 5;
 /// How many milliseconds lie between two looks for expectations that aged out: each goes over all that is expected.
 const LOOK_MILLISECONDS: u64 = 1_000;
 
-/// What lets time pass at the board: no more than passes on the clock, of which a fall is no time (`clocks::stopwatch::Stopwatch`). It also
+/// What lets time pass at the board: no more than passes on the clock, of which a fall is no time (`metadata_values::stopwatch::Stopwatch`). It also
 /// wakes the keys of ReplicaSets that wait for what is never seen, as a pod whose create was lost on the way: nothing else adds them when
 /// their expectations age out.
 #[derive(Drop)]

@@ -5,7 +5,7 @@ ghost use Rattle.manager_worker.specs.Finding.{Finds, FindsOf, can_be};
 
 use http_client::{Answer, HttpReply};
 use meta::Object;
-use name_syntax::{is_namespace, is_subdomain};
+use metadata_values::{is_namespace, is_subdomain};
 use object_keys::{Fault, Key};
 use serde_json::Value;
 use spec_api::kinds::Kind;

@@ -1,6 +1,6 @@
 -- Clocks that fall back, and clocks that do not.
 use Rattle.std.proofs.Common.{◌≤◌, ℕ, List, [], ◌∷◌, arith}
-use Rattle.clocks.specs.Stopwatches.{NeverFalls, shown_last, AllIsCounted, FallsAreNotCounted}
+use Rattle.metadata_values.specs.Stopwatches.{NeverFalls, shown_last, AllIsCounted, FallsAreNotCounted}
 
 no_less : (seen : ℕ) (shown : List ℕ) → NeverFalls seen shown → seen ≤ shown_last seen shown
 no_less seen [] rises = omega arith

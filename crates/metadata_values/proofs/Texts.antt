@@ -6,7 +6,7 @@ use Rattle.jiff_core.specs.Timestamp.{nanos_of_seconds}
 use Rattle.jiff_fmt.specs.declared.temporal.printer.DateTimePrinter.{DateTimePrinter}
 use Rattle.jiff_fmt.specs.Printer.{options, IsTimestampText}
 use Rattle.spec_api.specs.Moments.{is_moment}
-use Rattle.clocks.specs.Seconds.{IsTextOf, IsTextSince1970}
+use Rattle.metadata_values.specs.Seconds.{IsTextOf, IsTextSince1970}
 
 -- the plain printer writes the text of the second
 pub printed : (p : DateTimePrinter) (t : Timestamp) (text : List ℕ) (second : ℤ) → options p ≡ (false, 84, None)

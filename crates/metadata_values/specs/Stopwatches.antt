@@ -2,7 +2,7 @@
 use Rattle.std.specs.Prelude.{◌≡◌, ◌<◌, ◌≤◌, ℕ, ◌+◌, ◌-◌, List, [], ◌∷◌, Option, Some, None, option_map, ⊤}
 use Rattle.std.specs.Time.{instant_nanos}
 use Rattle.core.specs.Duration.{as_nanos}
-use Rattle.clocks.specs.declared.stopwatch.Stopwatch.{Stopwatch}
+use Rattle.metadata_values.specs.declared.stopwatch.Stopwatch.{Stopwatch}
 
 -- what the clock showed last
 abbrev pub seen_last : Stopwatch → Option ℕ

@@ -1,16 +1,12 @@
 //! The moment that a clock shows, to the second, and how long a clock went on.
-#![tactic(auto)]
-
-pub mod laws;
-pub mod stopwatch;
 
 ghost use Rattle.std.specs.Prelude.{◌≡◌, IfSome, None};
 ghost use Rattle.jiff_core.specs.Timestamp.{IsTimestampNanos, nanos_of_seconds};
-ghost use Rattle.clocks.specs.Seconds.{IsTextOf, IsMomentOf, IsTextSince1970};
+ghost use Rattle.metadata_values.specs.Seconds.{IsTextOf, IsMomentOf, IsTextSince1970};
 
+use crate::moments::Moment;
 use jiff::Timestamp;
 use jiff_fmt::temporal::DateTimePrinter;
-use metadata_values::moments::Moment;
 use std::time::Clock;
 
 /// Returns the moment of the second since 1970, which may be before it; none where no moment has its text.

@@ -1,5 +1,5 @@
 //! What follows for a stopwatch over a clock that may fall back.
-ghost use Rattle.clocks.specs.Stopwatches.{AllIsCounted, FallsAreNotCounted};
+ghost use Rattle.metadata_values.specs.Stopwatches.{AllIsCounted, FallsAreNotCounted};
 
 /// Between two falls as much passes as passes on the clock, however often it is seen.
 pub fn all_is_counted()

@@ -1,6 +1,23 @@
+//! The small texts of objects: names and labels, moments, also as a clock shows them, resource versions and how far they go, uids.
+//!
 //! The small texts that every object carries: moments, revisions and uids.
+//!
+//! Whether texts can be names: labels of DNS names, labels joined by dots, and the keys and values of objects' labels.
 #![tactic(auto)]
 
+pub mod clock_moments;
+pub mod labels;
+pub mod laws;
+pub mod limits;
 pub mod moments;
+pub mod object_labels;
 pub mod revisions;
+pub mod stopwatch;
+pub mod subdomains;
 pub mod uids;
+
+pub use clock_moments::{moment, moment_of};
+pub use labels::{is_label, is_namespace};
+pub use limits::{GREATEST_REVISION, MOST_OBJECTS};
+pub use object_labels::{is_label_key, is_label_value};
+pub use subdomains::is_subdomain;

@@ -1,5 +1,4 @@
 //! How much a store may hold: how many objects, and up to which revision.
-#![tactic(auto)]
 
 /// The most objects that there may be.
 pub const MOST_OBJECTS: usize = 262144;

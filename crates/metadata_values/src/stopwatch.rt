@@ -2,7 +2,7 @@
 ghost use Rattle.std.specs.Prelude.{◌≡◌, option_map};
 ghost use Rattle.std.specs.Time.{instant_nanos};
 ghost use Rattle.core.specs.Duration.{as_nanos};
-ghost use Rattle.clocks.specs.Stopwatches.{going};
+ghost use Rattle.metadata_values.specs.Stopwatches.{going};
 
 use std::time::{Duration, Instant};
 
@@ -27,7 +27,7 @@ impl Stopwatch {
     ghost use Rattle.std.specs.Prelude.{◌≡◌, ◌+◌, ◌-◌, ◌/◌, ◌^◌, min, None, Some};
     ghost use Rattle.std.specs.Time.{instant_nanos};
     ghost use Rattle.core.specs.Duration.{max_nanos};
-    ghost use Rattle.clocks.specs.Stopwatches.{going, passed_in, seen_last};
+    ghost use Rattle.metadata_values.specs.Stopwatches.{going, passed_in, seen_last};
 
     /// Returns a stopwatch that has seen no clock.
     pub fn new() -> Stopwatch

@@ -9,7 +9,7 @@ ghost use Rattle.request_encoding.specs.Texts.{is_of_segment, is_segment, is_add
 
 use json_values::values::nests_within;
 use lifecycle::DeleteOptions;
-use name_syntax::is_namespace;
+use metadata_values::is_namespace;
 use object_keys::Key;
 use request_parts::Request;
 use serde_json::Value;

@@ -5,7 +5,7 @@ ghost use Rattle.spec_api.specs.Targets.{collection, object_at, status_of, kind_
 ghost use Rattle.request_routing.specs.Seen.{now, route_seen, assembled};
 
 use crate::entries::{Layout, RouteEntry};
-use name_syntax::is_namespace;
+use metadata_values::is_namespace;
 use spec_api::kinds::{Group, Kind};
 
 /// What a path names.

@@ -4,7 +4,7 @@ ghost use Rattle.spec_api.specs.Selectors.{label_key, label_value};
 ghost use Rattle.selector_requirements.specs.Seen.{Reads};
 
 use crate::faults::PartFault;
-use name_syntax::{is_label_key, is_label_value};
+use metadata_values::{is_label_key, is_label_value};
 use std::alloc::Global;
 
 /// Returns the bytes as a text, where a label can have them as its key.

@@ -6,13 +6,13 @@ use crate::snapshots::ViewSnapshot;
 use meta::lent_members::Member;
 use meta::stored::StoredObject;
 use meta::writes::Write;
+use metadata_values::{GREATEST_REVISION, MOST_OBJECTS};
 use object_keys::{Fault, Key};
 use selector::View;
 use shared_map::SharedMap;
 use std::alloc::{AllocError, Global};
 use std::collections::HashMap;
 use std::marker::Model;
-use store_limits::{GREATEST_REVISION, MOST_OBJECTS};
 
 /// All that is there, with one revision over all kinds: 1 for the empty store, and one more after each write.
 /// It is seen as a snapshot.

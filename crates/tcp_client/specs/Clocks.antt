@@ -1,8 +1,8 @@
 -- How long the clock of a machine went on.
 use Rattle.std.specs.Prelude.{◌≡◌, ◌⊎◌, ℕ, ◌+◌, Some, min}
 use Rattle.std.specs.Duration.{max_nanos}
-use Rattle.clocks.specs.Stopwatches.{going, passed_in, seen_last}
-use Rattle.clocks.specs.declared.stopwatch.Stopwatch.{Stopwatch}
+use Rattle.metadata_values.specs.Stopwatches.{going, passed_in, seen_last}
+use Rattle.metadata_values.specs.declared.stopwatch.Stopwatch.{Stopwatch}
 use Rattle.tcp_client.specs.declared.wall_clock.WallClock.{WallClock}
 
 abbrev pub stopwatch_of : {R : Type 0} → WallClock R → Stopwatch

@@ -1,6 +1,6 @@
 //! The clock of the machine.
-use clocks::stopwatch::Stopwatch;
 use list_and_watch::{Onward, Timer};
+use metadata_values::stopwatch::Stopwatch;
 use std::thread;
 use std::time::{Clock, Duration, Instant};
 
@@ -14,7 +14,7 @@ pub struct WallClock<'a, R> {
 
 impl<'a, R: Clock> WallClock<'a, R> {
     ghost use Rattle.std.specs.Prelude.{◌≡◌, ◌-◌, ◌/◌, ◌^◌, min};
-    ghost use Rattle.clocks.specs.Stopwatches.{passed_in};
+    ghost use Rattle.metadata_values.specs.Stopwatches.{passed_in};
     ghost use Rattle.tcp_client.specs.Clocks.{LooksAgain, stopwatch_of};
 
     /// Returns a clock that begins now.

@@ -5,7 +5,7 @@ ghost use Rattle.spec_api.specs.Checks.{text_is, are_labels};
 ghost use Rattle.spec_api.specs.Labels.{is_label_value};
 ghost use Rattle.selector_requirements.specs.Seen.{labels_in};
 
-use name_syntax::{is_label_key, is_label_value};
+use metadata_values::{is_label_key, is_label_value};
 use serde_json::{Map, Value};
 
 fn is_value(value: &Value) -> bool

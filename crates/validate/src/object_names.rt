@@ -4,7 +4,7 @@ ghost use Rattle.std.specs.List.{list_all};
 ghost use Rattle.spec_api.specs.Checks.{generates, is_generating_byte, is_generate_name_valid, is_name_valid};
 
 use meta::Object;
-use name_syntax::is_subdomain;
+use metadata_values::is_subdomain;
 
 /// Returns whether the object has a name that objects may have, or asks for one to be made.
 pub(crate) fn is_name_valid(object: &Object) -> bool

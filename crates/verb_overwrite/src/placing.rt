@@ -9,10 +9,10 @@ ghost use Rattle.verb_parts.specs.Serves.{Serves};
 
 use lifecycle::is_finalized;
 use meta::{Object, StoredObject, Write};
+use metadata_values::GREATEST_REVISION;
 use object_keys::{Fault, Key};
 use reply::Reply;
 use std::alloc::{AllocError, Global};
-use store_limits::GREATEST_REVISION;
 use verb_parts::limits::is_too_large;
 use verb_parts::stored_texts::stored_with_text;
 

@@ -1,9 +1,9 @@
 use Rattle.std.proofs.Common.{◌≡◌, pos, ◌≤ℤ◌, IfSome, FitsSigned, w64, rules}
 use Rattle.std.specs.Int.{int_div_euclid}
 use Rattle.std.proofs.lemmas.Int.{to_z-of_z}
-use Rattle.clocks.specs.Seconds.{IsTextOf}
-use Rattle.clocks.proofs.Texts.{since}
-use Rattle.clocks.proofs.moment.Goals as goal
+use Rattle.metadata_values.specs.Seconds.{IsTextOf}
+use Rattle.metadata_values.proofs.Texts.{since}
+use Rattle.metadata_values.proofs.clock_moments.moment.Goals as goal
 
 pub returns-in-Ok : goal.returns-in-Ok
 returns-in-Ok g c =

@@ -1,8 +1,8 @@
 use Rattle.std.proofs.Common.{◌≡◌, rules}
 use Rattle.jiff_core.specs.Timestamp.{nanos_of_seconds}
-use Rattle.clocks.specs.Seconds.{IsTextOf}
-use Rattle.clocks.proofs.Texts.{printed, kept}
-use Rattle.clocks.proofs.moment_of.Goals as goal
+use Rattle.metadata_values.specs.Seconds.{IsTextOf}
+use Rattle.metadata_values.proofs.Texts.{printed, kept}
+use Rattle.metadata_values.proofs.clock_moments.moment_of.Goals as goal
 
 pub returns-in-Ok-clause-fits : goal.returns-in-Ok-clause-fits
 returns-in-Ok-clause-fits c = λ fits.

@@ -1,8 +1,8 @@
 use Rattle.std.proofs.Common.{◌≡◌, true, false, rules, arith}
 use Rattle.std.specs.List.{list_any}
 use Rattle.spec_api.specs.Labels.{is_slash}
-use Rattle.name_syntax.proofs.Splits.{found, not-found}
-use Rattle.name_syntax.proofs.object_labels.is_label_key.Goals as goal
+use Rattle.metadata_values.proofs.Splits.{found, not-found}
+use Rattle.metadata_values.proofs.object_labels.is_label_key.Goals as goal
 
 pub returns-then-is_subdomain : goal.returns-then-is_subdomain
 returns-then-is_subdomain c =

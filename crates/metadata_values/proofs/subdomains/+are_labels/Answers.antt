@@ -1,6 +1,6 @@
 use Rattle.std.proofs.Common.{rules, ◌==◌, arith}
-use Rattle.name_syntax.proofs.Splits.{cut, uncut}
-use Rattle.name_syntax.proofs.subdomains.+are_labels.Goals as goal
+use Rattle.metadata_values.proofs.Splits.{cut, uncut}
+use Rattle.metadata_values.proofs.subdomains.+are_labels.Goals as goal
 
 pub returns-then-is_label : goal.returns-then-is_label
 returns-then-is_label t c =
