@@ -4,8 +4,8 @@ use Rattle.std.specs.FinMap as map
 use Rattle.spec_client_go.specs.Delays.{Failures}
 use Rattle.spec_client_go.specs.WorkQueues as queues
 use Rattle.spec_client_go.specs.WorkQueues.{work_key_cmp}
-use Rattle.work_keys.specs.WorkKeys.{work_key_of}
-use Rattle.work_keys.specs.declared.work_key.WorkKey.{WorkKey}
+use Rattle.object_keys.specs.WorkKeys.{work_key_of}
+use Rattle.object_keys.specs.declared.work_key.WorkKey.{WorkKey}
 use Rattle.named_keys.specs.Numbers.{said}
 use Rattle.keyed_backoff.specs.Failures as keyed
 

@@ -3,12 +3,12 @@ ghost use Rattle.std.specs.Prelude.{◌≡◌, true, IfOk, OnOk, OnErr};
 ghost use Rattle.std.specs.FinMap as map;
 ghost use Rattle.spec_client_go.specs.Delays.{failures, failed, delay_after};
 ghost use Rattle.backoff.specs.Seen.{restored};
-ghost use Rattle.work_keys.specs.WorkKeys.{work_key_of};
+ghost use Rattle.object_keys.specs.WorkKeys.{work_key_of};
 
 use keyed_backoff::KeyedBackoff;
+use object_keys::WorkKey;
 use std::alloc::{AllocError, Global};
 use std::marker::Model;
-use work_keys::WorkKey;
 
 /// How often each work key failed in a row.
 #[derive(Drop)]

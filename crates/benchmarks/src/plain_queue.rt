@@ -1,8 +1,8 @@
 //! A line without the queue's rules, to compare with.
 use crate::waiting_line::WaitingLine;
+use object_keys::WorkKey;
 use std::alloc::{AllocError, Global};
 use std::collections::{BTreeSet, VecDeque};
-use work_keys::WorkKey;
 
 /// Keys in the order in which they came, and the set of those that are not done.
 #[derive(Drop)]

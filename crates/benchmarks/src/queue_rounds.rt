@@ -1,10 +1,9 @@
 //! The loop that is measured.
 use crate::waiting_line::WaitingLine;
-use object_keys::Key;
+use object_keys::{Key, WorkKey};
 use spec_api::kinds::Kind;
 use spec_client_go::controller::Controller;
 use std::alloc::{AllocError, Global};
-use work_keys::WorkKey;
 
 /// How many keys there are.
 const KEYS: usize = 100_000;

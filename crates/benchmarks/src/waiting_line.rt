@@ -1,6 +1,6 @@
 //! What a benchmark runs: a line of keys.
+use object_keys::WorkKey;
 use std::alloc::AllocError;
-use work_keys::WorkKey;
 use workqueue::Queue;
 
 /// Keys that wait in a line, and keys that were handed out.

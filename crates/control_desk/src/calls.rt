@@ -5,7 +5,7 @@ ghost use Rattle.baton.specs.Passes.{Met};
 ghost use Rattle.work_board.specs.Seen.{observation_of};
 ghost use Rattle.spec_client_go.specs.WorkQueues as queues;
 ghost use Rattle.spec_client_go.specs.WorkQueues.{handed};
-ghost use Rattle.work_keys.specs.WorkKeys.{work_key_of};
+ghost use Rattle.object_keys.specs.WorkKeys.{work_key_of};
 ghost use Rattle.control_desk.specs.Calls.{IsCall, HasTaken, Nothing, after_give, once_ok};
 ghost use Rattle.control_desk.specs.Desks.{known, key_in_hand, IsPassAt, IsNewAt, IsHolding};
 ghost use Rattle.control_desk.specs.Hands.{board, IsBegun, MayFollow};
@@ -15,11 +15,11 @@ use crate::desks::{ControlDesk, WorkPass};
 use crate::entries::WorkEntry;
 use crate::steps;
 use baton::{Baton, EntryMade, Held};
+use object_keys::WorkKey;
 use std::alloc::{AllocError, Global};
 use std::marker::Brand;
 use std::sync::Wait;
 use work_board::{Board, Observation};
-use work_keys::WorkKey;
 
 impl ControlDesk {
     /// Returns a desk over a board where nothing is to be done, and as many passes as asked for. The error is running out of memory.

@@ -4,7 +4,7 @@ ghost use Rattle.spec_client_go.specs.Boards.{is_satisfied};
 ghost use Rattle.work_board.specs.Aged.{HaveAgedOut};
 ghost use Rattle.work_board.specs.Seen.{owner_of};
 ghost use Rattle.object_keys.specs.Keys.{key_of};
-ghost use Rattle.work_keys.specs.WorkKeys.{work_key_of};
+ghost use Rattle.object_keys.specs.WorkKeys.{work_key_of};
 ghost use Rattle.control_desk.specs.Calls.{IsCall, Nothing, after_give, once_ok};
 ghost use Rattle.control_desk.specs.Desks.{known, key_in_hand, IsPassAt, IsHolding};
 ghost use Rattle.control_desk.specs.Hands.{board};

@@ -2,7 +2,7 @@
 ghost use Rattle.std.specs.Prelude.{◌≡◌, IfOk, map};
 ghost use Rattle.spec_client_go.specs.Boards.{may_tick};
 ghost use Rattle.work_board.specs.Seen.{observation_of};
-ghost use Rattle.work_keys.specs.WorkKeys.{work_key_of};
+ghost use Rattle.object_keys.specs.WorkKeys.{work_key_of};
 ghost use Rattle.control_desk.specs.Calls.{IsCall, Nothing, after_give, once_ok};
 ghost use Rattle.control_desk.specs.Desks.{known, key_in_hand, IsPassAt, IsHolding};
 ghost use Rattle.control_desk.specs.Hands.{board};
@@ -12,11 +12,11 @@ use crate::desks::{ControlDesk, WorkPass};
 use crate::entries::WorkEntry;
 use crate::steps;
 use baton::{EntryMade, Held};
+use object_keys::WorkKey;
 use std::alloc::AllocError;
 use std::marker::Brand;
 use std::sync::Wait;
 use work_board::{Board, Observation};
-use work_keys::WorkKey;
 
 impl ControlDesk {
     /// Notes what a change shows of the pods that are expected, and adds the keys that it owes, all in one step. The error is running

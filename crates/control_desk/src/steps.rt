@@ -4,13 +4,12 @@ ghost use Rattle.spec_client_go.specs.Boards.{taken, finished, requeued, observe
 ghost use Rattle.work_board.specs.Seen.{owner_of, observation_of};
 ghost use Rattle.spec_client_go.specs.WorkQueues.{handed};
 ghost use Rattle.object_keys.specs.Keys.{key_of};
-ghost use Rattle.work_keys.specs.WorkKeys.{work_key_of};
+ghost use Rattle.object_keys.specs.WorkKeys.{work_key_of};
 
 use baton::Held;
-use object_keys::Key;
+use object_keys::{Key, WorkKey};
 use std::alloc::AllocError;
 use work_board::{Board, Observation, Owner};
-use work_keys::WorkKey;
 
 /// Hands the key that waits longest to a worker, if one waits.
 pub(crate) fn take_key(held: &mut Held<Board>) -> Result<Option<WorkKey>, AllocError>

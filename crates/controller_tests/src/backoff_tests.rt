@@ -1,8 +1,8 @@
 //! Delays and the moments at which keys come due, from outside.
 use crate::workqueue_tests::work_key;
 use backoff::{Backoff, Delayed};
+use object_keys::WorkKey;
 use std::alloc::{AllocError, Global};
-use work_keys::WorkKey;
 
 /// Has a key fail once for each of the delays, and sets them.
 fn fail(backoff: &mut Backoff, key: &WorkKey, delays: &mut [u64]) -> Result<(), AllocError> {

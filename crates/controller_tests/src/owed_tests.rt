@@ -1,12 +1,12 @@
 //! A Pod that is released, where the ReplicaSet `web` of the Deployment `site` is looked at.
 use crate::fixtures::{POD, RELEASED, WEB, shared};
 use indexer::Indexed;
+use object_keys::WorkKey;
 use plain_informer::{Looks, keys_of};
 use reflector::{Delta, SharedObject};
 use spec_api::kinds::Kind;
 use spec_client_go::controller::Controller;
 use std::alloc::{AllocError, Global};
-use work_keys::WorkKey;
 
 /// Looks at which only `web` is there.
 fn looks(alloc: Global) -> Result<Looks<Indexed>, AllocError> {

@@ -1,9 +1,9 @@
 //! A key that is added while a worker has it.
+use object_keys::WorkKey;
 use spec_api::kinds::Kind;
 use spec_client_go::controller::Controller;
 use std::alloc::{AllocError, Global};
 use test_fixtures::key;
-use work_keys::WorkKey;
 use workqueue::Queue;
 
 /// The key of the work on a ReplicaSet in the namespace `default`.

@@ -19,9 +19,9 @@ use Rattle.expectations.proofs.Aging.{aged_are}
 use Rattle.expectations.proofs.Ordered.{entries-seen}
 use Rattle.expectations.proofs.SeenTexts.{uid_total, uid_tells, text_cmp}
 use Rattle.expectations.proofs.Steps.{Texts, Keyed, key_cmp}
-use Rattle.work_keys.specs.Seen.{seen_entries}
-use Rattle.work_keys.specs.WorkKeys.{work_key_of}
-use Rattle.work_keys.specs.declared.work_key.WorkKey.{WorkKey}
+use Rattle.object_keys.specs.Seen.{seen_entries}
+use Rattle.object_keys.specs.WorkKeys.{work_key_of}
+use Rattle.object_keys.specs.declared.work_key.WorkKey.{WorkKey}
 
 module _ (before now : ℕ) where
   any_shown : (es : Texts) → list_any (λ v. ages_out before now (Some (expectation_of v))) (values_of es) ≡ list_any (λ e. ages_out before now (Some e.1)) (seen_entries string_bytes expectation_of es)

@@ -3,7 +3,7 @@ use Rattle.std.proofs.Common.{◌≡◌, ◌==◌, ◌&&◌, refl, ap, sym, ◌�
 use Rattle.std.proofs.lemmas.Bool.Decides.{nat_tests}
 use Rattle.std.specs.FinSet as set
 use Rattle.std.specs.FinSet.{len-empty}
-use Rattle.work_keys.specs.Seen.{seen_set}
+use Rattle.object_keys.specs.Seen.{seen_set}
 use Rattle.expectations.specs.Seen.{uid_cmp}
 use Rattle.expectations.proofs.SeenTexts.{no_texts}
 

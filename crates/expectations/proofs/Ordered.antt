@@ -8,7 +8,7 @@ use Rattle.std.specs.Ordering.{is_lt}
 use Rattle.std.specs.FinMap as map_of
 use Rattle.std.specs.FinMap.{IsAntisymmetric, is_sorted, entries_sorted, get-entries, get-from_entries}
 use Rattle.std.specs.FinMap.Entries.{below_all, same_entries}
-use Rattle.work_keys.specs.Seen.{seen_entries, seen_map}
+use Rattle.object_keys.specs.Seen.{seen_entries, seen_map}
 
 both : (a b : Bool) → T a → T b → T (a && b)
 both true b x y = y

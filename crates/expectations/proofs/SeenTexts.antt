@@ -12,9 +12,9 @@ use Rattle.std.specs.Set as key_set
 use Rattle.std.specs.FinMap as map_of
 use Rattle.std.specs.FinMap.{IsAntisymmetric, nat_cmp-IsAntisymmetric, slice_cmp-IsAntisymmetric}
 use Rattle.std.specs.FinSet as set
-use Rattle.work_keys.specs.Seen.{seen_map, seen_set}
-use Rattle.work_keys.proofs.SeenMaps as maps
-use Rattle.work_keys.proofs.SeenSets as sets
+use Rattle.object_keys.specs.Seen.{seen_map, seen_set}
+use Rattle.object_keys.proofs.SeenMaps as maps
+use Rattle.object_keys.proofs.SeenSets as sets
 use Rattle.expectations.specs.Seen.{uid_cmp}
 
 pub uid_total : IsTotalOrder uid_cmp

@@ -18,8 +18,8 @@ use Rattle.object_keys.specs.Keys.{key_of}
 use Rattle.object_keys.specs.declared.key.Key.{Key}
 use Rattle.object_keys.specs.contracts.key.KeyOrd.TheImpl as key_ord
 use Rattle.object_keys.proofs.KeyOrder.{key_cmp-name_cmp}
-use Rattle.work_keys.specs.Seen.{seen_map, seen_set}
-use Rattle.work_keys.proofs.SeenMaps as maps
+use Rattle.object_keys.specs.Seen.{seen_map, seen_set}
+use Rattle.object_keys.proofs.SeenMaps as maps
 use Rattle.expectations.specs.declared.expectation.Expectation.{Expectation}
 use Rattle.expectations.specs.Seen.{uid_cmp, Owners, expectation_of, owners_of, nested_of, flat, changed_from, changed_at}
 use Rattle.expectations.proofs.SeenTexts.{uid_total, uid_tells, text_cmp, at_text, get-text, insert-texts, update-text}

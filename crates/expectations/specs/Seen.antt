@@ -15,7 +15,7 @@ use Rattle.spec_client_go.specs.Expectations.{Owner, owner_cmp, Table, Uids}
 use Rattle.expectations.specs.declared.expectation.Expectation.{Expectation}
 use Rattle.object_keys.specs.Keys.{key_of}
 use Rattle.object_keys.specs.declared.key.Key.{Key}
-use Rattle.work_keys.specs.Seen.{seen_map, seen_set}
+use Rattle.object_keys.specs.Seen.{seen_map, seen_set}
 
 abbrev pub uid_cmp : List ℕ → List ℕ → Ordering
 uid_cmp = slice_cmp nat_cmp

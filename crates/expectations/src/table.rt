@@ -7,17 +7,16 @@ ghost use Rattle.std.specs.Prelude.{IfOk};
 ghost use Rattle.std.specs.FinSet as set;
 ghost use Rattle.expectations.specs.Aged.{AreAgedOut};
 ghost use Rattle.expectations.specs.Seen.{expectation_of, uid_cmp};
-ghost use Rattle.work_keys.specs.Seen.{seen_set};
-ghost use Rattle.work_keys.specs.WorkKeys.{work_key_of};
+ghost use Rattle.object_keys.specs.Seen.{seen_set};
+ghost use Rattle.object_keys.specs.WorkKeys.{work_key_of};
 
 use crate::expectation::Expectation;
 use crate::owners;
-use object_keys::Key;
+use object_keys::{Key, WorkKey};
 use spec_client_go::controller::Controller;
 use std::alloc::{AllocError, Global};
 use std::collections::{BTreeMap, BTreeSet};
 use std::marker::Model;
-use work_keys::WorkKey;
 
 /// For each ReplicaSet, by key and uid, what it has asked for and not yet seen. Moments are in milliseconds.
 #[derive(Drop)]

@@ -14,7 +14,7 @@ use Rattle.std.specs.FinMap as map_of
 use Rattle.std.specs.FinMap.{IsAntisymmetric, get-insert, get-remove, same_map}
 use Rattle.std.specs.FinSet as set
 use Rattle.spec_client_go.specs.Delays.{earlier}
-use Rattle.work_keys.proofs.SeenSets as sets
+use Rattle.object_keys.proofs.SeenSets as sets
 use Rattle.named_keys.proofs.Numbers as numbers
 use Rattle.keyed_delays.specs.declared.alarm.Alarm.{Alarm}
 use Rattle.keyed_delays.specs.Delays.{KeyDelays, KeyAlarm, AreAlarms, alarm_cmp, alarm_set, delayed, due, still_delayed}

@@ -9,7 +9,7 @@ use Rattle.std.specs.BTreeSet.{insert_key}
 use Rattle.std.specs.Set as key_set
 use Rattle.std.specs.FinSet as set
 use Rattle.std.specs.FinSet.{IsAntisymmetric}
-use Rattle.work_keys.proofs.SeenSets.{contains-seen, insert-seen, remove-seen}
+use Rattle.object_keys.proofs.SeenSets.{contains-seen, insert-seen, remove-seen}
 use Rattle.keyed_queue.specs.Queues.{KeyQueue, added, got, done}
 use Rattle.keyed_queue.specs.Lists.{said}
 

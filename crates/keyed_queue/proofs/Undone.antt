@@ -9,7 +9,7 @@ use Rattle.std.specs.BTreeMap.{is_at}
 use Rattle.std.specs.Set as key_set
 use Rattle.std.specs.FinSet as set
 use Rattle.std.specs.FinSet.{IsAntisymmetric, contains-insert, contains-remove, contains_tied, same_set}
-use Rattle.work_keys.proofs.SeenSets.{contains-seen, remove-seen}
+use Rattle.object_keys.proofs.SeenSets.{contains-seen, remove-seen}
 use Rattle.keyed_queue.specs.Queues.{KeyQueue, added, added_all}
 use Rattle.keyed_queue.specs.Undoing.{IsFresh, IsMadeBy, IsUndoable}
 use Rattle.keyed_queue.proofs.Steps.{has, queue_of, names}

@@ -9,18 +9,18 @@ ghost use Rattle.control_desk.specs.Calls.{IsCall, Nothing};
 ghost use Rattle.control_desk.specs.Desks.{known, IsPassAt};
 ghost use Rattle.control_desk.specs.Steps.{changing};
 ghost use Rattle.reconcile_types.specs.Hands.{looks_of};
-ghost use Rattle.work_keys.specs.WorkKeys.{work_key_of};
+ghost use Rattle.object_keys.specs.WorkKeys.{work_key_of};
 ghost use Rattle.manager.specs.Handled.{step_of, HasWaited, Handles, StopsAt};
 
 use control_desk::{ControlDesk, WorkPass};
 use indexer::{Indexed, Shift};
+use object_keys::WorkKey;
 use plain_informer::keys_of;
 use pod_observations::{object_in, observations};
 use reconcile_types::Looks;
 use std::alloc::{AllocError, Global};
 use std::sync::Wait;
 use work_board::Observation;
-use work_keys::WorkKey;
 
 /// By what the changes of a publish are handled.
 #[derive(Drop)]

@@ -1,5 +1,5 @@
 //! What stands around each plan.
-use work_keys::WorkKey;
+use object_keys::WorkKey;
 
 /// What stands around each plan of a worker. Tests hold workers there; `Open` lets all pass.
 pub trait Gate {

@@ -6,7 +6,7 @@ ghost use Rattle.control_desk.specs.Calls.{IsCall, Nothing};
 ghost use Rattle.control_desk.specs.Desks.{known, key_in_hand, IsPassAt};
 ghost use Rattle.control_desk.specs.Steps as steps;
 ghost use Rattle.control_desk.specs.Steps.{changing};
-ghost use Rattle.work_keys.specs.WorkKeys.{work_key_of};
+ghost use Rattle.object_keys.specs.WorkKeys.{work_key_of};
 ghost use Rattle.manager_worker.specs.Stepping.{Advances, GoesToEnd};
 
 use crate::gates::Gate;
@@ -15,11 +15,11 @@ use crate::steps::Progress;
 use crate::tools::Tools;
 use api_client::Api;
 use control_desk::{ControlDesk, WorkPass};
+use object_keys::WorkKey;
 use reconcile_turn::{NextStep, Turn};
 use std::alloc::AllocError;
 use std::sync::Wait;
 use std::time::Clock;
-use work_keys::WorkKey;
 
 /// How many milliseconds a worker waits before it tries a step again.
 const PAUSE_MILLISECONDS: u64 = 50;

@@ -1,17 +1,17 @@
 //! A worker.
 ghost use Rattle.std.specs.Prelude.{◌≡◌, option_map};
 ghost use Rattle.control_desk.specs.Desks.{IsPassAt, key_in_hand};
-ghost use Rattle.work_keys.specs.WorkKeys.{work_key_of};
+ghost use Rattle.object_keys.specs.WorkKeys.{work_key_of};
 
 use crate::gates::Gate;
 use crate::looking::Looking;
 use crate::tools::Tools;
 use api_client::Api;
 use control_desk::{ControlDesk, WorkPass};
+use object_keys::WorkKey;
 use reconcile_turn::Turn;
 use std::sync::Wait;
 use std::time::Clock;
-use work_keys::WorkKey;
 
 /// How many milliseconds a worker waits for memory.
 const PAUSE_MILLISECONDS: u64 = 50;

@@ -6,7 +6,7 @@ use Rattle.std.specs.BTreeMap.{is_at, insert_entry}
 use Rattle.std.specs.Map.{lookup, KeepsOthers}
 use Rattle.std.specs.FinMap as map_of
 use Rattle.std.specs.FinMap.{IsAntisymmetric, get-insert, same_map}
-use Rattle.work_keys.proofs.SeenMaps as maps
+use Rattle.object_keys.proofs.SeenMaps as maps
 use Rattle.named_keys.specs.Numbers.{said}
 
 as_it_is : (o : Option ℕ) → option_map (λ n. n) o ≡ o

@@ -3,7 +3,7 @@ use Rattle.std.specs.Prelude.{ℕ, List}
 use Rattle.std.specs.Coded.{Coded, coded×, coded_list, coded_ℕ}
 use Rattle.std.specs.FinMap as map
 use Rattle.std.specs.declared.cmp.Ordering.{Ordering}
-use Rattle.work_keys.specs.Seen.{seen_map}
+use Rattle.object_keys.specs.Seen.{seen_map}
 
 -- the numbers by what the keys say
 abbrev pub said : {K N : Type 0} (R : N → N → Ordering) → (K → N) → List (K × ℕ) → map.FinMap R ℕ

@@ -1,8 +1,7 @@
 //! Keys of objects and work keys are keys to queue by.
 use crate::named::Named;
-use object_keys::Key;
+use object_keys::{Key, WorkKey};
 use std::alloc::AllocError;
-use work_keys::WorkKey;
 
 impl Named for Key {
     ghost use Rattle.spec_api.specs.Keys.{Key as KeyName, key_cmp};
@@ -29,9 +28,9 @@ impl Named for Key {
 
 impl Named for WorkKey {
     ghost use Rattle.spec_client_go.specs.WorkQueues.{WorkKey as Task, work_key_cmp};
-    ghost use Rattle.work_keys.specs.WorkKeys.{work_key_of};
+    ghost use Rattle.object_keys.specs.WorkKeys.{work_key_of};
     ghost use Rattle.spec_client_go.proofs.WorkKeyOrder.{work_key_total, work_key_tells};
-    ghost use Rattle.work_keys.proofs.WorkKeyOrder.{work_key_cmp-task_cmp};
+    ghost use Rattle.object_keys.proofs.WorkKeyOrder.{work_key_cmp-task_cmp};
 
     ghost Name = { Task };
 

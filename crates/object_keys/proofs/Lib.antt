@@ -1,2 +1,6 @@
 pub mod KeyOrder
 pub mod MapViews
+pub mod SeenMaps
+pub mod SeenSets
+pub mod SeenWorkKeys
+pub mod WorkKeyOrder

@@ -6,7 +6,7 @@ use Rattle.std.specs.BTreeMap.{is_at, insert_entry}
 use Rattle.std.specs.Map.{lookup, KeepsOthers, IsKeyTest, AreApart}
 use Rattle.std.specs.FinMap as map_of
 use Rattle.std.specs.FinMap.{IsAntisymmetric, find, get-from_entries, get-insert, get-remove, same_map}
-use Rattle.work_keys.specs.Seen.{seen_entries, seen_map}
+use Rattle.object_keys.specs.Seen.{seen_entries, seen_map}
 
 module _ {K N X Y : Type 0} (R : N → N → Ordering) (o : IsTotalOrder R) (apart : IsAntisymmetric R) (say : K → N) (cmp : K → K → Ordering) (alike : (a b : K) → cmp a b ≡ R (say a) (say b)) (h : X → Y) where
   abbrev seen : List (K × X) → map_of.FinMap R Y

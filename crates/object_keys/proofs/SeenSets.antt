@@ -10,7 +10,7 @@ use Rattle.std.specs.Set.{KeepsOthers}
 use Rattle.std.specs.Map.{IsKeyTest, AreApart}
 use Rattle.std.specs.FinSet as set
 use Rattle.std.specs.FinSet.{IsAntisymmetric, contains-from_list, contains-insert, contains-remove, contains-empty, empty_of_len, same_set}
-use Rattle.work_keys.specs.Seen.{seen_set}
+use Rattle.object_keys.specs.Seen.{seen_set}
 
 module _ {K N : Type 0} (R : N → N → Ordering) (o : IsTotalOrder R) (apart : IsAntisymmetric R) (say : K → N) (cmp : K → K → Ordering) (alike : (a b : K) → cmp a b ≡ R (say a) (say b)) where
   abbrev seen : List K → set.FinSet R

@@ -11,12 +11,12 @@ use Rattle.std.specs.FinMap as map_of
 use Rattle.std.specs.FinSet as set
 use Rattle.spec_client_go.specs.WorkQueues.{work_key_cmp as task_cmp}
 use Rattle.spec_client_go.proofs.WorkKeyOrder.{work_key_total, work_key_tells}
-use Rattle.work_keys.specs.declared.work_key.WorkKey.{WorkKey}
-use Rattle.work_keys.specs.WorkKeys.{work_key_of}
-use Rattle.work_keys.specs.Seen.{work_keys_of, by_work_key}
-use Rattle.work_keys.proofs.WorkKeyOrder.{work_key_cmp, work_key_cmp-task_cmp}
-use Rattle.work_keys.proofs.SeenMaps as maps
-use Rattle.work_keys.proofs.SeenSets as sets
+use Rattle.object_keys.specs.declared.work_key.WorkKey.{WorkKey}
+use Rattle.object_keys.specs.WorkKeys.{work_key_of}
+use Rattle.object_keys.specs.Seen.{work_keys_of, by_work_key}
+use Rattle.object_keys.proofs.WorkKeyOrder.{work_key_cmp, work_key_cmp-task_cmp}
+use Rattle.object_keys.proofs.SeenMaps as maps
+use Rattle.object_keys.proofs.SeenSets as sets
 
 -- keys that compare equal are the same work key
 pub same_task : (a b : WorkKey) → is_eq (work_key_cmp a b) ≡ true → work_key_of a ≡ work_key_of b

@@ -4,9 +4,9 @@ use Rattle.spec_client_go.specs.contracts.controller.ControllerOrd.TheImpl as co
 use Rattle.spec_client_go.specs.declared.controller.Controller.{Controller}
 use Rattle.spec_client_go.specs.WorkQueues.{work_key_cmp as task_cmp, turn}
 use Rattle.object_keys.proofs.KeyOrder.{key_cmp-name_cmp}
-use Rattle.work_keys.specs.contracts.work_key.WorkKeyOrd.TheImpl as work_key_ord
-use Rattle.work_keys.specs.declared.work_key.WorkKey.{WorkKey}
-use Rattle.work_keys.specs.WorkKeys.{work_key_of}
+use Rattle.object_keys.specs.contracts.work_key.WorkKeyOrd.TheImpl as work_key_ord
+use Rattle.object_keys.specs.declared.work_key.WorkKey.{WorkKey}
+use Rattle.object_keys.specs.WorkKeys.{work_key_of}
 
 -- controllers go by their turns
 pub controller_cmp-turn : (a b : Controller) → (controller_ord.ghosts).cmp a b ≡ nat_cmp (turn a) (turn b)

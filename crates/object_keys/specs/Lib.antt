@@ -1,2 +1,4 @@
 pub mod Faults
 pub mod Keys
+pub mod Seen
+pub mod WorkKeys

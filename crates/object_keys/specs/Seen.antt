@@ -4,8 +4,8 @@ use Rattle.std.specs.declared.cmp.Ordering.{Ordering}
 use Rattle.std.specs.FinMap as map_of
 use Rattle.std.specs.FinSet as set
 use Rattle.spec_client_go.specs.WorkQueues.{WorkKeys, work_key_cmp}
-use Rattle.work_keys.specs.declared.work_key.WorkKey.{WorkKey}
-use Rattle.work_keys.specs.WorkKeys.{work_key_of}
+use Rattle.object_keys.specs.declared.work_key.WorkKey.{WorkKey}
+use Rattle.object_keys.specs.WorkKeys.{work_key_of}
 
 -- the entries, each key and value seen
 abbrev pub seen_entries : {K N X Y : Type 0} → (K → N) → (X → Y) → List (K × X) → List (N × Y)

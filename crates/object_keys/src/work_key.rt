@@ -1,8 +1,8 @@
 //! Work keys.
 ghost use Rattle.std.specs.Prelude.{◌≡◌, IfOk};
-ghost use Rattle.work_keys.specs.WorkKeys.{work_key_of};
+ghost use Rattle.object_keys.specs.WorkKeys.{work_key_of};
 
-use object_keys::Key;
+use crate::key::Key;
 use spec_client_go::controller::Controller;
 use std::alloc::AllocError;
 

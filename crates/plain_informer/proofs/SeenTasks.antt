@@ -4,9 +4,9 @@ use Rattle.std.specs.Ordering.{match_ordering}
 use Rattle.std.specs.BTreeSet.{insert_key}
 use Rattle.spec_client_go.specs.WorkQueues.{WorkKey as Task, work_key_cmp as task_cmp}
 use Rattle.spec_client_go.specs.OwedKeys.{with_keys}
-use Rattle.work_keys.specs.WorkKeys.{work_key_of}
-use Rattle.work_keys.specs.declared.work_key.WorkKey.{WorkKey}
-use Rattle.work_keys.proofs.WorkKeyOrder.{work_key_cmp, work_key_cmp-task_cmp}
+use Rattle.object_keys.specs.WorkKeys.{work_key_of}
+use Rattle.object_keys.specs.declared.work_key.WorkKey.{WorkKey}
+use Rattle.object_keys.proofs.WorkKeyOrder.{work_key_cmp, work_key_cmp-task_cmp}
 
 pub said-insert_key : (ks : List WorkKey) (k : WorkKey) → map work_key_of (insert_key work_key_cmp ks k) ≡ insert_key task_cmp (map work_key_of ks) (work_key_of k)
 said-insert_key [] k = refl

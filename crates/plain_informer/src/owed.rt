@@ -6,19 +6,18 @@ ghost use Rattle.spec_client_go.specs.OwnerReferences.{controller_keys, owner_ke
 ghost use Rattle.spec_client_go.specs.OwedKeys.{keys_of, changed, one_of, own_key, adopters, deployments_of_pod, dependents, sets_to_look, deployments_to_look, items_to_look, itself, dependents_left, is_going};
 ghost use Rattle.plain_informer.specs.Owed.{change_of};
 ghost use Rattle.reconcile_types.specs.Hands.{looks_of};
-ghost use Rattle.work_keys.specs.WorkKeys.{work_key_of};
+ghost use Rattle.object_keys.specs.WorkKeys.{work_key_of};
 
 use crate::looking::{adopters, dependents_in};
 use crate::owing::{add_all, in_order};
 use crate::rollouts::{deployments_of_pod, push_all};
 use meta::{Kind, Object};
-use object_keys::Key;
+use object_keys::{Key, WorkKey};
 use owner_references::references::{controller_keys, namespace_of, owner_keys};
 use reconcile_types::{Looks, Seen};
 use spec_client_go::controller::Controller;
 use std::alloc::{AllocError, Global};
 use std::collections::BTreeSet;
-use work_keys::WorkKey;
 
 /// Returns keys, and then others.
 fn joined(mut keys: Vec<Key>, more: Vec<Key>) -> Result<Vec<Key>, AllocError>

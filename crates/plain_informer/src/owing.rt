@@ -2,13 +2,12 @@
 ghost use Rattle.std.specs.Prelude.{◌≡◌, IfOk, OnOk, map};
 ghost use Rattle.object_keys.specs.Keys.{key_of};
 ghost use Rattle.spec_client_go.specs.OwedKeys.{with_keys, for_controller};
-ghost use Rattle.work_keys.specs.WorkKeys.{work_key_of};
+ghost use Rattle.object_keys.specs.WorkKeys.{work_key_of};
 
-use object_keys::Key;
+use object_keys::{Key, WorkKey};
 use spec_client_go::controller::Controller;
 use std::alloc::{AllocError, Global};
 use std::collections::BTreeSet;
-use work_keys::WorkKey;
 
 /// Adds keys that a controller is to look at. The error is running out of memory, after which some may be there.
 pub fn add_all(

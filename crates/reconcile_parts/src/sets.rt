@@ -6,17 +6,16 @@ ghost use Rattle.spec_api.specs.declared.kinds.Kind.TheVariants as kind;
 ghost use Rattle.object_keys.specs.Keys.{key_of};
 ghost use Rattle.object_fields.specs.Lent.{data_of};
 ghost use Rattle.spec_sim.specs.Turns.{owner, shown};
-ghost use Rattle.work_keys.specs.WorkKeys.{work_key_of};
+ghost use Rattle.object_keys.specs.WorkKeys.{work_key_of};
 ghost use Rattle.reconcile_parts.specs.Seen.{sight_of};
 ghost use Rattle.reconcile_parts.specs.Stages.{turn_of};
 
 use crate::sights::{Sight, look_at};
 use meta::{Kind, Object};
-use object_keys::Key;
+use object_keys::{Key, WorkKey};
 use spec_client_go::controller::Controller;
 use std::alloc::{AllocError, Global};
 use work_board::Owner;
-use work_keys::WorkKey;
 
 /// Returns the ReplicaSet under a key, where it was there when ReplicaSets were looked at. It takes no memory.
 fn set_looked_at<'a>(key: &Key, sights: &'a [Sight]) -> Option<&'a Object>

@@ -13,7 +13,7 @@ use Rattle.spec_sim.specs.Turns.{Turn, Sight, Answer, Issue, Expected, expected,
 use Rattle.reconcile_types.specs.Commands.{commands_of}
 use Rattle.reconcile_types.specs.Hands.{reads_of}
 use Rattle.reconcile_types.specs.declared.commands.Plan.{Plan}
-use Rattle.work_keys.specs.WorkKeys.{work_key_of}
+use Rattle.object_keys.specs.WorkKeys.{work_key_of}
 use Rattle.reconcile_parts.specs.Answers.{answers_of, last_version, undone_of}
 use Rattle.reconcile_parts.specs.Seen.{answer_of, sight_of, key_read, command_issued, answered_to}
 use Rattle.reconcile_parts.specs.Stages as phase

@@ -4,13 +4,13 @@ ghost use Rattle.spec_sim.specs.Turns.{hand, asks_by, owner, plan_by};
 ghost use Rattle.reconcile_types.specs.Commands.{commands_of};
 ghost use Rattle.reconcile_types.specs.Hands.{hand_of, reads_of, read_of};
 ghost use Rattle.object_keys.specs.Keys.{key_of};
-ghost use Rattle.work_keys.specs.WorkKeys.{work_key_of};
+ghost use Rattle.object_keys.specs.WorkKeys.{work_key_of};
 ghost use Rattle.reconcile_parts.specs.Pods.{makes_pods};
 ghost use Rattle.reconcile_parts.specs.Seen.{sight_of};
 ghost use Rattle.reconcile_parts.specs.Stages.{IsIn, phase_of, turn_of};
 
 use indexer::Indexed;
-use object_keys::Key;
+use object_keys::{Key, WorkKey};
 use reconcile_parts::pods::makes_pods;
 use reconcile_parts::sets::has_owner;
 use reconcile_parts::sightings::next_sighting;
@@ -20,7 +20,6 @@ use reconcile_types::{Hand, Plan, Read};
 use spec_client_go::controller::Controller;
 use std::alloc::{AllocError, Global};
 use std::sync::Arc;
-use work_keys::WorkKey;
 
 /// Returns a copy of a live read. The error is running out of memory.
 fn copy_of_read(read: &Read) -> Result<Read, AllocError>

@@ -1,6 +1,7 @@
 //! A worker's turn.
 use crate::planning::{copies_of_reads, stage_of};
 use meta::Object;
+use object_keys::WorkKey;
 use reconcile_parts::answers::{CommandAnswer, copies_of_answers};
 use reconcile_parts::expected::Expected;
 use reconcile_parts::next_steps::{NextStep, next_command};
@@ -16,7 +17,6 @@ use std::alloc::{AllocError, Global};
 use std::marker::Model;
 use std::sync::Arc;
 use work_board::{Observation, Owner};
-use work_keys::WorkKey;
 
 /// A worker's turn: the key in its hands, what it has seen and read live, and what it has issued of its plan. It is seen as the
 /// turn of the definitions. The plan is made once, as soon as the last sight or live read is in.
@@ -37,7 +37,7 @@ impl Model for Turn {
     ghost use Rattle.spec_sim.specs.ControlPlaneCodes.{coded_turn};
     ghost use Rattle.spec_sim.specs.Turns as turns;
     ghost use Rattle.reconcile_types.specs.Hands.{reads_of};
-    ghost use Rattle.work_keys.specs.WorkKeys.{work_key_of};
+    ghost use Rattle.object_keys.specs.WorkKeys.{work_key_of};
     ghost use Rattle.reconcile_parts.specs.Answers.{answers_of};
     ghost use Rattle.reconcile_parts.specs.Seen.{sight_of};
     ghost use Rattle.reconcile_parts.specs.Stages.{IsTurn, turn_of, issued, phase_of, commands_in};
@@ -65,7 +65,7 @@ impl Turn {
     ghost use Rattle.spec_sim.specs.NextSteps.{next, finish};
     ghost use Rattle.spec_sim.specs.Turns.{begun, with_sight, with_expected, owner, taken_back, all_accepted};
     ghost use Rattle.request_parts.specs.Requests.{request_of};
-    ghost use Rattle.work_keys.specs.WorkKeys.{work_key_of};
+    ghost use Rattle.object_keys.specs.WorkKeys.{work_key_of};
     ghost use Rattle.reconcile_parts.specs.Seen.{sight_of, answer_of, expected_of, IsNext, step_of, key_read, expectation, command_issued, found_under, answered_to};
 
     /// Returns the turn of a key that was taken: nothing is seen. It takes no memory.

@@ -4,7 +4,7 @@ use Rattle.std.specs.Arc.{arc_value}
 use Rattle.object_keys.specs.Keys.{key_of}
 use Rattle.spec_sim.specs.Managers as managers
 use Rattle.spec_sim.specs.Outcomes as outcomes
-use Rattle.work_keys.specs.WorkKeys.{work_key_of}
+use Rattle.object_keys.specs.WorkKeys.{work_key_of}
 use Rattle.sim_worker_slots.specs.Seen.{issued_of}
 use Rattle.sim_manager.specs.declared.outcomes.WorkOutcome.{WorkOutcome}
 use Rattle.sim_manager.specs.declared.outcomes.WorkOutcome.TheVariants as code

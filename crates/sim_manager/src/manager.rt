@@ -1,12 +1,12 @@
 //! The controller manager.
 use crate::outcomes::WorkOutcome;
 use crate::told_outcomes::ToldOutcome;
+use object_keys::WorkKey;
 use sim_worker_slots::{Issued, Slots};
 use std::alloc::{AllocError, Global};
 use std::marker::Model;
 use std::sync::Arc;
 use work_board::{Board, Observation};
-use work_keys::WorkKey;
 
 /// The board, for each worker its turn or none, and all commands that were issued, in order.
 #[derive(Drop)]
@@ -39,7 +39,7 @@ impl Manager {
     ghost use Rattle.sim_worker_slots.specs.Seen.{issued_of};
     ghost use Rattle.sim_manager.specs.Told.{told_of_tick};
     ghost use Rattle.sim_manager.specs.Outcomes.{outcome_of};
-    ghost use Rattle.work_keys.specs.WorkKeys.{work_key_of};
+    ghost use Rattle.object_keys.specs.WorkKeys.{work_key_of};
 
     /// Returns a manager with so many workers, none of which is in a turn. The error is running out of memory.
     pub fn new(alloc: Global, workers: usize) -> Result<Manager, AllocError>

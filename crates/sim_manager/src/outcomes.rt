@@ -1,11 +1,10 @@
 //! What comes of what workers do.
 
-use object_keys::Key;
+use object_keys::{Key, WorkKey};
 use sim_worker_slots::Issued;
 use spec_api::kinds::Kind;
 use std::alloc::Global;
 use std::sync::Arc;
-use work_keys::WorkKey;
 
 /// What came of a worker's action, of a change that was handled, or of time that passes.
 #[derive(Drop)]

@@ -1,13 +1,13 @@
 //! Outcomes with the lines by which they are told.
 ghost use Rattle.std.specs.Prelude.{◌≡◌, IfOk, option_map, string_bytes};
 ghost use Rattle.spec_sim.specs.ControlPlaneOutcomeTexts.{outcome_text};
-ghost use Rattle.work_keys.specs.WorkKeys.{work_key_of};
+ghost use Rattle.object_keys.specs.WorkKeys.{work_key_of};
 ghost use Rattle.sim_manager.specs.Outcomes.{outcome_of};
 
 use crate::outcomes::WorkOutcome;
+use object_keys::WorkKey;
 use sim_worker_lines::lines;
 use std::alloc::{AllocError, Global};
-use work_keys::WorkKey;
 
 /// What came of a step, and the line by which it is told: where there is no memory for it, the step is not taken.
 #[derive(Drop)]

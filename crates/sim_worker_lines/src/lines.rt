@@ -6,17 +6,16 @@ ghost use Rattle.spec_sim.specs.ControlPlaneOutcomeTexts as texts;
 ghost use Rattle.spec_sim.specs.ControlPlaneOutcomeTexts.{outcome_text, answer_text, verb};
 ghost use Rattle.spec_sim.specs.Outcomes as outcomes;
 ghost use Rattle.reconcile_types.specs.Commands.{command_of};
-ghost use Rattle.work_keys.specs.WorkKeys.{work_key_of};
+ghost use Rattle.object_keys.specs.WorkKeys.{work_key_of};
 ghost use Rattle.reconcile_parts.specs.Seen.{answer_of};
 ghost use Rattle.std.specs.Prelude.{◌++◌, ◌∷◌, OnOk};
 
 use crate::words::{begin, controller, end, push, push_key, push_named, push_number};
-use object_keys::Key;
+use object_keys::{Key, WorkKey};
 use reconcile_parts::CommandAnswer;
 use reconcile_types::Command;
 use spec_api::kinds::Kind;
 use std::alloc::{AllocError, Global};
-use work_keys::WorkKey;
 
 /// Returns the line of a step that was not open. The error is running out of memory.
 pub fn no_step(alloc: Global) -> Result<Vec<u8>, AllocError>

@@ -2,12 +2,12 @@
 use crate::polling::wait_for_count;
 use crate::scenes::Scene;
 use manager::{Gate, Signals};
+use object_keys::WorkKey;
 use spec_client_go::controller::Controller;
 use std::alloc::AllocError;
 use std::sync::Wait;
 use std::sync::atomic::{AtomicU64, Ordering};
 use std::time::Clock;
-use work_keys::WorkKey;
 
 /// A gate at which the turn of one ReplicaSet waits until the turn of another one is planned: that takes two workers, each of which goes on
 /// while the other one waits. Then all threads are to stop.

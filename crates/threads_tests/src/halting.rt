@@ -2,13 +2,13 @@
 use crate::polling::wait_for_count;
 use crate::scenes::Scene;
 use manager::Gate;
+use object_keys::WorkKey;
 use spec_client_go::controller::Controller;
 use std::alloc::AllocError;
 use std::sync::Wait;
 use std::sync::atomic::{AtomicU64, Ordering};
 use std::time::Clock;
 use wakeups::Stop;
-use work_keys::WorkKey;
 
 /// A gate at which the first turn of a key waits, once it is planned and before its first command, until a client lets it go on. The gate
 /// counts how often the key comes. Turns of other keys of ReplicaSets wait there until it has come a second time, and are counted too.

@@ -3,13 +3,12 @@ ghost use Rattle.std.specs.Prelude.{◌≡◌, None};
 ghost use Rattle.control_desk.specs.Desks.{IsPassAt, key_in_hand};
 
 use control_desk::{ControlDesk, WorkPass};
-use object_keys::Key;
+use object_keys::{Key, WorkKey};
 use spec_api::kinds::Kind;
 use spec_client_go::controller::Controller;
 use std::alloc::{AllocError, Global};
 use std::sync::Wait;
 use std::sync::atomic::{AtomicU64, Ordering};
-use work_keys::WorkKey;
 
 /// How many keys each thread adds.
 const EACH: u64 = 125;

@@ -1,5 +1,5 @@
 //! Whose expectations aged out.
-use work_keys::WorkKey;
+use object_keys::WorkKey;
 
 /// The ReplicaSets whose expectations aged out until a moment.
 #[derive(Drop)]

@@ -5,16 +5,15 @@ ghost use Rattle.spec_client_go.specs.WorkQueues.{handed};
 ghost use Rattle.work_board.specs.Aged.{HaveAgedOut};
 ghost use Rattle.work_board.specs.Seen.{owner_of, observation_of};
 ghost use Rattle.object_keys.specs.Keys.{key_of};
-ghost use Rattle.work_keys.specs.WorkKeys.{work_key_of};
+ghost use Rattle.object_keys.specs.WorkKeys.{work_key_of};
 
 use crate::aged_out::AgedOut;
 use crate::observation::{Observation, Owner};
 use backoff::{Backoff, Delayed};
 use expectations::Table;
-use object_keys::Key;
+use object_keys::{Key, WorkKey};
 use std::alloc::{AllocError, Global};
 use std::marker::Model;
-use work_keys::WorkKey;
 use workqueue::Queue;
 
 /// The last moment of a board, in milliseconds: 2^53 - 1, the greatest number that every JSON reader represents exactly.

@@ -1,7 +1,7 @@
 -- What a queue of work keys says.
 use Rattle.spec_client_go.specs.WorkQueues.{WorkQueue, work_key_cmp}
-use Rattle.work_keys.specs.WorkKeys.{work_key_of}
-use Rattle.work_keys.specs.declared.work_key.WorkKey.{WorkKey}
+use Rattle.object_keys.specs.WorkKeys.{work_key_of}
+use Rattle.object_keys.specs.declared.work_key.WorkKey.{WorkKey}
 use Rattle.keyed_queue.specs.Lists.{Lists, said}
 use Rattle.keyed_laws.specs.WorkLaws.{work_queue}
 

@@ -1,12 +1,12 @@
 //! The queue.
 ghost use Rattle.std.specs.Prelude.{◌≡◌, IfOk, OnOk, OnErr, length, map, option_map};
 ghost use Rattle.spec_client_go.specs.WorkQueues.{WorkQueue, idle, added, add, got, handed, done, shut, after_all};
-ghost use Rattle.work_keys.specs.WorkKeys.{work_key_of};
+ghost use Rattle.object_keys.specs.WorkKeys.{work_key_of};
 
 use keyed_queue::KeyedQueue;
+use object_keys::WorkKey;
 use std::alloc::{AllocError, Global};
 use std::marker::Model;
-use work_keys::WorkKey;
 
 /// The work keys that wait, first come first; those that are to be processed; those in workers' hands.
 #[derive(Drop)]

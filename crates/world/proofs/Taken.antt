@@ -22,8 +22,8 @@ use Rattle.sim_manager.specs.Reached.{client_of, after_request}
 use Rattle.sim_steps.specs.Steps.{step_of}
 use Rattle.sim_steps.specs.declared.steps.Step as code
 use Rattle.sim_steps.specs.declared.steps.Step.TheVariants.{Request, Compact, Moves, Restart}
-use Rattle.work_keys.specs.WorkKeys.{work_key_of}
-use Rattle.work_keys.specs.declared.work_key.WorkKey.{WorkKey}
+use Rattle.object_keys.specs.WorkKeys.{work_key_of}
+use Rattle.object_keys.specs.declared.work_key.WorkKey.{WorkKey}
 use Rattle.world.proofs.StoredStood.{stands_opened, stood}
 use Rattle.world.specs.StoredStanding.{Stands}
 use Rattle.world.specs.StoredStates.{StoredState, closed, owed, handle_in, step}

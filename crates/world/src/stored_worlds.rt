@@ -3,10 +3,11 @@ ghost use Rattle.std.specs.Prelude.{◌≡◌, IfOk, map};
 ghost use Rattle.work_board.specs.Seen.{observation_of};
 ghost use Rattle.sim_followers.specs.Notified.{notification_of};
 ghost use Rattle.spec_sim.specs.PodObservations.{observations};
-ghost use Rattle.work_keys.specs.WorkKeys.{work_key_of};
+ghost use Rattle.object_keys.specs.WorkKeys.{work_key_of};
 ghost use Rattle.world.specs.StoredStates.{owed};
 
 use crate::outcomes::Outcome;
+use object_keys::WorkKey;
 use plain_informer::keys_of;
 use pod_observations::{object_in, observations};
 use sim_cluster::Cluster;
@@ -20,7 +21,6 @@ use std::alloc::{AllocError, Global};
 use std::marker::Model;
 use std::sync::Arc;
 use work_board::Observation;
-use work_keys::WorkKey;
 
 /// A cluster, and the controller manager beside it.
 #[derive(Drop)]

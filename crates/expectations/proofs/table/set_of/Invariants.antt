@@ -1,6 +1,6 @@
 use Rattle.std.proofs.Common.{◌≡◌, ◌++◌, map, string_bytes}
 use Rattle.std.specs.FinSet as set
-use Rattle.work_keys.specs.Seen.{seen_set}
+use Rattle.object_keys.specs.Seen.{seen_set}
 use Rattle.expectations.specs.Seen.{uid_cmp}
 use Rattle.expectations.proofs.table.set_of.Given as goal
 

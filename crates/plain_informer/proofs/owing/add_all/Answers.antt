@@ -1,7 +1,7 @@
 use Rattle.std.proofs.Common.{rules, ◌≡◌, ◌∷◌, map, ap, sym, ◌∙◌}
 use Rattle.object_keys.specs.Keys.{key_of}
 use Rattle.spec_client_go.specs.OwedKeys.{with_keys, for_controller}
-use Rattle.work_keys.specs.WorkKeys.{work_key_of}
+use Rattle.object_keys.specs.WorkKeys.{work_key_of}
 use Rattle.plain_informer.proofs.SeenTasks.{said-insert_key}
 use Rattle.plain_informer.proofs.owing.add_all.Goals as goal
 

@@ -1,7 +1,7 @@
 use Rattle.std.proofs.Common.{◌≡◌, map}
 use Rattle.object_keys.specs.Keys.{key_of}
 use Rattle.spec_client_go.specs.OwedKeys.{with_keys, for_controller}
-use Rattle.work_keys.specs.WorkKeys.{work_key_of}
+use Rattle.object_keys.specs.WorkKeys.{work_key_of}
 use Rattle.plain_informer.proofs.owing.add_all.Given as goal
 
 -- with those still to be added, it is all

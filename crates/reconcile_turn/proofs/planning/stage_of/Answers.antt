@@ -3,7 +3,7 @@ use Rattle.std.proofs.lemmas.List.{length-map}
 use Rattle.spec_sim.specs.NextSteps.{unseen}
 use Rattle.reconcile_types.specs.Commands.{commands_of}
 use Rattle.reconcile_types.specs.Hands.{hand_of, reads_of}
-use Rattle.work_keys.specs.WorkKeys.{work_key_of}
+use Rattle.object_keys.specs.WorkKeys.{work_key_of}
 use Rattle.std.specs.Arc.{arc_value}
 use Rattle.reconcile_parts.specs.Seen.{sight_of}
 use Rattle.reconcile_parts.specs.Stages.{turn_of}

@@ -2,7 +2,7 @@ use Rattle.std.proofs.Common.{IfOk, map, subst, ◌∙◌}
 use Rattle.work_board.specs.Aged.{HaveAgedOut}
 use Rattle.control_desk.proofs.Turns.{calls}
 use Rattle.control_desk.proofs.desks.ControlDesk.aged_out.Goals as goal
-use Rattle.work_keys.specs.WorkKeys.{work_key_of}
+use Rattle.object_keys.specs.WorkKeys.{work_key_of}
 
 pub returns-clause-step : goal.returns-clause-step
 returns-clause-step g c =

@@ -1,7 +1,7 @@
 use Rattle.std.proofs.Common.{◌∙◌, ap, refl}
 use Rattle.std.specs.Prelude.{map}
 use Rattle.work_board.specs.Seen.{observation_of}
-use Rattle.work_keys.specs.WorkKeys.{work_key_of}
+use Rattle.object_keys.specs.WorkKeys.{work_key_of}
 use Rattle.control_desk.specs.Desks.{known}
 use Rattle.control_desk.specs.Hands.{board}
 use Rattle.control_desk.specs.Steps.{in_hand, observe}

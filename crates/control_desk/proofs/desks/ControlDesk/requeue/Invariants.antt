@@ -1,6 +1,6 @@
 use Rattle.std.specs.Prelude.{map}
 use Rattle.work_board.specs.Seen.{observation_of}
-use Rattle.work_keys.specs.WorkKeys.{work_key_of}
+use Rattle.object_keys.specs.WorkKeys.{work_key_of}
 use Rattle.control_desk.specs.Desks.{known}
 use Rattle.control_desk.specs.Hands.{board}
 use Rattle.control_desk.specs.Steps.{changing, requeue}

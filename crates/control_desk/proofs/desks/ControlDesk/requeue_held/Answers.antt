@@ -1,6 +1,6 @@
 use Rattle.std.proofs.Common.{◌∙◌, ap, map}
 use Rattle.work_board.specs.Seen.{observation_of}
-use Rattle.work_keys.specs.WorkKeys.{work_key_of}
+use Rattle.object_keys.specs.WorkKeys.{work_key_of}
 use Rattle.control_desk.specs.Desks.{known}
 use Rattle.control_desk.specs.Steps.{in_hand, requeue}
 use Rattle.control_desk.proofs.Turns.{gives_step, key_requeued, follows_step}

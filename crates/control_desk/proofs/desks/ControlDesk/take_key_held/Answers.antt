@@ -1,6 +1,6 @@
 use Rattle.std.proofs.Common.{option_map, ◌∙◌, ap}
 use Rattle.spec_client_go.specs.WorkQueues.{handed}
-use Rattle.work_keys.specs.WorkKeys.{work_key_of}
+use Rattle.object_keys.specs.WorkKeys.{work_key_of}
 use Rattle.control_desk.specs.Desks.{known}
 use Rattle.control_desk.specs.Hands.{board}
 use Rattle.control_desk.specs.Steps.{in_hand}

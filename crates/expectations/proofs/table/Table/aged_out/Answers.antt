@@ -2,7 +2,7 @@ use Rattle.std.proofs.Common.{ap, sym, ◌∙◌, ◌++◌, ◌∷◌, map, subs
 use Rattle.spec_client_go.specs.declared.controller.Controller.TheVariants as controller
 use Rattle.expectations.specs.Aged.{AreAgedOut, replica_set}
 use Rattle.expectations.proofs.AgedTexts.{walked, walked_here, walked_past, walked_are, pushed}
-use Rattle.work_keys.specs.WorkKeys.{work_key_of}
+use Rattle.object_keys.specs.WorkKeys.{work_key_of}
 use Rattle.expectations.proofs.table.Table.aged_out.Goals as goal
 
 pub loop-key-init : goal.loop-key-init

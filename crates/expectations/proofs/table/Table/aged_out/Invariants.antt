@@ -1,7 +1,7 @@
 use Rattle.std.proofs.Common.{◌≡◌, ◌++◌, map}
 use Rattle.std.specs.List.Sorted.{IsStrictlySortedBy}
 use Rattle.std.specs.Map.{keys_of}
-use Rattle.work_keys.specs.WorkKeys.{work_key_of}
+use Rattle.object_keys.specs.WorkKeys.{work_key_of}
 use Rattle.expectations.proofs.AgedTexts.{walked}
 use Rattle.expectations.proofs.Steps.{Keyed, key_cmp, table_of}
 use Rattle.expectations.proofs.table.Table.aged_out.Given as goal

@@ -1,6 +1,6 @@
 use Rattle.std.proofs.Common.{ap, sym, ◌∙◌, ◌++◌, ◌∷◌, []}
 use Rattle.std.specs.FinSet as set
-use Rattle.work_keys.proofs.SeenSets.{contains-seen}
+use Rattle.object_keys.proofs.SeenSets.{contains-seen}
 use Rattle.keyed_queue.specs.Queues.{added}
 use Rattle.keyed_queue.specs.Lists.{said}
 use Rattle.keyed_queue.proofs.Steps.{add_shut, add_dirty}

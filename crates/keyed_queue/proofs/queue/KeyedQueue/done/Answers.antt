@@ -1,6 +1,6 @@
 use Rattle.std.proofs.Common.{ap, sym, ◌∙◌}
 use Rattle.std.specs.Ordering.{is_eq}
-use Rattle.work_keys.proofs.SeenSets.{says_same}
+use Rattle.object_keys.proofs.SeenSets.{says_same}
 use Rattle.keyed_queue.specs.Queues.{done}
 use Rattle.keyed_queue.specs.Lists.{said}
 use Rattle.keyed_queue.proofs.Steps.{queue_of, done_absent, done_again, done_clean, pushed-seen}

@@ -1,6 +1,6 @@
 use Rattle.std.proofs.Common.{ap, ◌∙◌}
 use Rattle.std.specs.FinSet as set
-use Rattle.work_keys.proofs.SeenSets.{insert-seen, remove-seen}
+use Rattle.object_keys.proofs.SeenSets.{insert-seen, remove-seen}
 use Rattle.keyed_queue.specs.Queues.{got}
 use Rattle.keyed_queue.specs.Lists.{said}
 use Rattle.keyed_queue.proofs.Steps.{get_from_front, names}

@@ -6,7 +6,7 @@ use Rattle.spec_sim.specs.ControlPlanes.{change_of}
 use Rattle.spec_sim.specs.PodObservations.{observations}
 use Rattle.control_desk.specs.Desks.{known}
 use Rattle.reconcile_types.specs.Hands.{looks_of}
-use Rattle.work_keys.specs.WorkKeys.{work_key_of}
+use Rattle.object_keys.specs.WorkKeys.{work_key_of}
 use Rattle.manager.proofs.Calls.{called_as}
 use Rattle.manager.proofs.changes.Handling.handle.Goals as goal
 

@@ -1,7 +1,7 @@
 use Rattle.std.proofs.Common.{arith, [], map}
 use Rattle.control_desk.specs.Desks.{known}
 use Rattle.control_desk.specs.Steps.{observe}
-use Rattle.work_keys.specs.WorkKeys.{work_key_of}
+use Rattle.object_keys.specs.WorkKeys.{work_key_of}
 use Rattle.manager.proofs.Calls.{waited, waited_on}
 use Rattle.manager.proofs.None.{on_err}
 use Rattle.manager.proofs.Passing.{passed_by, passed_by_none}

@@ -1,5 +1,5 @@
 use Rattle.std.proofs.Common.{◌∙◌}
-use Rattle.work_keys.specs.WorkKeys.{work_key_of}
+use Rattle.object_keys.specs.WorkKeys.{work_key_of}
 use Rattle.work_board.proofs.Failures.{has_failed, restored_failed}
 use Rattle.work_board.proofs.board.Board.requeue.Goals as goal
 

@@ -1,7 +1,7 @@
 use Rattle.std.proofs.Common.{ap, ◌∙◌, map}
 use Rattle.std.proofs.lemmas.Result.{on_ok_weaker, on_err_weaker}
 use Rattle.spec_client_go.specs.WorkQueues.{work_key_cmp, add, after_all}
-use Rattle.work_keys.specs.WorkKeys.{work_key_of}
+use Rattle.object_keys.specs.WorkKeys.{work_key_of}
 use Rattle.keyed_queue.specs.Lists.{said}
 use Rattle.keyed_laws.specs.WorkLaws.{work_queue}
 use Rattle.keyed_laws.proofs.WorkQueues.{added_all_are}

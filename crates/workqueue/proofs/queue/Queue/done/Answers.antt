@@ -1,6 +1,6 @@
 use Rattle.std.proofs.Common.{ap, ◌∙◌}
 use Rattle.spec_client_go.specs.WorkQueues.{work_key_cmp, done}
-use Rattle.work_keys.specs.WorkKeys.{work_key_of}
+use Rattle.object_keys.specs.WorkKeys.{work_key_of}
 use Rattle.keyed_queue.specs.Lists.{said}
 use Rattle.keyed_laws.specs.WorkLaws.{work_queue}
 use Rattle.keyed_laws.proofs.WorkQueues.{done_is}

@@ -1,7 +1,7 @@
 use Rattle.std.proofs.Common.{map, ap, ◌∙◌}
 use Rattle.work_board.specs.Seen.{observation_of}
 use Rattle.sim_followers.specs.Notified.{notification_of}
-use Rattle.work_keys.specs.WorkKeys.{work_key_of}
+use Rattle.object_keys.specs.WorkKeys.{work_key_of}
 use Rattle.sim_manager.specs.Outcomes.{outcome_of}
 use Rattle.world.proofs.Taken.{world_of, noted_as, handled_world, stands_handled, handled_told, none_handled}
 use Rattle.world.proofs.stored_worlds.StoredWorld.handle.Goals as goal

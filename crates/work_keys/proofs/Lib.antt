@@ -1,4 +1,0 @@
-pub mod SeenMaps
-pub mod SeenSets
-pub mod SeenWorkKeys
-pub mod WorkKeyOrder
