@@ -1,6 +1,6 @@
 -- What a watch sends for an event.
 use Rattle.spec_api.specs.Frames.{Frame, frame_kind}
-use Rattle.watch_events.specs.declared.event.Event as code
+use Rattle.meta.specs.declared.event.Event as code
 
 -- the frame that shows an event
 abbrev pub event_seen : code.Event → Frame

@@ -9,13 +9,12 @@ ghost use Rattle.object_keys.specs.Faults.{refusal_of};
 ghost use Rattle.framing.specs.Events.{event_seen};
 ghost use Rattle.framing.specs.Texts.{framed_text, IsWithin, ReadsAs};
 
-use meta::StoredObject;
+use meta::{Event, StoredObject};
 use object_keys::Fault;
 use serde_json::{Value, json};
 use spec_api::frames::FrameKind;
 use spec_api::kinds::Kind;
 use std::alloc::{AllocError, Global};
-use watch_events::Event;
 
 /// Returns the line of a frame whose object has this text.
 fn framed(alloc: Global, kind: FrameKind, object: &str) -> Result<String, AllocError>

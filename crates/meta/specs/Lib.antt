@@ -6,3 +6,4 @@ pub mod Pieces
 pub mod Refused
 pub mod Stored
 pub mod Writes
+pub mod Events

@@ -1,6 +1,6 @@
 //! Events.
 
-use meta::stored::StoredObject;
+use crate::stored::StoredObject;
 use object_keys::Key;
 use spec_api::frames::ChangeKind;
 

@@ -3,7 +3,7 @@ use Rattle.std.proofs.Common.{◌≡◌, ◌-◌, ℕ, suc, List, [], ◌∷◌,
 use Rattle.std.specs.Prelude.{slice_get}
 use Rattle.spec_api.specs.Versions.{last_change}
 use Rattle.revisions.specs.Events.{event_seen}
-use Rattle.watch_events.specs.declared.event.Event.{Event}
+use Rattle.meta.specs.declared.event.Event.{Event}
 
 last_at : (a : ℕ) (x : Event) (es : List Event) (e : Event) → slice_get (x ∷ es) (length es) ≡ Some e → last_change a (map event_seen (x ∷ es)) ≡ e.revision
 last_at a x [] e is = cc

@@ -10,13 +10,13 @@ ghost use Rattle.revisions.specs.Seen.{seen};
 
 use crate::making::{push_change, shown};
 use crate::past::{apply, state_at, up_to};
+use meta::Event;
 use meta::stored::StoredObject;
 use meta::writes::Write;
 use object_keys::Key;
 use selector::View;
 use std::alloc::{AllocError, Global};
 use std::collections::BTreeMap;
-use watch_events::Event;
 
 /// Returns the events of a view by the writes with a revision above `from` and up to `to`. The writes are gone through once.
 pub fn changes_between(

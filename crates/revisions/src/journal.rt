@@ -1,12 +1,12 @@
 //! A journal.
 use crate::changes::changes_between;
 use crate::past::state_at;
+use meta::Event;
 use meta::lent_members::Member;
 use meta::writes::Write;
 use selector::View;
 use std::alloc::{AllocError, Global};
 use std::marker::Model;
-use watch_events::Event;
 
 /// All writes, the oldest first. The first has revision 2, and each write the next one.
 #[derive(Drop)]

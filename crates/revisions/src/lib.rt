@@ -8,5 +8,5 @@ pub mod past;
 pub mod watched;
 
 pub use journal::Journal;
-pub use watch_events::Event;
+pub use meta::Event;
 pub use watched::WatchedEvents;

@@ -6,6 +6,7 @@ ghost use Rattle.object_keys.specs.Keys.{key_of};
 ghost use Rattle.selector.specs.Views.{view_of};
 ghost use Rattle.revisions.specs.Events.{event_seen};
 
+use meta::Event;
 use meta::objects::Object;
 use meta::stored::StoredObject;
 use metadata_editor::Draft;
@@ -13,7 +14,6 @@ use object_keys::Key;
 use selector::View;
 use spec_api::frames::ChangeKind;
 use std::alloc::{AllocError, Global};
-use watch_events::Event;
 
 /// Returns the object, if the view asks for it. It takes no memory.
 pub fn shown<'a>(

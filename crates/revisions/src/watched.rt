@@ -6,7 +6,7 @@ ghost use Rattle.spec_api.specs.WatchReplies.{told_lines};
 ghost use Rattle.revisions.specs.Events.{event_seen};
 ghost use Rattle.revisions.specs.Watches.{watched_of, last_bookmark};
 
-use watch_events::Event;
+use meta::Event;
 
 /// A part of what a watch asks for.
 #[derive(Drop)]

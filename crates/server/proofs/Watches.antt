@@ -13,7 +13,7 @@ use Rattle.spec_api.specs.Versions.{watched, last_change}
 use Rattle.spec_api.specs.Windows.{Change as Kept, within}
 use Rattle.spec_server.specs.Recorded.{Window, above, event_recorded, events_recorded, recorded_since}
 use Rattle.revisions.specs.Events.{event_seen}
-use Rattle.watch_events.specs.declared.event.Event.{Event}
+use Rattle.meta.specs.declared.event.Event.{Event}
 use Rattle.watch_cache.specs.Served.{Serves}
 use Rattle.revisions.specs.Watches.{watched_of}
 use Rattle.revisions.specs.declared.watched.WatchedEvents.{WatchedEvents}
