@@ -5,9 +5,8 @@ ghost use Rattle.spec_reconcile.specs.Counts.{not_below_0};
 ghost use Rattle.spec_reconcile.specs.Deployments.{pace_of, rolling_amount};
 ghost use Rattle.spec_reconcile.specs.Rollouts.{at_least_one, pace, rounded_down, rounded_up};
 
-use int_or_percent::amount;
 use meta::Object;
-use object_fields::in_spec;
+use object_fields::{amount, in_spec};
 use reconcile_status::{count_in_spec, not_below_0};
 use spec_api::amounts::Amount;
 use spec_reconcile::Pace;

@@ -8,8 +8,8 @@ ghost use Rattle.spec_api.specs.Moments.{is_digit};
 ghost use Rattle.spec_api.specs.Values.{inner_of, members_of};
 ghost use Rattle.spec_reconcile.specs.Revisions.{annotated, is_revision, raised, revision, revision_said, with_revision};
 
-use int_or_percent::digits::{has_digits, number_of};
 use meta::Object;
+use object_fields::digits::{has_digits, number_of};
 use object_fields::{inner, text_in};
 use serde_json::Value;
 use std::alloc::{AllocError, Global};

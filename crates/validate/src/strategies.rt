@@ -4,9 +4,8 @@ ghost use Rattle.serde_json.specs.Find.{get};
 ghost use Rattle.serde_json.specs.View.{view};
 ghost use Rattle.spec_api.specs.Checks.{amount, are_amounts, is_at_most_all, is_rolling, is_strategy, is_strategy_of, is_strategy_valid, is_zero};
 
-use int_or_percent::amount;
 use meta::Object;
-use object_fields::in_spec;
+use object_fields::{amount, in_spec};
 use serde_json::Value;
 use spec_api::amounts::Amount;
 

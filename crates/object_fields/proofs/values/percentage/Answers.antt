@@ -2,7 +2,7 @@ use Rattle.std.proofs.Common.{◌≡◌, false, rules, arith}
 use Rattle.std.specs.List.{list_any}
 use Rattle.spec_api.specs.Checks.{is_percent_sign}
 use Rattle.metadata_values.proofs.Splits.{not-found}
-use Rattle.int_or_percent.proofs.values.percentage.Goals as goal
+use Rattle.object_fields.proofs.values.percentage.Goals as goal
 
 pub returns-in-None : goal.returns-in-None
 returns-in-None c =
