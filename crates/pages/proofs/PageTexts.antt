@@ -11,7 +11,7 @@ use Rattle.spec_api.specs.Pages.{Place}
 use Rattle.spec_api.specs.Verbs.{as_item}
 use Rattle.meta.specs.Members.{member_of}
 use Rattle.meta.specs.declared.lent_members.Member.{Member}
-use Rattle.list_encoding.specs.PageTexts.{page_data, page_pieces}
+use Rattle.pages.specs.PageTexts.{page_data, page_pieces}
 
 compact_text-page_data : (k : Kind) (ds : List Data) (said : Data) → compact_text (page_data k ds said) ≡ page_pieces k ds said
 unfolding serde_json_on_literals

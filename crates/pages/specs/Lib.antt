@@ -1,3 +1,4 @@
 pub mod Read
 pub mod Refused
 pub mod Seen
+pub mod PageTexts

@@ -10,8 +10,8 @@ ghost use Rattle.spec_api.specs.Verbs.{as_item};
 ghost use Rattle.meta.specs.Members.{member_of};
 ghost use Rattle.pages.specs.Seen.{asked_place};
 
+use crate::tokens::Token;
 use meta::{Member, StoredObject};
-use pages::Token;
 use serde_json::{Value, json};
 use spec_api::kinds::Kind;
 use std::alloc::{AllocError, Global};

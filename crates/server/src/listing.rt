@@ -10,10 +10,9 @@ ghost use Rattle.store.specs.Chunks.{after_key};
 ghost use Rattle.server.specs.Pages.{ShowsPage};
 
 use crate::servers::Server;
-use list_encoding::page_text;
 use meta::Member;
 use object_keys::{Fault, Key};
-use pages::{Token, page_of};
+use pages::{Token, page_of, page_text};
 use reply::Reply;
 use selector::View;
 use spec_api::kinds::Kind;

@@ -6,9 +6,9 @@ ghost use Rattle.object_keys.specs.Keys.{key_of};
 ghost use Rattle.selector.specs.Views.{view_of};
 ghost use Rattle.verb_parts.specs.Serves.{Serves};
 
-use list_encoding::page_text;
 use meta::Write;
 use object_keys::{Fault, Key};
+use pages::page_text;
 use reply::Reply;
 use selector::View;
 use std::alloc::Global;

@@ -7,8 +7,8 @@ use Rattle.spec_api.specs.Kinds.{api_version, kind_text}
 use Rattle.spec_api.specs.Lists.{page_metadata}
 use Rattle.spec_api.specs.Verbs.{as_item}
 use Rattle.pages.specs.Seen.{asked_place}
-use Rattle.list_encoding.proofs.PageTexts.{compact_text-page_body, pieces}
-use Rattle.list_encoding.proofs.texts.page_text.Goals as goal
+use Rattle.pages.proofs.PageTexts.{compact_text-page_body, pieces}
+use Rattle.pages.proofs.texts.page_text.Goals as goal
 
 pub returns : goal.returns
 returns c =

@@ -2,7 +2,7 @@ use Rattle.std.proofs.Common.{◌≡◌, ◌++◌, false, map, drop, string_byte
 use Rattle.serde_json.specs.View.{items_of}
 use Rattle.serde_json.specs.Written.{items_text}
 use Rattle.spec_api.specs.Verbs.{as_item}
-use Rattle.list_encoding.proofs.texts.push_items.Given as goal
+use Rattle.pages.proofs.texts.push_items.Given as goal
 
 -- the items so far and those that are left are all
 abbrev pub invariant-loop-member : goal.invariant-loop-member
