@@ -15,7 +15,7 @@ use http_request_reader::receive;
 use http_response::out_of_memory;
 use http_watch::LookPace;
 use metadata_values::moments::Moment;
-use request_routing::table::Routes;
+use request_parts::table::Routes;
 use std::alloc::Global;
 use std::io::{Read, Write};
 

@@ -13,7 +13,7 @@ use http_request_head::FoundHead;
 use http_request_head::reading::{LONGEST_HEAD, MOST_FIELDS, find_head};
 use http_request_reader::{Arrived, Received, look_at};
 use httparse::spans::EMPTY_HEADER_SPAN;
-use request_routing::table::Routes;
+use request_parts::table::Routes;
 use std::alloc::Global;
 
 /// Returns where a connection stands that is refused with this.

@@ -9,7 +9,7 @@ use crate::receiving::arrived;
 use crate::sending::{reply_on, watch_on};
 use api::Served;
 use http_backend::Site;
-use request_routing::table::Routes;
+use request_parts::table::Routes;
 use std::alloc::Global;
 use std::io::{ErrorKind, Read, Write};
 

@@ -9,12 +9,12 @@ use Rattle.std.proofs.Crossing as heap
 use Rattle.std.proofs.MapsCrossing as maps
 use Rattle.std.specs.contracts.alloc.Global as Global
 use Rattle.std.specs.declared.sync.ledger.Ledger.{Ghosts}
-use Rattle.request_routing.below.matchit.proofs.route.Route.TheSendSync as route
-use Rattle.request_routing.below.matchit.proofs.tree.Node.TheLaws.TheKnot as knot
-use Rattle.request_routing.below.slab.proofs.Entry.TheSendSync as place
-use Rattle.request_routing.below.slab.proofs.Slab.TheSendSync as slab
-use Rattle.request_routing.proofs.entries.RouteEntry.TheSendSync as entry
-use Rattle.request_routing.specs.contracts.table.Routes as Routes
+use Rattle.request_parts.below.matchit.proofs.route.Route.TheSendSync as route
+use Rattle.request_parts.below.matchit.proofs.tree.Node.TheLaws.TheKnot as knot
+use Rattle.request_parts.below.slab.proofs.Entry.TheSendSync as place
+use Rattle.request_parts.below.slab.proofs.Slab.TheSendSync as slab
+use Rattle.request_parts.proofs.entries.RouteEntry.TheSendSync as entry
+use Rattle.request_parts.specs.contracts.table.Routes as Routes
 use Rattle.mio.proofs.poll.Poll.TheSendSync as poll_of
 use Rattle.http_event_loop.proofs.accepting.Accepting.TheSendSync as accepting_of
 use Rattle.http_event_loop.proofs.asker.Asker.TheSendSync as asker_of

@@ -11,7 +11,7 @@ use crate::rounds::Rounds;
 use crate::turns::Turns;
 use http_backend::Site;
 use mio::{Events, Poll};
-use request_routing::table::Routes;
+use request_parts::table::Routes;
 use std::alloc::Global;
 use std::io;
 use std::sync::ledger::Ledger;

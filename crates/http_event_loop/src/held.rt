@@ -12,7 +12,7 @@ use http_backend::Site;
 use http_connection::{ConnectionPhase, end_watch, turn};
 use mio::event::Event;
 use mio::net::TcpStream;
-use request_routing::table::Routes;
+use request_parts::table::Routes;
 use spec_api::kinds::Kind;
 use std::alloc::Global;
 use std::io::{ErrorKind, Read};

@@ -9,7 +9,7 @@ use crate::ticks::Tick;
 use crate::wakes::Wakes;
 use http_backend::Site;
 use mio::event::Event;
-use request_routing::table::Routes;
+use request_parts::table::Routes;
 use slab::Slab;
 use spec_api::kinds::Kind;
 use std::alloc::Global;

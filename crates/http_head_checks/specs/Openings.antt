@@ -8,7 +8,7 @@ use Rattle.object_keys.specs.Faults.{refusal_of}
 use Rattle.object_keys.specs.declared.fault.Fault.{Fault}
 use Rattle.object_keys.specs.declared.fault.Fault.TheVariants as fault
 use Rattle.request_parts.specs.Queried.{query_seen}
-use Rattle.request_routing.specs.Seen.{route_seen}
+use Rattle.request_parts.specs.RoutesSeen.{route_seen}
 use Rattle.http_head_checks.specs.declared.opening.CheckedHead.{CheckedHead}
 
 -- what a head asks, in the words of connections

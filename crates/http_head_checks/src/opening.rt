@@ -1,6 +1,6 @@
 //! What a head asks.
 use request_parts::query::Query;
-use request_routing::targets::Target;
+use request_parts::targets::Target;
 use spec_api::methods::Method;
 
 /// What the head of a request asks, but for its body: a method, a target, a query, and how many bytes the body has.

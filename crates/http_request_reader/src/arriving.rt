@@ -19,7 +19,7 @@ use http_request_head::reading::{LONGEST_HEAD, MOST_FIELDS, find_head};
 use http_request_head::{FoundHead, ReadFault, RequestHead};
 use httparse::spans::{EMPTY_HEADER_SPAN, HeaderSpan, RequestSpans};
 use object_keys::Fault;
-use request_routing::table::Routes;
+use request_parts::table::Routes;
 use spec_api::refusals::Part;
 use std::alloc::Global;
 

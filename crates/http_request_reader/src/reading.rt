@@ -23,7 +23,7 @@ use http_request_head::{FoundHead, ReadFault, RequestHead};
 use httparse::spans::{EMPTY_HEADER_SPAN, HeaderSpan, RequestSpans};
 use object_keys::Fault;
 use request_decoding::ask;
-use request_routing::table::Routes;
+use request_parts::table::Routes;
 use spec_api::refusals::Part;
 use std::alloc::Global;
 use std::io::Read;

@@ -2,7 +2,7 @@
 use http_backend::Solo;
 use http_connection::{Arriving, ConnectionPhase, answer, look_on, turn};
 use metadata_values::moments::Moment;
-use request_routing::table::Routes;
+use request_parts::table::Routes;
 use server::Server;
 use std::alloc::{AllocError, Global};
 use std::io::ErrorKind;

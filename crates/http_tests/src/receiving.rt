@@ -4,7 +4,7 @@ use http_request_reader::{Received, receive};
 use object_keys::Fault;
 use request_decoding::Asked;
 use request_parts::Request;
-use request_routing::table::Routes;
+use request_parts::table::Routes;
 use spec_api::kinds::Kind;
 use std::alloc::{AllocError, Global};
 use std::io::ErrorKind;

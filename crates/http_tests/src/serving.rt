@@ -4,7 +4,7 @@ use chunked::Watched;
 use http_backend::Solo;
 use http_watch::LookPace;
 use metadata_values::moments::Moment;
-use request_routing::table::Routes;
+use request_parts::table::Routes;
 use server::Server;
 use spec_api::kinds::Kind;
 use std::alloc::{AllocError, Global};

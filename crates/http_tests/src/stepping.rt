@@ -5,7 +5,7 @@ use http_backend::Solo;
 use http_connection::{Arriving, ConnectionPhase, answer, look_on, turn};
 use http_watch::LookPace;
 use metadata_values::moments::Moment;
-use request_routing::table::Routes;
+use request_parts::table::Routes;
 use server::Server;
 use spec_api::kinds::Kind;
 use std::alloc::{AllocError, Global};

@@ -17,7 +17,7 @@ use object_keys::Fault;
 use request_decoding::{Asked, read_request};
 use request_encoding::{can_be_told, request_text};
 use request_parts::Request;
-use request_routing::table::Routes;
+use request_parts::table::Routes;
 use spec_api::kinds::Kind;
 use std::alloc::{AllocError, Global};
 use std::sync::Wait;

@@ -3,11 +3,11 @@ use Rattle.std.proofs.Common.{◌≡◌, ℕ, List, [], ◌∷◌, ◌++◌, Opt
 use Rattle.std.specs.Cmp.Lexicographic.{bytes_decides}
 use Rattle.std.specs.List.{list_all}
 use Rattle.matchit.specs.Seek.{same_text, or_else}
-use Rattle.request_routing.specs.Parts.{Part, word, found, after_word, after_any, ending}
+use Rattle.request_parts.specs.Parts.{Part, word, found, after_word, after_any, ending}
 use Rattle.spec_api.proofs.Truths.{right_true}
 use Rattle.spec_api.specs.Targets.{after_words, is_filled}
-use Rattle.request_routing.proofs.Seeks.{found-none}
-use Rattle.request_routing.proofs.Walks.{Fits, taken}
+use Rattle.request_parts.proofs.Seeks.{found-none}
+use Rattle.request_parts.proofs.Walks.{Fits, taken}
 
 abbrev pub IsFilled : List (List ℕ) → Type 0
 IsFilled ss = list_all is_filled ss ≡ true

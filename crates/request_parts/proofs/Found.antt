@@ -6,20 +6,20 @@ use Rattle.std.specs.Option.{option_map_or}
 use Rattle.matchit.proofs.OnLiterals.{matchit_on_literals}
 use Rattle.matchit.specs.Router.{RouteOf}
 use Rattle.matchit.specs.Seek.{same_text, or_else}
-use Rattle.request_routing.specs.Parts.{Part, word, any, tokens, rows, found, after_word, after_any}
-use Rattle.request_routing.specs.Table.{table, route_text}
+use Rattle.request_parts.specs.Parts.{Part, word, any, tokens, rows, found, after_word, after_any}
+use Rattle.request_parts.specs.Table.{table, route_text}
 use Rattle.spec_api.proofs.Truths.{both_true}
 use Rattle.spec_api.specs.Targets.{after_words, is_filled}
 use Rattle.spec_api.proofs.PathForms.{Form, all_form, namespace_form, object_form, status_form, below, form_of, by_prefix}
 use Rattle.spec_api.specs.declared.kinds.Group.{Group}
 use Rattle.spec_api.specs.declared.kinds.Group.TheVariants.{Core, Apps}
-use Rattle.request_routing.specs.declared.entries.Layout.{Layout}
-use Rattle.request_routing.specs.declared.entries.Layout.TheVariants.{All, Namespace, Object, Status}
-use Rattle.request_routing.specs.declared.entries.RouteEntry.{RouteEntry}
-use Rattle.request_routing.proofs.Plain.{Plain}
-use Rattle.request_routing.proofs.Seeks.{IsRoute, AreRoutes, found-none, after_word-empty, AreRoutes-word, AreRoutes-any}
-use Rattle.request_routing.proofs.Forms.{IsFilled, filled-tail, filled-rest, same, goes_on, Goes, under, unders, after-under, or-none, on_rest, found-words, after-word, worded, any-step}
-use Rattle.request_routing.proofs.Walks.{Fits, taken}
+use Rattle.request_parts.specs.declared.entries.Layout.{Layout}
+use Rattle.request_parts.specs.declared.entries.Layout.TheVariants.{All, Namespace, Object, Status}
+use Rattle.request_parts.specs.declared.entries.RouteEntry.{RouteEntry}
+use Rattle.request_parts.proofs.Plain.{Plain}
+use Rattle.request_parts.proofs.Seeks.{IsRoute, AreRoutes, found-none, after_word-empty, AreRoutes-word, AreRoutes-any}
+use Rattle.request_parts.proofs.Forms.{IsFilled, filled-tail, filled-rest, same, goes_on, Goes, under, unders, after-under, or-none, on_rest, found-words, after-word, worded, any-step}
+use Rattle.request_parts.proofs.Walks.{Fits, taken}
 
 abbrev pub prefix : Group → List Part
 prefix Core = word (codes "api") ∷ word (codes "v1") ∷ []

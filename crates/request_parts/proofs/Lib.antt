@@ -3,3 +3,9 @@ pub mod TokenTexts
 pub mod Wholes
 pub mod Texts
 pub mod Cuts
+pub mod Plain
+pub mod Seeks
+pub mod Walks
+pub mod Forms
+pub mod Found
+pub mod PathTexts

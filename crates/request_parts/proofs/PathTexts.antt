@@ -7,21 +7,21 @@ use Rattle.std.specs.List.{list_all}
 use Rattle.matchit.specs.Params.{walk, part_of, AllText, named}
 use Rattle.matchit.specs.Router.{RouteOf}
 use Rattle.matchit.specs.Seek.{first}
-use Rattle.request_routing.specs.Parts.{Part, word, any, tokens, joined}
-use Rattle.request_routing.specs.Table.{table, route_text}
+use Rattle.request_parts.specs.Parts.{Part, word, any, tokens, joined}
+use Rattle.request_parts.specs.Table.{table, route_text}
 use Rattle.spec_api.proofs.Truths.{both_true}
 use Rattle.spec_api.specs.Targets.{segments}
-use Rattle.request_routing.specs.Seen.{assembled, now}
+use Rattle.request_parts.specs.RoutesSeen.{assembled, now}
 use Rattle.spec_api.proofs.PathForms.{Form, form_of, route_of, all_form, namespace_form, object_form, status_form}
 use Rattle.spec_api.specs.declared.kinds.Group.{Group}
 use Rattle.spec_api.specs.declared.kinds.Group.TheVariants.{Core, Apps}
-use Rattle.request_routing.specs.declared.entries.Layout.{Layout}
-use Rattle.request_routing.specs.declared.entries.Layout.TheVariants.{All, Namespace, Object, Status}
-use Rattle.request_routing.specs.declared.entries.RouteEntry.{RouteEntry}
-use Rattle.request_routing.proofs.Plain.{AllPlain, AreBytes, whole, whole-split, plain-split}
-use Rattle.request_routing.proofs.Seeks.{finds, finds-other, finds-empty, IsRoute}
-use Rattle.request_routing.proofs.Walks.{taken, walks}
-use Rattle.request_routing.proofs.Found.{routes, routes-are, table-rows, found-form, form-fits, Fitting, row, row_of, group_of, layout_of, layout_parts, prefix, route_names, params_of, route-by}
+use Rattle.request_parts.specs.declared.entries.Layout.{Layout}
+use Rattle.request_parts.specs.declared.entries.Layout.TheVariants.{All, Namespace, Object, Status}
+use Rattle.request_parts.specs.declared.entries.RouteEntry.{RouteEntry}
+use Rattle.request_parts.proofs.Plain.{AllPlain, AreBytes, whole, whole-split, plain-split}
+use Rattle.request_parts.proofs.Seeks.{finds, finds-other, finds-empty, IsRoute}
+use Rattle.request_parts.proofs.Walks.{taken, walks}
+use Rattle.request_parts.proofs.Found.{routes, routes-are, table-rows, found-form, form-fits, Fitting, row, row_of, group_of, layout_of, layout_parts, prefix, route_names, params_of, route-by}
 
 -- ---- segments of a text are texts
 

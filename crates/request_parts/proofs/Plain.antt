@@ -4,7 +4,7 @@ use Rattle.std.proofs.lemmas.Bool.Decides.{nat_tests}
 use Rattle.std.proofs.Math.Seq.{drop-append_seam}
 use Rattle.std.specs.List.{ends_with, slice_split, onto_first}
 use Rattle.matchit.specs.Seek.{has_slash, segment, cuts, same_text}
-use Rattle.request_routing.specs.Parts.{joined}
+use Rattle.request_parts.specs.Parts.{joined}
 
 -- bytes without a slash
 abbrev pub Plain : List ℕ → Type 0

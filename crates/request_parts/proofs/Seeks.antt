@@ -3,8 +3,8 @@ use Rattle.std.proofs.Common.{◌≡◌, ◌≢◌, ℕ, zero, suc, ◌-◌, ◌
 use Rattle.std.proofs.lemmas.Bool.Decides.{nat_tests}
 use Rattle.matchit.specs.Rows.{RowsOf}
 use Rattle.matchit.specs.Seek.{own, step, or_else, seek, first, param_step, has_slash, segment, same_text, longest_from, longest_suffix, with_suffix, cuts}
-use Rattle.request_routing.proofs.Plain.{Plain, AllPlain, IsRest, plain-cuts, slash-cuts, plain-segment, plain-slash, cut-segment, cut-slash, rest-joined}
-use Rattle.request_routing.specs.Parts.{Part, word, any, part_tokens, tokens, joined, rows, after_word, after_any, ending, found}
+use Rattle.request_parts.proofs.Plain.{Plain, AllPlain, IsRest, plain-cuts, slash-cuts, plain-segment, plain-slash, cut-segment, cut-slash, rest-joined}
+use Rattle.request_parts.specs.Parts.{Part, word, any, part_tokens, tokens, joined, rows, after_word, after_any, ending, found}
 
 -- each word has bytes and no slash
 abbrev pub IsRoute : List Part → Type 0

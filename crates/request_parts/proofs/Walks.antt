@@ -5,9 +5,9 @@ use Rattle.std.proofs.Math.Seq.{drop-append_seam, take-append_seam, drop-append-
 use Rattle.std.proofs.lemmas.List.{get_or-append-add}
 use Rattle.matchit.specs.Seek.{segment}
 use Rattle.matchit.specs.Params.{walk, wild_from, wild_stop, part_of, next_at, after_token}
-use Rattle.request_routing.proofs.Plain.{Plain, AllPlain, AreBytes, cut-segment}
-use Rattle.request_routing.proofs.Seeks.{IsRoute}
-use Rattle.request_routing.specs.Parts.{Part, word, any, part_tokens, tokens, joined}
+use Rattle.request_parts.proofs.Plain.{Plain, AllPlain, AreBytes, cut-segment}
+use Rattle.request_parts.proofs.Seeks.{IsRoute}
+use Rattle.request_parts.specs.Parts.{Part, word, any, part_tokens, tokens, joined}
 
 -- the segments are the route's words and fill its parameters
 abbrev pub Fits : List Part → List (List ℕ) → List (ℕ × ℕ) → Type 0

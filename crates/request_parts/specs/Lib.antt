@@ -3,5 +3,9 @@ pub mod Collected
 pub mod Faults
 pub mod Lines
 pub mod Queried
-pub use Rattle.request_types.specs.Requests
+pub use Rattle.request_parts.specs.Requests
 pub mod Seen
+pub mod Requests
+pub mod Parts
+pub mod Table
+pub mod RoutesSeen

@@ -5,8 +5,8 @@ use Rattle.spec_api.specs.ObjectRequests as verbs
 use Rattle.lifecycle.specs.Options.{options_seen}
 use Rattle.object_keys.specs.Keys.{key_of}
 use Rattle.selector.specs.Views.{view_of}
-use Rattle.request_types.specs.declared.request.Request.{Request}
-use Rattle.request_types.specs.declared.request.Request.TheVariants.{Get, List, Create, Update, UpdateStatus, Patch, Delete}
+use Rattle.request_parts.specs.declared.request.Request.{Request}
+use Rattle.request_parts.specs.declared.request.Request.TheVariants.{Get, List, Create, Update, UpdateStatus, Patch, Delete}
 
 abbrev pub request_of : Request → verbs.Request
 request_of (Get k) = verbs.get_object (key_of k)

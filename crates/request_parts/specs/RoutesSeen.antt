@@ -4,11 +4,11 @@ use Rattle.std.specs.Borrow.{Bor}
 use Rattle.spec_api.specs.Kinds.{kind_with_plural}
 use Rattle.spec_api.specs.Targets.{Route, collection, object_at, status_of, kind_with_status}
 use Rattle.spec_api.specs.declared.kinds.Group.{Group}
-use Rattle.request_routing.specs.declared.entries.RouteEntry.{RouteEntry}
-use Rattle.request_routing.specs.declared.entries.Layout.{Layout}
-use Rattle.request_routing.specs.declared.entries.Layout.TheVariants as layout
-use Rattle.request_routing.specs.declared.targets.Target.{Target}
-use Rattle.request_routing.specs.declared.targets.Target.TheVariants.{Collection, Object, Status}
+use Rattle.request_parts.specs.declared.entries.RouteEntry.{RouteEntry}
+use Rattle.request_parts.specs.declared.entries.Layout.{Layout}
+use Rattle.request_parts.specs.declared.entries.Layout.TheVariants as layout
+use Rattle.request_parts.specs.declared.targets.Target.{Target}
+use Rattle.request_parts.specs.declared.targets.Target.TheVariants.{Collection, Object, Status}
 
 abbrev pub now : Bor (List ℕ) → List ℕ
 now text = text.now

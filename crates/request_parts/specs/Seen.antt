@@ -5,8 +5,8 @@ use Rattle.serde_json.specs.declared.value.Value.{Value}
 use Rattle.spec_api.specs.declared.refusals.Part.TheVariants as part
 use Rattle.spec_api.specs.Refusals.{Refusal, bad_request, no_such_path, method_not_allowed}
 use Rattle.spec_api.specs.Targets.{Route, body_of}
-use Rattle.request_routing.specs.Seen.{route_seen}
-use Rattle.request_routing.specs.declared.targets.Target.{Target}
+use Rattle.request_parts.specs.RoutesSeen.{route_seen}
+use Rattle.request_parts.specs.declared.targets.Target.{Target}
 use Rattle.request_parts.specs.declared.check.CheckFault.{CheckFault}
 use Rattle.request_parts.specs.declared.check.CheckFault.TheVariants.{NoSuchPath, BadNamespace, MethodNotAllowed}
 use Rattle.request_parts.specs.declared.body.BodyFault.{BodyFault}

@@ -6,9 +6,9 @@ use Rattle.matchit.specs.Route.{Scan, parse_route}
 use Rattle.matchit.specs.Router.{RouteOf, route_from, nearest}
 use Rattle.spec_api.specs.declared.kinds.Group.{Group}
 use Rattle.spec_api.specs.declared.kinds.Group.TheVariants.{Core, Apps}
-use Rattle.request_routing.specs.declared.entries.Layout.{Layout}
-use Rattle.request_routing.specs.declared.entries.Layout.TheVariants.{All, Namespace, Object, Status}
-use Rattle.request_routing.specs.declared.entries.RouteEntry.{RouteEntry}
+use Rattle.request_parts.specs.declared.entries.Layout.{Layout}
+use Rattle.request_parts.specs.declared.entries.Layout.TheVariants.{All, Namespace, Object, Status}
+use Rattle.request_parts.specs.declared.entries.RouteEntry.{RouteEntry}
 
 abbrev pub Table : Type 0
 Table = RowsOf (RouteOf RouteEntry)

@@ -3,13 +3,13 @@ ghost use Rattle.std.specs.Prelude.{◌≡◌, IfOk, IsOk};
 ghost use Rattle.std.specs.Str.{IsUtf8};
 ghost use Rattle.std.specs.Cow.{cow_str_bytes};
 ghost use Rattle.spec_api.specs.Targets.{is_allowed, path_of, decoded};
-ghost use Rattle.request_routing.specs.Seen.{route_seen};
+ghost use Rattle.request_parts.specs.RoutesSeen.{route_seen};
 ghost use Rattle.request_parts.specs.Checked.{checked_at};
 ghost use Rattle.request_parts.specs.Seen.{checked_seen};
 
+use crate::table::Routes;
+use crate::targets::Target;
 use object_keys::Fault;
-use request_routing::table::Routes;
-use request_routing::targets::Target;
 use spec_api::methods::Method;
 use spec_api::refusals::Part;
 use std::alloc::{AllocError, Global};

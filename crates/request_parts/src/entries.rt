@@ -23,7 +23,7 @@ pub struct RouteEntry {
 
 impl RouteEntry {
     ghost use Rattle.std.specs.Prelude.{◌≡◌};
-    ghost use Rattle.request_routing.specs.Table.{route_text};
+    ghost use Rattle.request_parts.specs.Table.{route_text};
 
     /// Returns the route that leads here, in the router's notation.
     pub fn path(self) -> &'static str

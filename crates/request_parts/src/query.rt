@@ -6,14 +6,14 @@ ghost use Rattle.spec_api.specs.DeleteOptions.{stated_policy};
 ghost use Rattle.spec_api.specs.ListQueries.{collection_of};
 ghost use Rattle.spec_api.specs.Queries.{query_of, parameter};
 ghost use Rattle.spec_api.specs.Targets.{only_policy, query_for};
-ghost use Rattle.request_routing.specs.Seen.{route_seen};
+ghost use Rattle.request_parts.specs.RoutesSeen.{route_seen};
 ghost use Rattle.request_parts.specs.Collected.{Gives};
 ghost use Rattle.request_parts.specs.Queried.{query_seen};
 
 use crate::collections::{Collection, read_collection};
 use crate::faults::QueryFault;
 use crate::members::{Names, has_any, parameter};
-use request_routing::targets::Target;
+use crate::targets::Target;
 use spec_api::methods::Method;
 use spec_api::policies::StatedPolicy;
 use std::alloc::{AllocError, Global};

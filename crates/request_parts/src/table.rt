@@ -1,6 +1,6 @@
 //! The table of routes.
 ghost use Rattle.std.specs.Prelude.{◌≡◌, true, OnOk};
-ghost use Rattle.request_routing.specs.Table.{table, route_text, with_entry, with_group, before, is_free};
+ghost use Rattle.request_parts.specs.Table.{table, route_text, with_entry, with_group, before, is_free};
 
 use crate::entries::{Layout, RouteEntry};
 use crate::targets::{Target, assemble};
@@ -42,7 +42,7 @@ fn insert_group(router: &mut Router<RouteEntry>, group: Group) -> Result<(), All
 impl Routes {
     ghost use Rattle.std.specs.Prelude.{◌≡◌, option_map};
     ghost use Rattle.spec_api.specs.Targets.{route};
-    ghost use Rattle.request_routing.specs.Seen.{route_seen};
+    ghost use Rattle.request_parts.specs.RoutesSeen.{route_seen};
 
     /// Returns the table. It fails only where memory runs out.
     pub fn new(alloc: Global) -> Result<Routes, AllocError> {

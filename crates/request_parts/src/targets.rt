@@ -2,7 +2,7 @@
 ghost use Rattle.std.specs.Prelude.{◌≡◌, option_map, option_and_then};
 ghost use Rattle.spec_api.specs.Kinds.{kind_with_plural};
 ghost use Rattle.spec_api.specs.Targets.{collection, object_at, status_of, kind_with_status};
-ghost use Rattle.request_routing.specs.Seen.{now, route_seen, assembled};
+ghost use Rattle.request_parts.specs.RoutesSeen.{now, route_seen, assembled};
 
 use crate::entries::{Layout, RouteEntry};
 use metadata_values::is_namespace;
@@ -22,7 +22,7 @@ pub enum Target<'p> {
 impl Target<'_> {
     ghost use Rattle.std.specs.Prelude.{◌≡◌};
     ghost use Rattle.spec_api.specs.Targets.{names_namespace};
-    ghost use Rattle.request_routing.specs.Seen.{route_seen};
+    ghost use Rattle.request_parts.specs.RoutesSeen.{route_seen};
 
     /// Returns whether the namespace, where there is one, is a DNS label of at most 63 bytes.
     pub fn names_namespace(&self) -> bool

@@ -6,7 +6,7 @@ use meta::{StoredObject, Write};
 use metadata_values::moments::Moment;
 use object_keys::Fault;
 use reply::Reply;
-use request_types::Request;
+use request_parts::Request;
 use std::alloc::{AllocError, Global};
 use watch_cache::Change;
 
@@ -18,7 +18,7 @@ impl Server {
     ghost use Rattle.spec_api.specs.Verbs.{accept_at, overflows};
     ghost use Rattle.meta.specs.Writes.{write_of};
     ghost use Rattle.object_keys.specs.declared.fault.Fault.TheVariants as fault;
-    ghost use Rattle.request_types.specs.Requests.{request_of};
+    ghost use Rattle.request_parts.specs.Requests.{request_of};
     ghost use Rattle.server.specs.Replies.{Replies};
 
     /// Answers a request at a moment, applies what it writes, and returns the reply. An error, a refusal or running out of

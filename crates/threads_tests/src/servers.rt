@@ -18,7 +18,7 @@ use request_decoding::{Asked, read_request};
 use request_encoding::{can_be_told, request_text};
 use request_parts::Request;
 use request_parts::list_options::ListOptions;
-use request_routing::table::Routes;
+use request_parts::table::Routes;
 use selector::View;
 use spec_api::kinds::Kind;
 use spec_api::versions::At;

@@ -2,14 +2,14 @@
 ghost use Rattle.std.specs.Prelude.{◌≡◌, List, ℕ};
 ghost use Rattle.spec_api.specs.Verbs.{accept_at};
 ghost use Rattle.verb_parts.specs.Serves.{Serves};
-ghost use Rattle.request_types.specs.Requests.{request_of};
+ghost use Rattle.request_parts.specs.Requests.{request_of};
 
 use crate::read::{get, list};
 use meta::Write;
 use metadata_values::moments::Moment;
 use object_keys::Fault;
 use reply::Reply;
-use request_types::Request;
+use request_parts::Request;
 use std::alloc::Global;
 use store::Store;
 use verb_create::create::create;

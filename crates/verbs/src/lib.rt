@@ -5,4 +5,4 @@ pub mod accepting;
 mod read;
 
 pub use crate::accepting::accept;
-pub use request_types::Request;
+pub use request_parts::Request;

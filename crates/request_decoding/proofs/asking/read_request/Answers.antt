@@ -1,6 +1,6 @@
 use Rattle.std.proofs.Common.{Ok, Err, inr, ap, sym, subst, ◌∙◌}
 use Rattle.request_parts.specs.Seen.{check_refusal}
-use Rattle.request_routing.specs.Seen.{route_seen}
+use Rattle.request_parts.specs.RoutesSeen.{route_seen}
 use Rattle.request_decoding.specs.Asked.{Asks}
 use Rattle.request_decoding.proofs.Checks.{checked-asks}
 use Rattle.request_decoding.proofs.asking.read_request.Goals as goal

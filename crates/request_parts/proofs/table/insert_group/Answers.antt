@@ -2,9 +2,9 @@ use Rattle.std.proofs.Common.{◌≡◌, true, refl, ap, ◌∙◌}
 use Rattle.matchit.proofs.OnLiterals.{matchit_on_literals}
 use Rattle.spec_api.specs.declared.kinds.Group.{Group}
 use Rattle.spec_api.specs.declared.kinds.Group.TheVariants.{Core, Apps}
-use Rattle.request_routing.specs.Table.{Table, route_text, with_entry, before, is_free}
-use Rattle.request_routing.specs.declared.entries.Layout.TheVariants.{All, Namespace, Object, Status}
-use Rattle.request_routing.proofs.table.insert_group.Goals as goal
+use Rattle.request_parts.specs.Table.{Table, route_text, with_entry, before, is_free}
+use Rattle.request_parts.specs.declared.entries.Layout.TheVariants.{All, Namespace, Object, Status}
+use Rattle.request_parts.proofs.table.insert_group.Goals as goal
 
 -- the table of a group so far, of each layout before the next
 abbrev before-namespace : Group → Table

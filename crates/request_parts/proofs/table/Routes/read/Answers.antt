@@ -4,12 +4,12 @@ use Rattle.matchit.specs.Params.{walk, named, AllText}
 use Rattle.matchit.specs.Seek.{first}
 use Rattle.spec_api.specs.Targets.{segments}
 use Rattle.spec_api.proofs.PathForms.{Form, form_of, route_of, by_form}
-use Rattle.request_routing.specs.Table.{table}
-use Rattle.request_routing.specs.Seen.{assembled}
-use Rattle.request_routing.specs.declared.entries.RouteEntry.{RouteEntry}
-use Rattle.request_routing.proofs.Plain.{AreBytes}
-use Rattle.request_routing.proofs.Texts.{Reads, reads, bytes-from, now-of, assembled-reads, texts-reads}
-use Rattle.request_routing.proofs.table.Routes.read.Goals as goal
+use Rattle.request_parts.specs.Table.{table}
+use Rattle.request_parts.specs.RoutesSeen.{assembled}
+use Rattle.request_parts.specs.declared.entries.RouteEntry.{RouteEntry}
+use Rattle.request_parts.proofs.Plain.{AreBytes}
+use Rattle.request_parts.proofs.PathTexts.{Reads, reads, bytes-from, now-of, assembled-reads, texts-reads}
+use Rattle.request_parts.proofs.table.Routes.read.Goals as goal
 
 none : (path : List ℕ) (o : Option Form) → Reads path None o → None ≡ option_and_then route_of o
 none path None h = refl

@@ -2,7 +2,7 @@ use Rattle.std.proofs.Common.{◌≡◌, false, subst}
 use Rattle.spec_server.specs.Servers.{Server}
 use Rattle.spec_api.specs.Verbs.{overflows}
 use Rattle.meta.specs.Writes.{write_of}
-use Rattle.request_types.specs.Requests.{request_of}
+use Rattle.request_parts.specs.Requests.{request_of}
 use Rattle.server.proofs.Served.{served_room}
 use Rattle.server.proofs.servers.Server.serve.Goals as goal
 
