@@ -1,11 +1,11 @@
 -- What is written for a collection, as a server reads it.
 use Rattle.std.proofs.Common.{◌≡◌, ◌<◌, ℕ, List, [], ◌∷◌, ◌++◌, length, true, Some, Ok, Err, codes, sym, ◌∙◌, subst, arith}
-use Rattle.collection_texts.proofs.Asked.{target_is_plain, asks_list, asks_page, asks_watch, asks_stream, text_given}
-use Rattle.collection_texts.proofs.Bytes.{are_plain, plain_utf8, plain_visible}
-use Rattle.collection_texts.specs.Scopes.{Scope, IsText, is_scope}
-use Rattle.collection_texts.specs.Seen.{scope_of}
-use Rattle.collection_texts.specs.Targets.{target}
-use Rattle.collection_texts.specs.Told.{Asks}
+use Rattle.request_encoding.proofs.ScopesAsked.{target_is_plain, asks_list, asks_page, asks_watch, asks_stream, text_given}
+use Rattle.request_encoding.proofs.Bytes.{are_plain, plain_utf8, plain_visible}
+use Rattle.request_encoding.specs.Scopes.{Scope, IsText, is_scope}
+use Rattle.request_encoding.specs.Seen.{scope_of}
+use Rattle.request_encoding.specs.Targets.{target}
+use Rattle.request_encoding.specs.ScopesTold.{Asks}
 use Rattle.spec_http_server.specs.Connections.{AsksOnly}
 use Rattle.spec_api.specs.declared.kinds.Kind.{Kind}
 use Rattle.spec_api.specs.declared.methods.Method.TheVariants.{Get}

@@ -5,8 +5,8 @@ use Rattle.chunked.specs.declared.watched.Watched.{Watched}
 use Rattle.http_client.specs.Calls.{IsExchanged}
 use Rattle.http_client.specs.declared.answer.Answer.{Answer}
 use Rattle.http_client.specs.declared.answer.Answer.TheVariants as answer
-use Rattle.collection_texts.specs.Scopes.{Scope}
-use Rattle.collection_texts.specs.Seen.{scope_of}
+use Rattle.request_encoding.specs.Scopes.{Scope}
+use Rattle.request_encoding.specs.Seen.{scope_of}
 use Rattle.request_encoding.specs.Texts.{can_be_told}
 use Rattle.request_encoding.specs.Told.{Asks}
 use Rattle.request_encoding.specs.declared.text.RequestText.{RequestText}

@@ -1,10 +1,10 @@
 -- What follows for a server that is asked over connections.
 use Rattle.std.specs.Prelude.{◌<◌, ◌≤◌, ◌^◌, ℕ, List, ◌++◌, length, Some, Ok, Err, codes, string_bytes}
-use Rattle.collection_texts.specs.Scopes as scopes
-use Rattle.collection_texts.specs.Seen.{scope_of}
-use Rattle.collection_texts.specs.Targets.{list_target, page_target, watch_target, stream_target}
-use Rattle.collection_texts.specs.Told.{IsPage, listed, paged, watched, streamed}
-use Rattle.collection_texts.specs.declared.scopes.Scope.{Scope}
+use Rattle.request_encoding.specs.Scopes as scopes
+use Rattle.request_encoding.specs.Seen.{scope_of}
+use Rattle.request_encoding.specs.Targets.{list_target, page_target, watch_target, stream_target}
+use Rattle.request_encoding.specs.ScopesTold.{IsPage, listed, paged, watched, streamed}
+use Rattle.request_encoding.specs.declared.scopes.Scope.{Scope}
 use Rattle.spec_api.specs.declared.kinds.Kind.{Kind}
 use Rattle.spec_api.specs.Targets.{Asked}
 use Rattle.spec_api.specs.ObjectRequests.{Request}

@@ -9,10 +9,11 @@ use crate::connect::Connect;
 use crate::limits::Limits;
 use crate::outgoing::outgoing;
 use chunked::{Reader, Watched};
-use collection_texts::{Scope, list_target, page_target, stream_target, watch_target};
 use http_client::outgoing::text_of;
 use http_client::{Answer, More, Outgoing, call, read_more};
-use request_encoding::{can_be_told, request_text};
+use request_encoding::{
+    Scope, can_be_told, list_target, page_target, request_text, stream_target, watch_target,
+};
 use request_parts::Request;
 use spec_api::kinds::Kind;
 use std::alloc::Global;
@@ -43,8 +44,8 @@ fn get(target: &str) -> Outgoing<'_>
 impl<C: Connect + Drop> Remote<C> {
     ghost use Rattle.std.specs.Prelude.{◌≡◌};
     ghost use Rattle.http_client.specs.Calls.{text_of};
-    ghost use Rattle.collection_texts.specs.Scopes.{everything};
-    ghost use Rattle.collection_texts.specs.Seen.{scope_of};
+    ghost use Rattle.request_encoding.specs.Scopes.{everything};
+    ghost use Rattle.request_encoding.specs.Seen.{scope_of};
     ghost use Rattle.api_client.specs.Asked.{IsOpened, IsSent, Stays, limits_of, scope_at};
     ghost use Rattle.api_client.specs.Outgoing.{get_text};
 
@@ -123,7 +124,7 @@ impl<C: Connect + Drop> Remote<C> {
 
 impl<C: Connect + Drop> Api for Remote<C> {
     ghost use Rattle.std.specs.Prelude.{◌≡◌};
-    ghost use Rattle.collection_texts.specs.Targets.{list_target, page_target, stream_target, watch_target};
+    ghost use Rattle.request_encoding.specs.Targets.{list_target, page_target, stream_target, watch_target};
     ghost use Rattle.api_client.specs.Asked.{IsCalled, IsOpened, IsSent, Stays, limits_of, scope_at};
     ghost use Rattle.api_client.specs.Outgoing.{get_text};
 

@@ -15,7 +15,7 @@ use Rattle.spec_api.specs.Kinds.{group, plural}
 use Rattle.spec_api.specs.Targets.{collection, collection_text, names_namespace, prefix}
 use Rattle.request_encoding.specs.Texts.{is_visible}
 use Rattle.request_encoding.proofs.Segments.{is_domain_byte}
-use Rattle.collection_texts.specs.Targets.{Parameters, query_text}
+use Rattle.request_encoding.specs.Targets.{Parameters, query_text}
 
 -- a visible byte of ASCII
 abbrev is_plain : ℕ → Bool

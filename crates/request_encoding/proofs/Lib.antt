@@ -3,3 +3,8 @@ pub mod Routed
 pub mod Asked
 pub mod Options
 pub mod Names
+pub mod Paths
+pub mod Bytes
+pub mod Parameters
+pub mod ScopeOptions
+pub mod ScopesAsked

@@ -9,7 +9,7 @@ use Rattle.form_urlencoded.specs.Form.{raw_pairs, decode, extend_pairs}
 use Rattle.form_urlencoded.proofs.FormLemmas.{IsBytePair, round_trip}
 use Rattle.spec_api.proofs.TokenTexts.{IsBytes-utf8}
 use Rattle.spec_api.specs.Queries.{Pairs, decoded_text, parameter, has_any}
-use Rattle.collection_texts.specs.Targets.{Parameters}
+use Rattle.request_encoding.specs.Targets.{Parameters}
 
 -- names and values are texts
 abbrev pub AreTexts : Parameters → Type 0

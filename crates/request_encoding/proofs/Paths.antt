@@ -10,7 +10,7 @@ use Rattle.spec_api.specs.Targets.{collection, collection_text, names_namespace,
 use Rattle.request_encoding.specs.Texts.{is_visible, is_of_path}
 use Rattle.request_encoding.proofs.Segments.{is_path, whole_path, no_query}
 use Rattle.request_encoding.proofs.Routed.{collection_routed, collection_clear}
-use Rattle.collection_texts.specs.Targets.{Parameters, query_text}
+use Rattle.request_encoding.specs.Targets.{Parameters, query_text}
 
 before_mark : (t q : List ℕ) → is_path t ≡ true → prefix_len (λ b. not (b == 63)) (t ++ 63 ∷ q) ≡ length t
 before_mark [] q h = refl

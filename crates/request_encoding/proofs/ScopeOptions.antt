@@ -14,11 +14,11 @@ use Rattle.spec_api.specs.declared.versions.Start.TheVariants.{Streamed}
 use Rattle.spec_api.specs.ListQueries.{ListOptions, WatchOptions, Read, list, watch, understood, limit_of, version_of, match_of, list_at, by_token, list_options, start_of, initial_of, is_true_value, plain_start, watch_options, read_by}
 use Rattle.spec_api.specs.Moments.{is_digit}
 use Rattle.spec_api.specs.Queries.{Pairs, parameter, has_any}
-use Rattle.collection_texts.specs.Scopes.{IsText}
-use Rattle.collection_texts.specs.Targets.{Parameters, selecting}
-use Rattle.collection_texts.specs.Told.{IsPage}
-use Rattle.collection_texts.proofs.Bytes.{plain_utf8}
-use Rattle.collection_texts.proofs.Parameters.{AreTexts, given, any_given, parameter_back, any_back}
+use Rattle.request_encoding.specs.Scopes.{IsText}
+use Rattle.request_encoding.specs.Targets.{Parameters, selecting}
+use Rattle.request_encoding.specs.ScopesTold.{IsPage}
+use Rattle.request_encoding.proofs.Bytes.{plain_utf8}
+use Rattle.request_encoding.proofs.Parameters.{AreTexts, given, any_given, parameter_back, any_back}
 
 -- ---- numbers
 

@@ -14,12 +14,12 @@ use Rattle.spec_api.specs.Queries.{Pairs, parameter, has_any, or_empty}
 use Rattle.spec_api.specs.Selectors.{Requirement}
 use Rattle.spec_api.specs.SelectorTexts.{selector_of_text}
 use Rattle.spec_api.specs.Targets.{Asked, collection, collection_text, route, path_of, read_as, asked_with, asked_at, decoded}
-use Rattle.collection_texts.specs.Scopes.{Scope, IsText, required, names_namespace, is_scope, view_in}
-use Rattle.collection_texts.specs.Targets.{Parameters, selecting, target, list_target, page_target, watch_target, stream_target}
-use Rattle.collection_texts.specs.Told.{Asks, IsPage, listed, paged, watched, streamed}
-use Rattle.collection_texts.proofs.Paths.{path_before, query_after, path_routed, path_clear}
-use Rattle.collection_texts.proofs.Bytes.{are_plain, target_plain, plain_utf8}
-use Rattle.collection_texts.proofs.Options.{IsRead, raw_of, list_read, page_read, watch_read, stream_read}
+use Rattle.request_encoding.specs.Scopes.{Scope, IsText, required, names_namespace, is_scope, view_in}
+use Rattle.request_encoding.specs.Targets.{Parameters, selecting, target, list_target, page_target, watch_target, stream_target}
+use Rattle.request_encoding.specs.ScopesTold.{Asks, IsPage, listed, paged, watched, streamed}
+use Rattle.request_encoding.proofs.Paths.{path_before, query_after, path_routed, path_clear}
+use Rattle.request_encoding.proofs.Bytes.{are_plain, target_plain, plain_utf8}
+use Rattle.request_encoding.proofs.ScopeOptions.{IsRead, raw_of, list_read, page_read, watch_read, stream_read}
 
 as_it_is : (t : List ℕ) → is_utf8 t ≡ true → decoded t ≡ t
 as_it_is t text = rw text refl

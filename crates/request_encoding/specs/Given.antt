@@ -1,9 +1,9 @@
 -- A scope as it is given, and why there is none.
 use Rattle.std.specs.Prelude.{◌≡◌, false, ℕ, List, Option, None}
 use Rattle.spec_api.specs.Selectors.{Requirement}
-use Rattle.collection_texts.specs.Scopes.{Scope, names_namespace, required}
-use Rattle.collection_texts.specs.declared.faults.ScopeFault.{ScopeFault}
-use Rattle.collection_texts.specs.declared.faults.ScopeFault.TheVariants.{Namespace, Selector, NoMemory}
+use Rattle.request_encoding.specs.Scopes.{Scope, names_namespace, required}
+use Rattle.request_encoding.specs.declared.faults.ScopeFault.{ScopeFault}
+use Rattle.request_encoding.specs.declared.faults.ScopeFault.TheVariants.{Namespace, Selector, NoMemory}
 
 abbrev pub scope_with : Option (List ℕ) → Option (List ℕ) → Scope
 scope_with namespace selector = record { namespace = namespace; selector = selector }

@@ -6,7 +6,7 @@ use Rattle.spec_api.specs.declared.versions.At.TheVariants.{Present, Exact}
 use Rattle.spec_api.specs.declared.versions.Start.TheVariants.{Streamed}
 use Rattle.spec_api.specs.ListQueries.{plain_start}
 use Rattle.spec_api.specs.Targets.{Asked, list, watch, read_request}
-use Rattle.collection_texts.specs.Scopes.{Scope, view_in}
+use Rattle.request_encoding.specs.Scopes.{Scope, view_in}
 
 -- a server that is asked by a GET of the target takes it for this
 abbrev pub Asks : List ℕ → Asked → Type 0

@@ -3,7 +3,7 @@ use Rattle.std.specs.Prelude.{ℕ, List, [], ◌∷◌, ◌++◌, Option, Some, 
 use Rattle.form_urlencoded.specs.Form.{extend_pairs}
 use Rattle.spec_api.specs.declared.kinds.Kind.{Kind}
 use Rattle.spec_api.specs.Targets.{collection, path_text}
-use Rattle.collection_texts.specs.Scopes.{Scope}
+use Rattle.request_encoding.specs.Scopes.{Scope}
 
 -- names and values of a query
 abbrev pub Parameters : Type 0

@@ -4,7 +4,7 @@ ghost use Rattle.std.specs.Option.{option_map_or};
 ghost use Rattle.spec_api.specs.Keys.{is_namespace};
 ghost use Rattle.spec_api.specs.Queries.{or_empty};
 ghost use Rattle.spec_api.specs.SelectorTexts.{selector_of_text};
-ghost use Rattle.collection_texts.specs.Given.{RefusesSelector};
+ghost use Rattle.request_encoding.specs.Given.{RefusesSelector};
 
 use crate::faults::ScopeFault;
 use metadata_values::is_namespace;

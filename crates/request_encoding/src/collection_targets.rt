@@ -1,13 +1,13 @@
 //! Targets of lists and watches.
 ghost use Rattle.std.specs.Prelude.{◌≡◌, ◌<◌, ◌^◌, IfOk, map, string_bytes};
 ghost use Rattle.form_urlencoded.specs.Form.{pair_text};
-ghost use Rattle.collection_texts.specs.Seen.{scope_of};
-ghost use Rattle.collection_texts.specs.Targets.{list_target, page_target, stream_target, target, watch_target};
-ghost use Rattle.collection_texts.specs.Told.{Asks, IsPage, listed, paged, streamed, watched};
+ghost use Rattle.request_encoding.specs.Seen.{scope_of};
+ghost use Rattle.request_encoding.specs.Targets.{list_target, page_target, stream_target, target, watch_target};
+ghost use Rattle.request_encoding.specs.ScopesTold.{Asks, IsPage, listed, paged, streamed, watched};
 
 use crate::queries::push_query;
 use crate::scopes::Scope;
-use request_encoding::targets::collection_target;
+use crate::targets::collection_target;
 use spec_api::kinds::Kind;
 use std::alloc::{AllocError, Global};
 

@@ -1,6 +1,6 @@
 //! Why there is no such scope.
 ghost use Rattle.std.specs.Prelude.{◌≡◌};
-ghost use Rattle.collection_texts.specs.declared.faults.ScopeFault.TheVariants.{NoMemory};
+ghost use Rattle.request_encoding.specs.declared.faults.ScopeFault.TheVariants.{NoMemory};
 
 use std::alloc::AllocError;
 

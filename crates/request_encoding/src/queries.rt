@@ -1,7 +1,7 @@
 //! Queries of collections.
 ghost use Rattle.std.specs.Prelude.{◌≡◌, [], ◌++◌, IfOk, OnOk, map, option_map, string_bytes};
 ghost use Rattle.form_urlencoded.specs.Form.{extend_pairs, pair_text};
-ghost use Rattle.collection_texts.specs.Targets.{selecting, query_text};
+ghost use Rattle.request_encoding.specs.Targets.{selecting, query_text};
 
 use form_urlencoded::Serializer;
 use std::alloc::{AllocError, Global};

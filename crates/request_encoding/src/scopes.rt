@@ -1,7 +1,7 @@
 //! Scopes.
 ghost use Rattle.std.specs.Prelude.{◌≡◌, true, option_map, string_bytes};
-ghost use Rattle.collection_texts.specs.Given.{scope_with};
-ghost use Rattle.collection_texts.specs.Scopes.{is_scope};
+ghost use Rattle.request_encoding.specs.Given.{scope_with};
+ghost use Rattle.request_encoding.specs.Scopes.{is_scope};
 
 use crate::checks::{check_selector, is_callable, owned};
 use crate::faults::ScopeFault;
@@ -18,9 +18,9 @@ pub struct Scope {
 
 impl Scope {
     ghost use Rattle.std.specs.Prelude.{◌≡◌, IfOk, IfErr, option_map};
-    ghost use Rattle.collection_texts.specs.Given.{Refuses, scope_with};
-    ghost use Rattle.collection_texts.specs.Scopes.{everything};
-    ghost use Rattle.collection_texts.specs.Seen.{scope_of};
+    ghost use Rattle.request_encoding.specs.Given.{Refuses, scope_with};
+    ghost use Rattle.request_encoding.specs.Scopes.{everything};
+    ghost use Rattle.request_encoding.specs.Seen.{scope_of};
 
     /// Returns the scope of all objects. It takes no memory.
     pub fn everything() -> Scope

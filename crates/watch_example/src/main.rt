@@ -8,10 +8,10 @@ mod printing;
 
 use api_client::Remote;
 use asked::Arguments;
-use collection_texts::{Scope, ScopeFault};
 use list_and_watch::Follower;
 use plain_informer::PlainInformer;
 use printing::Printer;
+use request_encoding::{Scope, ScopeFault};
 use std::io::{BufWriter, ErrorKind};
 use std::process::ExitCode;
 use std::{env, io};

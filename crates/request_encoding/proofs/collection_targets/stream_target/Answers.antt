@@ -1,6 +1,6 @@
-use Rattle.collection_texts.specs.Seen.{scope_of}
-use Rattle.collection_texts.proofs.Asked.{asks_stream, text_given, told}
-use Rattle.collection_texts.proofs.targets.stream_target.Goals as goal
+use Rattle.request_encoding.specs.Seen.{scope_of}
+use Rattle.request_encoding.proofs.ScopesAsked.{asks_stream, text_given, told}
+use Rattle.request_encoding.proofs.collection_targets.stream_target.Goals as goal
 
 pub returns-clause-asks : goal.returns-clause-asks
 returns-clause-asks c =

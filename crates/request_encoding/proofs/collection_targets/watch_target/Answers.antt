@@ -1,8 +1,8 @@
 use Rattle.std.proofs.Common.{◌≡◌, [], ◌∷◌, IfOk, codes, decimal, string_bytes, subst, ◌∙◌}
-use Rattle.collection_texts.specs.Seen.{scope_of}
-use Rattle.collection_texts.specs.Targets.{target}
-use Rattle.collection_texts.proofs.Asked.{asks_watch, text_given, told}
-use Rattle.collection_texts.proofs.targets.watch_target.Goals as goal
+use Rattle.request_encoding.specs.Seen.{scope_of}
+use Rattle.request_encoding.specs.Targets.{target}
+use Rattle.request_encoding.proofs.ScopesAsked.{asks_watch, text_given, told}
+use Rattle.request_encoding.proofs.collection_targets.watch_target.Goals as goal
 
 pub returns-clause-target : goal.returns-clause-target
 returns-clause-target c =

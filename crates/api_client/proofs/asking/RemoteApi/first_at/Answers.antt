@@ -1,6 +1,6 @@
 use Rattle.std.proofs.Common.{rules, ◌≡◌, subst}
 use Rattle.http_client.specs.Calls.{text_of}
-use Rattle.collection_texts.specs.Targets.{page_target}
+use Rattle.request_encoding.specs.Targets.{page_target}
 use Rattle.api_client.specs.Asked.{IsSent, limits_of, scope_at}
 use Rattle.api_client.specs.Outgoing.{get_text}
 use Rattle.api_client.proofs.asking.RemoteApi.first_at.Goals as goal

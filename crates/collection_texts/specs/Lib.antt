@@ -1,6 +1,0 @@
--- The definitions, in reading order.
-pub mod Scopes
-pub mod Targets
-pub mod Told
-pub mod Given
-pub mod Seen
