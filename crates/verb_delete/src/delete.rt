@@ -20,8 +20,8 @@ use spec_api::kinds::Kind;
 use spec_api::policies::Policy;
 use std::alloc::{AllocError, Global};
 use store::Store;
-use verb_overwrite::is_full;
 use verb_parts::generations::at_revision;
+use verb_parts::is_full;
 use verb_parts::stored_texts::stored_with_text;
 
 /// Returns the object under a key removed or, while finalizers are left, being deleted from this moment on.

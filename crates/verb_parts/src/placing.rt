@@ -7,14 +7,14 @@ ghost use Rattle.spec_api.specs.Verbs.{is_past_greatest, put_in_place, take_out}
 ghost use Rattle.object_keys.specs.Keys.{key_of};
 ghost use Rattle.verb_parts.specs.Serves.{Serves};
 
+use crate::limits::is_too_large;
+use crate::stored_texts::stored_with_text;
 use lifecycle::is_finalized;
 use meta::{Object, StoredObject, Write};
 use metadata_values::GREATEST_REVISION;
 use object_keys::{Fault, Key};
 use reply::Reply;
 use std::alloc::{AllocError, Global};
-use verb_parts::limits::is_too_large;
-use verb_parts::stored_texts::stored_with_text;
 
 /// Returns the text of the stored object, if another at its version says the same.
 pub fn unchanged(

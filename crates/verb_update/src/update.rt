@@ -20,11 +20,11 @@ use spec_api::refusals::Part;
 use std::alloc::{AllocError, Global};
 use store::Store;
 use validate::check_update;
-use verb_overwrite::{replaced, unchanged};
 use verb_parts::bodies::object_in;
 use verb_parts::existing::Existing;
 use verb_parts::generations::updated;
 use verb_parts::names_given::{mismatch, names_path};
+use verb_parts::{replaced, unchanged};
 
 /// Returns the object of a body, in the place of the one under a key.
 pub fn update(

@@ -20,11 +20,11 @@ use spec_api::refusals::{Field, Part};
 use std::alloc::{AllocError, Global};
 use store::Store;
 use validate::is_status_valid;
-use verb_overwrite::{put_in_place, unchanged};
 use verb_parts::existing::Existing;
 use verb_parts::first_status::first_status;
 use verb_parts::generations::at_revision;
 use verb_parts::names_given::{mismatch, names_path};
+use verb_parts::{put_in_place, unchanged};
 
 /// Returns the object under a key with the status of a body. Nothing else of the body is taken. Of a
 /// kind that has no status none is found.
