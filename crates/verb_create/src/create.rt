@@ -12,6 +12,7 @@ ghost use Rattle.serde_json.specs.View.{view};
 ghost use Rattle.verb_parts.specs.Serves.{Serves};
 
 use crate::made_names::made_key;
+use crate::making::{created, with_first_status};
 use defaults::defaults;
 use meta::{Object, Write};
 use metadata_values::moments::Moment;
@@ -24,7 +25,6 @@ use spec_api::refusals::Part;
 use std::alloc::{AllocError, Global};
 use store::Store;
 use validate::check_create;
-use verb_new_object::{created, with_first_status};
 use verb_parts::limits::is_too_large;
 use verb_parts::names_given::is_other;
 use verb_parts::stored_texts::stored_with_text;

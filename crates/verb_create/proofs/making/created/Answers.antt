@@ -2,7 +2,7 @@ use Rattle.std.proofs.Common.{◌+◌, codes, decimal, string_bytes}
 use Rattle.serde_json.specs.Data.{string, put}
 use Rattle.spec_api.specs.Metadata.{metadata_of}
 use Rattle.spec_api.specs.NewObjects.{new_metadata}
-use Rattle.verb_new_object.proofs.making.created.Goals as goal
+use Rattle.verb_create.proofs.making.created.Goals as goal
 
 pub returns : goal.returns
 returns c =

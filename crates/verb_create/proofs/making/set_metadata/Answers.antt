@@ -1,7 +1,7 @@
 use Rattle.std.proofs.Common.{◌≡◌, OnOk, codes, refl, subst, string_bytes}
 use Rattle.serde_json.specs.Data.{string, put}
 use Rattle.spec_api.specs.NewObjects.{new_metadata}
-use Rattle.verb_new_object.proofs.making.set_metadata.Goals as goal
+use Rattle.verb_create.proofs.making.set_metadata.Goals as goal
 
 pub returns-clause-metadata : goal.returns-clause-metadata
 returns-clause-metadata c =
