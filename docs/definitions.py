@@ -23,16 +23,14 @@ BESIDE = {
     "http_client": ["Replies", "Bodies", "Calls", "Watches"],
     "spec_server": ["Snapshots", "Recorded", "Servers"],
     "spec_client_go": ["ReadFrames", "Reflectors", "WorkQueues", "Delays", "Expectations", "Informers", "Shifts", "OwnerReferences", "OwedKeys", "Hands", "Commands", "Boards"],
-    "keyed_queue": ["Queues"],
-    "keyed_delays": ["Delays"],
-    "keyed_backoff": ["Failures"],
+    "keyed_queues": ["Queues", "Delays", "Failures"],
     "spec_sim": ["Followers", "Moves", "Clusters", "OutcomeTexts", "StepLines", "Turns", "NextSteps", "PodObservations", "Managers", "Outcomes", "ControlPlanes", "ControlPlaneOutcomeTexts", "ControlPlaneStepLines"],
     "spec_reconcile": ["Pods", "PodClaims", "PodRanks", "NewPods", "ReplicaSets", "Rollouts", "Templates", "Revisions", "Deployments", "Standings", "GarbageCollection", "MetadataEdits",
               "Counts", "Statuses", "Orders"],
 }
 
 # The crates of laws, whose words stand in the index of words.
-LAWS = ["spec_laws", "keyed_laws", "informer_laws", "sim_worker_laws", "sim_cluster_laws", "sim_control_plane_laws", "sim_overshoot_laws", "list_and_watch", "spec_http_client"]
+LAWS = ["spec_laws", "keyed_queues", "informer_laws", "sim_worker_laws", "sim_cluster_laws", "sim_control_plane_laws", "sim_overshoot_laws", "list_and_watch", "spec_http_client"]
 
 HEAD = """# Definitions
 

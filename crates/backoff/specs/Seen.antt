@@ -6,8 +6,8 @@ use Rattle.spec_client_go.specs.WorkQueues as queues
 use Rattle.spec_client_go.specs.WorkQueues.{work_key_cmp}
 use Rattle.object_keys.specs.WorkKeys.{work_key_of}
 use Rattle.object_keys.specs.declared.work_key.WorkKey.{WorkKey}
-use Rattle.named_keys.specs.Numbers.{said}
-use Rattle.keyed_backoff.specs.Failures as keyed
+use Rattle.keyed_queues.specs.Numbers.{said}
+use Rattle.keyed_queues.specs.Failures as keyed
 
 abbrev pub counts_of : List (WorkKey × ℕ) → map.FinMap work_key_cmp ℕ
 counts_of es = said work_key_cmp work_key_of es

@@ -5,7 +5,7 @@ ghost use Rattle.spec_client_go.specs.Delays.{failures, failed, delay_after};
 ghost use Rattle.backoff.specs.Seen.{restored};
 ghost use Rattle.object_keys.specs.WorkKeys.{work_key_of};
 
-use keyed_backoff::KeyedBackoff;
+use keyed_queues::KeyedBackoff;
 use object_keys::WorkKey;
 use std::alloc::{AllocError, Global};
 use std::marker::Model;

@@ -1,5 +1,5 @@
 //! Delays of a text that fails.
-use keyed_backoff::KeyedBackoff;
+use keyed_queues::KeyedBackoff;
 use std::alloc::{AllocError, Global};
 
 /// Has a text fail twice, and once more after a success. Returns the delays, and how often it has failed in a row before the success and

@@ -1,5 +1,5 @@
 //! The moments at which texts come due.
-use keyed_delays::KeyedDelays;
+use keyed_queues::KeyedDelays;
 use std::alloc::{AllocError, Global};
 
 /// Two texts that come due at 20, and one that is to come at 30 and then at 10.

@@ -1,5 +1,5 @@
 //! A text that is added while a worker has it, and what is added together.
-use keyed_queue::KeyedQueue;
+use keyed_queues::KeyedQueue;
 use std::alloc::{AllocError, Global};
 
 /// Whether this text is handed out.

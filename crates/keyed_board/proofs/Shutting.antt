@@ -2,7 +2,7 @@
 use Rattle.std.proofs.Common.{◌≡◌, refl, ◌∙◌, List, [], ◌∷◌, ◌++◌, Bool, true, false, ◌||◌, if◌then◌else◌}
 use Rattle.std.specs.FinSet as set
 use Rattle.std.specs.declared.cmp.Ordering.{Ordering}
-use Rattle.keyed_queue.specs.Queues.{KeyQueue, added, added_all, got, got_from, done}
+use Rattle.keyed_queues.specs.Queues.{KeyQueue, added, added_all, got, got_from, done}
 
 module _ {N : Type 0} (R : N → N → Ordering) where
   pub added_shut : (k : N) (w : KeyQueue R) → (added k w).is_shut ≡ w.is_shut

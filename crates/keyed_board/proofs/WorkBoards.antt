@@ -6,12 +6,12 @@ use Rattle.spec_client_go.specs.Expectations.{Table}
 use Rattle.spec_client_go.specs.WorkQueues.{WorkKey, work_key_cmp}
 use Rattle.spec_client_go.specs.Boards as works
 use Rattle.spec_client_go.specs.Boards.{Board, Observation, all_lowered, last_moment, may_tick, passed}
-use Rattle.keyed_backoff.specs.Failures.{failures, failed}
-use Rattle.keyed_delays.specs.Delays.{delayed, still_delayed}
-use Rattle.keyed_queue.specs.Queues.{added_all}
-use Rattle.keyed_laws.specs.WorkLaws.{work_queue}
-use Rattle.keyed_laws.proofs.WorkDelays.{same_due}
-use Rattle.keyed_laws.proofs.WorkQueues.{got_is, done_is, added_all_are}
+use Rattle.keyed_queues.specs.Failures.{failures, failed}
+use Rattle.keyed_queues.specs.Delays.{delayed, still_delayed}
+use Rattle.keyed_queues.specs.Queues.{added_all}
+use Rattle.keyed_queues.specs.WorkLaws.{work_queue}
+use Rattle.keyed_queues.proofs.WorkDelays.{same_due}
+use Rattle.keyed_queues.proofs.WorkQueues.{got_is, done_is, added_all_are}
 use Rattle.keyed_board.specs.Boards as boards
 use Rattle.keyed_board.specs.Boards.{KeyBoard, with_keys, taken, finished, ticked}
 use Rattle.keyed_board.specs.WorkLaws.{work_board, AreWorkBoards}

@@ -3,9 +3,9 @@ use Rattle.std.specs.Prelude.{ℕ, ◌+◌, ◌-◌, ◌^◌, List, min, max, Op
 use Rattle.std.specs.FinMap as map
 use Rattle.std.specs.declared.cmp.Ordering.{Ordering}
 use Rattle.spec_client_go.specs.Delays.{delay_after}
-use Rattle.keyed_queue.specs.Queues.{KeyQueue, idle, added_all, got, done, shut}
-use Rattle.keyed_delays.specs.Delays.{KeyDelays, delayed, due, next_moment, still_delayed}
-use Rattle.keyed_backoff.specs.Failures.{KeyFailures, failures, failed}
+use Rattle.keyed_queues.specs.Queues.{KeyQueue, idle, added_all, got, done, shut}
+use Rattle.keyed_queues.specs.Delays.{KeyDelays, delayed, due, next_moment, still_delayed}
+use Rattle.keyed_queues.specs.Failures.{KeyFailures, failures, failed}
 use Rattle.keyed_board.specs.declared.outcome.Outcome.{Outcome}
 use Rattle.keyed_board.specs.declared.outcome.Outcome.TheVariants.{Done, LookAgain, Failed}
 

@@ -1,7 +1,7 @@
 -- How long it is until a key comes due.
 use Rattle.std.specs.Prelude.{◌≡◌, ◌≢◌, ◌<◌, ◌+◌, ℕ, [], Some, None}
 use Rattle.std.specs.declared.cmp.Ordering.{Ordering}
-use Rattle.keyed_delays.specs.Delays.{due}
+use Rattle.keyed_queues.specs.Delays.{due}
 use Rattle.keyed_board.specs.Boards.{KeyBoard, until_due}
 
 -- nothing comes due before so many milliseconds have passed, and then something does

@@ -2,10 +2,10 @@
 use Rattle.std.specs.Prelude.{ℕ, List, refl}
 use Rattle.std.specs.Coded.{Coded, code_by, coded×, coded_ℕ}
 use Rattle.std.specs.declared.cmp.Ordering.{Ordering}
-use Rattle.keyed_queue.specs.Lists as queues
-use Rattle.keyed_queue.specs.Lists.{Lists, coded_lists}
-use Rattle.named_keys.specs.Numbers as numbers
-use Rattle.named_keys.specs.Numbers.{coded_numbers}
+use Rattle.keyed_queues.specs.Lists as queues
+use Rattle.keyed_queues.specs.Lists.{Lists, coded_lists}
+use Rattle.keyed_queues.specs.Numbers as numbers
+use Rattle.keyed_queues.specs.Numbers.{coded_numbers}
 use Rattle.keyed_board.specs.Boards.{KeyBoard}
 
 -- the keys of the queue, the keys with their moments and with their failures, and the time

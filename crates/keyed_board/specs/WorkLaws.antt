@@ -5,7 +5,7 @@ use Rattle.spec_client_go.specs.Expectations.{Table}
 use Rattle.spec_client_go.specs.WorkQueues.{WorkKey, work_key_cmp}
 use Rattle.spec_client_go.specs.Boards as works
 use Rattle.spec_client_go.specs.Boards.{Board, Observation, all_lowered, last_moment, may_tick}
-use Rattle.keyed_laws.specs.WorkLaws.{work_queue}
+use Rattle.keyed_queues.specs.WorkLaws.{work_queue}
 use Rattle.keyed_board.specs.Boards.{KeyBoard, begun, with_keys, taken, finished, ticked}
 use Rattle.keyed_board.specs.declared.outcome.Outcome.TheVariants.{Done, Failed}
 

@@ -1,9 +1,6 @@
 //! The board.
 use crate::outcome::Outcome;
-use keyed_backoff::KeyedBackoff;
-use keyed_delays::KeyedDelays;
-use keyed_queue::KeyedQueue;
-use named_keys::Named;
+use keyed_queues::{KeyedBackoff, KeyedDelays, KeyedQueue, Named};
 use std::alloc::{AllocError, Global};
 use std::marker::Model;
 
@@ -32,7 +29,7 @@ impl<K: Named> Model for KeyedBoard<K> {
 
 impl<K: Named> KeyedBoard<K> {
     ghost use Rattle.std.specs.Prelude.{◌≡◌, ◌∷◌, [], IfOk, IsOk, OnOk, OnErr, length, map, option_map};
-    ghost use Rattle.keyed_queue.specs.Queues.{handed};
+    ghost use Rattle.keyed_queues.specs.Queues.{handed};
     ghost use Rattle.keyed_board.specs.Boards.{begun, with_keys, postponed, taken, finished, ticked, until_due, shut_off};
     ghost use Rattle.keyed_board.specs.Said.{said};
     ghost use Rattle.keyed_board.specs.declared.outcome.Outcome.TheVariants.{Done, Failed};

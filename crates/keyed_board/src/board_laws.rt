@@ -2,7 +2,7 @@
 ghost use Rattle.keyed_board.specs.DueLaws.{DueIsTold};
 ghost use Rattle.keyed_board.specs.WorkLaws.{AreWorkBoards};
 
-use named_keys::Named;
+use keyed_queues::Named;
 
 /// Nothing comes due before the milliseconds have passed that a board tells, and then something does; where it tells none, no key is
 /// delayed.

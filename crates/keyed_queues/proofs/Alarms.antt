@@ -12,7 +12,7 @@ use Rattle.std.specs.FinSet as set
 use Rattle.std.specs.FinSet.{contains-from_list, contains-insert, contains-remove, same_set}
 use Rattle.spec_client_go.proofs.WorkKeyOrder.{then_Equal}
 use Rattle.spec_client_go.proofs.Alarms.{same_at, is_moment, tie_both, less_is_not_equal, first, second, marked, mark}
-use Rattle.keyed_delays.specs.Delays.{KeyDelays, KeyAlarm, alarm_cmp, alarm_of, alarms, alarm_set}
+use Rattle.keyed_queues.specs.Delays.{KeyDelays, KeyAlarm, alarm_cmp, alarm_of, alarms, alarm_set}
 
 same_at_tells : (a b : ℕ) → same_at a b ≡ true → a ≡ b
 same_at_tells a b e = nat_cmp-IsAntisymmetric a b ((Equal-is (nat_cmp a b)).0 e)

@@ -4,9 +4,9 @@ use Rattle.std.specs.Cmp.{IsTotalOrder}
 use Rattle.std.specs.BTreeMap.{is_at}
 use Rattle.std.specs.Map.{lookup}
 use Rattle.std.specs.FinMap.{IsAntisymmetric}
-use Rattle.named_keys.specs.Numbers.{said}
-use Rattle.named_keys.proofs.Numbers.{found}
-use Rattle.keyed_backoff.specs.Failures.{failures}
+use Rattle.keyed_queues.specs.Numbers.{said}
+use Rattle.keyed_queues.proofs.Numbers.{found}
+use Rattle.keyed_queues.specs.Failures.{failures}
 
 pub counted : {K N : Type 0} (R : N → N → Ordering) (total : IsTotalOrder R) (tells : IsAntisymmetric R) (say : K → N) (cmp : K → K → Ordering) (alike : (a b : K) → cmp a b ≡ R (say a) (say b)) (es : List (K × ℕ)) (k : K) (o : Option ℕ)
     → o ≡ lookup (is_at (cmp k)) es → unwrap_or o 0 ≡ failures (say k) (said R say es)

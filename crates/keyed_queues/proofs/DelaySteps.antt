@@ -15,14 +15,14 @@ use Rattle.std.specs.FinMap.{IsAntisymmetric, get-insert, get-remove, same_map}
 use Rattle.std.specs.FinSet as set
 use Rattle.spec_client_go.specs.Delays.{earlier}
 use Rattle.object_keys.proofs.SeenSets as sets
-use Rattle.named_keys.proofs.Numbers as numbers
-use Rattle.keyed_delays.specs.declared.alarm.Alarm.{Alarm}
-use Rattle.keyed_delays.specs.Delays.{KeyDelays, KeyAlarm, AreAlarms, alarm_cmp, alarm_set, delayed, due, still_delayed}
-use Rattle.named_keys.specs.Numbers.{said}
-use Rattle.keyed_delays.specs.Said.{alarm_said}
-use Rattle.keyed_delays.proofs.Alarms.{alarm_total, alarm_tells, alarms_begun, alarms_hastened, no_alarms, same_tells}
-use Rattle.keyed_delays.proofs.Due.{rest_are, first_is, due_first, still_without}
-use Rattle.keyed_delays.proofs.SeenAlarms.{by_moment, alarms_alike, in_order_seen}
+use Rattle.keyed_queues.proofs.Numbers as numbers
+use Rattle.keyed_queues.specs.declared.alarm.Alarm.{Alarm}
+use Rattle.keyed_queues.specs.Delays.{KeyDelays, KeyAlarm, AreAlarms, alarm_cmp, alarm_set, delayed, due, still_delayed}
+use Rattle.keyed_queues.specs.Numbers.{said}
+use Rattle.keyed_queues.specs.Said.{alarm_said}
+use Rattle.keyed_queues.proofs.Alarms.{alarm_total, alarm_tells, alarms_begun, alarms_hastened, no_alarms, same_tells}
+use Rattle.keyed_queues.proofs.Due.{rest_are, first_is, due_first, still_without}
+use Rattle.keyed_queues.proofs.SeenAlarms.{by_moment, alarms_alike, in_order_seen}
 
 -- the first of a list that has one
 pub head_is : {A : Type 0} (ks : List A) (a : A) → slice_get ks 0 ≡ Some a → (rest : List A) × (ks ≡ a ∷ rest)

@@ -13,8 +13,8 @@ use Rattle.std.specs.FinSet as set
 use Rattle.std.specs.FinSet.{contains-from_list, contains-insert, contains-remove, same_set}
 use Rattle.spec_client_go.specs.Delays.{has_come}
 use Rattle.spec_client_go.proofs.Alarms.{is_moment, same_at_itself}
-use Rattle.keyed_delays.specs.Delays.{KeyDelays, KeyAlarm, AreAlarms, alarm_cmp, alarm_of, due, first_moment, next_moment, still_delayed}
-use Rattle.keyed_delays.proofs.Alarms as of
+use Rattle.keyed_queues.specs.Delays.{KeyDelays, KeyAlarm, AreAlarms, alarm_cmp, alarm_of, due, first_moment, next_moment, still_delayed}
+use Rattle.keyed_queues.proofs.Alarms as of
 
 module _ {N : Type 0} (R : N → N → Ordering) (total : IsTotalOrder R) (tells : IsAntisymmetric R) where
   abbrev alarm_total : IsTotalOrder (alarm_cmp R)

@@ -15,10 +15,10 @@ use Rattle.std.specs.List.Sorted.{IsStrictlySortedBy}
 use Rattle.std.specs.Ordering.{eq_by_cmp, is_eq, is_lt, ordering_reverse}
 use Rattle.spec_client_go.specs.Delays.{has_come}
 use Rattle.spec_client_go.proofs.Alarms.{mark, is_moment, same_at_itself}
-use Rattle.keyed_delays.specs.Delays.{KeyDelays, KeyAlarm, AreAlarms, alarm_cmp, alarm_of, alarms, due}
-use Rattle.keyed_delays.proofs.Alarms as of
-use Rattle.keyed_delays.proofs.Due as due_keys
-use Rattle.keyed_laws.specs.DelayLaws.{IsDue, alarm_at, AreInTurn, DueHaveCome, DueAreInTurn, DueAreTheOnlyList, StillDelayedAreLater}
+use Rattle.keyed_queues.specs.Delays.{KeyDelays, KeyAlarm, AreAlarms, alarm_cmp, alarm_of, alarms, due}
+use Rattle.keyed_queues.proofs.Alarms as of
+use Rattle.keyed_queues.proofs.Due as due_keys
+use Rattle.keyed_queues.specs.DelayLaws.{IsDue, alarm_at, AreInTurn, DueHaveCome, DueAreInTurn, DueAreTheOnlyList, StillDelayedAreLater}
 
 and_parts : (a b : Bool) → T (a && b) → T a × T b
 and_parts true b h = (tt, h)

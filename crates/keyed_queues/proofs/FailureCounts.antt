@@ -4,8 +4,8 @@ use Rattle.std.specs.Cmp.{Equal-is, IsTotalOrder, tied_itself}
 use Rattle.std.specs.Ordering.{eq_by_cmp, is_eq}
 use Rattle.std.specs.FinMap as map
 use Rattle.std.specs.FinMap.{IsAntisymmetric, get-insert, get-remove, same_map}
-use Rattle.keyed_backoff.specs.Failures.{KeyFailures, failures, restored}
-use Rattle.keyed_laws.specs.FailureLaws.{FailedHaveFailures, FailuresAreTakenBack, DelaysDouble}
+use Rattle.keyed_queues.specs.Failures.{KeyFailures, failures, restored}
+use Rattle.keyed_queues.specs.FailureLaws.{FailedHaveFailures, FailuresAreTakenBack, DelaysDouble}
 
 module _ {N : Type 0} (R : N → N → Ordering) (total : IsTotalOrder R) (tells : IsAntisymmetric R) where
   abbrev same : N → N → Bool

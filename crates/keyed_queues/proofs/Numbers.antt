@@ -7,7 +7,7 @@ use Rattle.std.specs.Map.{lookup, KeepsOthers}
 use Rattle.std.specs.FinMap as map_of
 use Rattle.std.specs.FinMap.{IsAntisymmetric, get-insert, same_map}
 use Rattle.object_keys.proofs.SeenMaps as maps
-use Rattle.named_keys.specs.Numbers.{said}
+use Rattle.keyed_queues.specs.Numbers.{said}
 
 as_it_is : (o : Option ℕ) → option_map (λ n. n) o ≡ o
 as_it_is None = refl

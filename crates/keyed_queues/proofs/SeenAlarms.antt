@@ -3,9 +3,9 @@ use Rattle.std.proofs.Common.{◌≡◌, sym, ap, ◌∙◌, List, [], ◌∷◌
 use Rattle.std.specs.List.{AllByRecursion}
 use Rattle.std.specs.List.Sorted.{IsStrictlySortedBy}
 use Rattle.std.specs.Ordering.{nat_cmp, ordering_then, then_cmp, on}
-use Rattle.keyed_delays.specs.declared.alarm.Alarm.{Alarm}
-use Rattle.keyed_delays.specs.Delays.{alarm_cmp}
-use Rattle.keyed_delays.specs.Said.{alarm_said}
+use Rattle.keyed_queues.specs.declared.alarm.Alarm.{Alarm}
+use Rattle.keyed_queues.specs.Delays.{alarm_cmp}
+use Rattle.keyed_queues.specs.Said.{alarm_said}
 
 -- keys with moments go by moment, then key
 abbrev pub by_moment : {K : Type 0} → (K → K → Ordering) → Alarm K → Alarm K → Ordering

@@ -10,8 +10,8 @@ use Rattle.std.specs.Set as key_set
 use Rattle.std.specs.FinSet as set
 use Rattle.std.specs.FinSet.{IsAntisymmetric}
 use Rattle.object_keys.proofs.SeenSets.{contains-seen, insert-seen, remove-seen}
-use Rattle.keyed_queue.specs.Queues.{KeyQueue, added, got, done}
-use Rattle.keyed_queue.specs.Lists.{said}
+use Rattle.keyed_queues.specs.Queues.{KeyQueue, added, got, done}
+use Rattle.keyed_queues.specs.Lists.{said}
 
 -- the queue that the list and the two sets say
 abbrev pub queue_of : {K N : Type 0} (R : N → N → Ordering) → (K → N) → List K → List K → List K → Bool → KeyQueue R

@@ -10,9 +10,9 @@ use Rattle.std.specs.Set as key_set
 use Rattle.std.specs.FinSet as set
 use Rattle.std.specs.FinSet.{IsAntisymmetric, contains-insert, contains-remove, contains_tied, same_set}
 use Rattle.object_keys.proofs.SeenSets.{contains-seen, remove-seen}
-use Rattle.keyed_queue.specs.Queues.{KeyQueue, added, added_all}
-use Rattle.keyed_queue.specs.Undoing.{IsFresh, IsMadeBy, IsUndoable}
-use Rattle.keyed_queue.proofs.Steps.{has, queue_of, names}
+use Rattle.keyed_queues.specs.Queues.{KeyQueue, added, added_all}
+use Rattle.keyed_queues.specs.Undoing.{IsFresh, IsMadeBy, IsUndoable}
+use Rattle.keyed_queues.proofs.Steps.{has, queue_of, names}
 
 -- the queue without the key, where it is in no worker's hands
 abbrev pub without : {N : Type 0} → Bool → List N → List N

@@ -11,10 +11,10 @@ use Rattle.spec_client_go.specs.Delays as works
 use Rattle.spec_client_go.specs.Delays.{Delays, Alarm}
 use Rattle.spec_client_go.proofs.Alarms as works_alarms
 use Rattle.spec_client_go.proofs.WorkKeyOrder.{work_key_total, work_key_tells}
-use Rattle.keyed_delays.specs.Delays.{KeyAlarm, alarm_cmp, alarms}
-use Rattle.keyed_delays.proofs.Alarms.{alarm_total, contains-alarms}
-use Rattle.keyed_laws.specs.WorkLaws.{KeysAreDue}
-use Rattle.keyed_laws.proofs.DueKeys.{are_alarms}
+use Rattle.keyed_queues.specs.Delays.{KeyAlarm, alarm_cmp, alarms}
+use Rattle.keyed_queues.proofs.Alarms.{alarm_total, contains-alarms}
+use Rattle.keyed_queues.specs.WorkLaws.{KeysAreDue}
+use Rattle.keyed_queues.proofs.DueKeys.{are_alarms}
 
 abbrev R : WorkKey → WorkKey → Ordering
 R = work_key_cmp

@@ -3,8 +3,8 @@ use Rattle.std.proofs.Common.{◌≡◌, refl, ap, ◌∙◌, List, [], ◌∷�
 use Rattle.std.specs.FinSet as set
 use Rattle.spec_client_go.specs.WorkQueues as works
 use Rattle.spec_client_go.specs.WorkQueues.{WorkKey, work_key_cmp, Call, add, get, finish, shut_down}
-use Rattle.keyed_queue.specs.Queues.{KeyQueue, idle, added, added_all, front, got, got_from, done}
-use Rattle.keyed_laws.specs.WorkLaws.{work_queue, after, after_all, QueuesAreWorkQueues, KeysAreHandedOut}
+use Rattle.keyed_queues.specs.Queues.{KeyQueue, idle, added, added_all, front, got, got_from, done}
+use Rattle.keyed_queues.specs.WorkLaws.{work_queue, after, after_all, QueuesAreWorkQueues, KeysAreHandedOut}
 
 pub added_is : (k : WorkKey) (w : KeyQueue work_key_cmp) → work_queue (added k w) ≡ works.added k (work_queue w)
 added_is k w = by (w.is_shut || set.contains w.dirty k)

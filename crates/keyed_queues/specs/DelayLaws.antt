@@ -4,7 +4,7 @@ use Rattle.std.specs.FinMap as map
 use Rattle.std.specs.List.{Contains}
 use Rattle.std.specs.List.Sorted.{IsStrictlySortedBy}
 use Rattle.std.specs.declared.cmp.Ordering.{Ordering}
-use Rattle.keyed_delays.specs.Delays.{KeyDelays, KeyAlarm, alarm_cmp, due, still_delayed}
+use Rattle.keyed_queues.specs.Delays.{KeyDelays, KeyAlarm, alarm_cmp, due, still_delayed}
 
 -- a key that is delayed to a moment that has come
 abbrev pub IsDue : {N : Type 0} {R : N → N → Ordering} → ℕ → KeyDelays R → N → Type 0

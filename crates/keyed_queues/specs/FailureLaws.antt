@@ -3,7 +3,7 @@ use Rattle.std.specs.Prelude.{◌≡◌, ◌+◌, ◌*◌, ℕ, true, min}
 use Rattle.std.specs.FinMap as map
 use Rattle.std.specs.declared.cmp.Ordering.{Ordering}
 use Rattle.spec_client_go.specs.Delays.{delay_after}
-use Rattle.keyed_backoff.specs.Failures.{KeyFailures, failed, restored}
+use Rattle.keyed_queues.specs.Failures.{KeyFailures, failed, restored}
 
 -- a key that failed has failures
 abbrev pub FailedHaveFailures : {N : Type 0} → (N → N → Ordering) → Type 0

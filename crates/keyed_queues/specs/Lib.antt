@@ -1,1 +1,11 @@
 pub mod Numbers
+pub mod Queues
+pub mod Lists
+pub mod Undoing
+pub mod Delays
+pub mod Said
+pub mod Failures
+pub mod DelayLaws
+pub mod FailureLaws
+pub mod QueueLaws
+pub mod WorkLaws

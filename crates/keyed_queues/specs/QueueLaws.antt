@@ -4,7 +4,7 @@ use Rattle.std.specs.List.{list_any, IsDistinct}
 use Rattle.std.specs.Ordering.{eq_by_cmp}
 use Rattle.std.specs.FinSet as set
 use Rattle.std.specs.declared.cmp.Ordering.{Ordering}
-use Rattle.keyed_queue.specs.Queues.{KeyQueue, idle, added, got, done, shut, handed}
+use Rattle.keyed_queues.specs.Queues.{KeyQueue, idle, added, got, done, shut, handed}
 
 -- the calls that change a queue
 pub data Call (N : Type 0) : Type 0 where

@@ -3,11 +3,11 @@ use Rattle.std.specs.Prelude.{◌≡◌, ℕ, List, [], ◌∷◌}
 use Rattle.spec_client_go.specs.WorkQueues as works
 use Rattle.spec_client_go.specs.WorkQueues.{WorkKey, work_key_cmp, WorkQueue, Call, add, get, finish, shut_down}
 use Rattle.spec_client_go.specs.Delays as works_delays
-use Rattle.keyed_queue.specs.Queues.{KeyQueue, idle, added, got, done, shut, handed}
-use Rattle.keyed_delays.specs.Delays as keyed_delays
-use Rattle.keyed_delays.specs.Delays.{KeyDelays}
-use Rattle.keyed_backoff.specs.Failures as keyed_failures
-use Rattle.keyed_backoff.specs.Failures.{KeyFailures}
+use Rattle.keyed_queues.specs.Queues.{KeyQueue, idle, added, got, done, shut, handed}
+use Rattle.keyed_queues.specs.Delays as keyed_delays
+use Rattle.keyed_queues.specs.Delays.{KeyDelays}
+use Rattle.keyed_queues.specs.Failures as keyed_failures
+use Rattle.keyed_queues.specs.Failures.{KeyFailures}
 
 -- the work queue that a queue of work keys is
 abbrev pub work_queue : KeyQueue work_key_cmp → WorkQueue

@@ -1,5 +1,5 @@
 //! Failures by key, and the delays that follow them.
-use named_keys::Named;
+use crate::named::Named;
 use std::alloc::{AllocError, Global};
 use std::collections::BTreeMap;
 use std::marker::Model;
@@ -12,7 +12,7 @@ pub struct KeyedBackoff<K: Named> {
 
 impl<K: Named> Model for KeyedBackoff<K> {
     ghost use Rattle.std.specs.Prelude.{ℕ, List};
-    ghost use Rattle.named_keys.specs.Numbers.{coded_numbers};
+    ghost use Rattle.keyed_queues.specs.Numbers.{coded_numbers};
 
     ghost Value = { List (K × ℕ) };
 
@@ -25,8 +25,8 @@ impl<K: Named> KeyedBackoff<K> {
     ghost use Rattle.std.specs.Prelude.{◌≡◌, true, IfOk, OnOk, OnErr};
     ghost use Rattle.std.specs.FinMap as map;
     ghost use Rattle.spec_client_go.specs.Delays.{delay_after};
-    ghost use Rattle.named_keys.specs.Numbers.{said};
-    ghost use Rattle.keyed_backoff.specs.Failures.{failures, failed, restored};
+    ghost use Rattle.keyed_queues.specs.Numbers.{said};
+    ghost use Rattle.keyed_queues.specs.Failures.{failures, failed, restored};
 
     /// Returns a table in which no key has failed.
     pub fn new(alloc: Global) -> KeyedBackoff<K>

@@ -1,7 +1,7 @@
 //! Laws of delays of keys of any type.
-ghost use Rattle.keyed_laws.specs.DelayLaws.{DueHaveCome, DueAreInTurn, DueAreTheOnlyList, StillDelayedAreLater};
+ghost use Rattle.keyed_queues.specs.DelayLaws.{DueHaveCome, DueAreInTurn, DueAreTheOnlyList, StillDelayedAreLater};
 
-use named_keys::Named;
+use crate::named::Named;
 
 /// A key is handed over when its moment has come, and not before.
 pub fn due_have_come<K: Named>()

@@ -1,6 +1,6 @@
 //! Keys that are to be added at a moment.
 use crate::alarm::Alarm;
-use named_keys::Named;
+use crate::named::Named;
 use std::alloc::{AllocError, Global};
 use std::collections::{BTreeMap, BTreeSet};
 use std::marker::Model;
@@ -16,9 +16,9 @@ pub struct KeyedDelays<K: Named> {
 
 impl<K: Named> Model for KeyedDelays<K> {
     ghost use Rattle.std.specs.Prelude.{ℕ, List, map as list_map};
-    ghost use Rattle.keyed_delays.specs.Delays.{AreAlarms};
-    ghost use Rattle.named_keys.specs.Numbers.{said, coded_numbers};
-    ghost use Rattle.keyed_delays.specs.Said.{alarm_said};
+    ghost use Rattle.keyed_queues.specs.Delays.{AreAlarms};
+    ghost use Rattle.keyed_queues.specs.Numbers.{said, coded_numbers};
+    ghost use Rattle.keyed_queues.specs.Said.{alarm_said};
 
     ghost Value = { List (K × ℕ) };
 
@@ -32,8 +32,8 @@ impl<K: Named> Model for KeyedDelays<K> {
 impl<K: Named> KeyedDelays<K> {
     ghost use Rattle.std.specs.Prelude.{◌≡◌, ◌∷◌, ◌<◌, [], map as list_map, length, IfOk, OnOk, OnErr, IfSome, IfNone, None, Some};
     ghost use Rattle.std.specs.FinMap as map;
-    ghost use Rattle.keyed_delays.specs.Delays.{delayed, due, next_moment, still_delayed};
-    ghost use Rattle.named_keys.specs.Numbers.{said};
+    ghost use Rattle.keyed_queues.specs.Delays.{delayed, due, next_moment, still_delayed};
+    ghost use Rattle.keyed_queues.specs.Numbers.{said};
 
     /// Returns a table in which no key is delayed.
     pub fn new(alloc: Global) -> KeyedDelays<K>

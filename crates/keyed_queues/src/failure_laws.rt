@@ -1,7 +1,7 @@
 //! Laws of the failures of keys of any type, and of the delays that follow them.
-ghost use Rattle.keyed_laws.specs.FailureLaws.{FailedHaveFailures, FailuresAreTakenBack, DelaysDouble};
+ghost use Rattle.keyed_queues.specs.FailureLaws.{FailedHaveFailures, FailuresAreTakenBack, DelaysDouble};
 
-use named_keys::Named;
+use crate::named::Named;
 
 /// A key that failed has failures, so that they can be set to what they were.
 pub fn failed_have_failures<K: Named>()

@@ -1,5 +1,5 @@
 //! The queue.
-use named_keys::Named;
+use crate::named::Named;
 use std::alloc::{AllocError, Global};
 use std::collections::{BTreeSet, VecDeque};
 use std::marker::Model;
@@ -18,7 +18,7 @@ pub struct KeyedQueue<K: Named> {
 impl<K: Named> Model for KeyedQueue<K> {
     ghost use Rattle.std.specs.Prelude.{◌+◌, ◌≤◌, length};
     ghost use Rattle.std.specs.VecDeque.{deque_len, deque_capacity};
-    ghost use Rattle.keyed_queue.specs.Lists.{Lists, coded_lists};
+    ghost use Rattle.keyed_queues.specs.Lists.{Lists, coded_lists};
 
     ghost Value = { Lists K };
 
@@ -37,9 +37,9 @@ impl<K: Named> Model for KeyedQueue<K> {
 impl<K: Named> KeyedQueue<K> {
     ghost use Rattle.std.specs.Prelude.{◌≡◌, IfOk, OnOk, OnErr, length, map, option_map, ◌+◌, ◌<◌, ◌≤◌, ◌∷◌, ◌++◌, [], Some, IsSome};
     ghost use Rattle.std.specs.VecDeque.{deque_len, deque_capacity};
-    ghost use Rattle.keyed_queue.specs.Queues.{KeyQueue, idle, added, added_all, got, handed, done, shut};
-    ghost use Rattle.keyed_queue.specs.Lists.{said};
-    ghost use Rattle.keyed_queue.specs.Undoing.{IsFresh, IsUndoable};
+    ghost use Rattle.keyed_queues.specs.Queues.{KeyQueue, idle, added, added_all, got, handed, done, shut};
+    ghost use Rattle.keyed_queues.specs.Lists.{said};
+    ghost use Rattle.keyed_queues.specs.Undoing.{IsFresh, IsUndoable};
 
     /// Returns an empty queue.
     pub fn new(alloc: Global) -> KeyedQueue<K>

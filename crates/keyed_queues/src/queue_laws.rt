@@ -1,7 +1,7 @@
 //! What may be relied on, whatever calls are made of a queue of keys of any type, in whatever order.
-ghost use Rattle.keyed_laws.specs.QueueLaws.{QueuesOnce, HandsApart, NothingIsLost, QueuedIsDirty, AddedIsServed, ShutAddsNothing};
+ghost use Rattle.keyed_queues.specs.QueueLaws.{QueuesOnce, HandsApart, NothingIsLost, QueuedIsDirty, AddedIsServed, ShutAddsNothing};
 
-use named_keys::Named;
+use crate::named::Named;
 
 /// A key stands in the queue at most once, however often it was added.
 pub fn queues_once<K: Named>()

@@ -1,5 +1,5 @@
 //! What queues, delays and failures are where the keys are work keys.
-ghost use Rattle.keyed_laws.specs.WorkLaws.{QueuesAreWorkQueues, KeysAreHandedOut, KeysAreDelayed, KeysAreDue, FailuresAreCounted};
+ghost use Rattle.keyed_queues.specs.WorkLaws.{QueuesAreWorkQueues, KeysAreHandedOut, KeysAreDelayed, KeysAreDue, FailuresAreCounted};
 
 /// Whatever calls are made of a queue of work keys, it is the work queue after them.
 pub fn queues_are_work_queues()

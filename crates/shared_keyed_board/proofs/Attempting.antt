@@ -2,7 +2,7 @@
 use Rattle.std.proofs.Common.{◌≡◌, refl, sym, ap, ◌∙◌, ℕ, List, Bool, true, false}
 use Rattle.std.specs.Prelude.{None, IfSome, option_map}
 use Rattle.std.specs.declared.cmp.Ordering.{Ordering}
-use Rattle.keyed_queue.specs.Queues.{handed}
+use Rattle.keyed_queues.specs.Queues.{handed}
 use Rattle.keyed_board.specs.Boards.{KeyBoard}
 use Rattle.keyed_board.specs.Steps.{take}
 use Rattle.shared_keyed_board.specs.Attempts.{Attempts, step_done, key_taken, none_taken}

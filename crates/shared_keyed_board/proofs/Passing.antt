@@ -8,7 +8,7 @@ use Rattle.baton.specs.Marks.{StartsWith, entries, made_by, marked, CanHappen}
 use Rattle.baton.specs.Passes.{Met, Longer, Taken, given}
 use Rattle.baton.specs.declared.views.Known.{Known}
 use Rattle.baton.specs.declared.views.PassView as views
-use Rattle.keyed_queue.specs.Queues.{got_from, handed, front}
+use Rattle.keyed_queues.specs.Queues.{got_from, handed, front}
 use Rattle.keyed_board.specs.Boards.{KeyBoard, taken}
 use Rattle.keyed_board.specs.Said.{Parts, said}
 use Rattle.keyed_board.specs.Steps.{Step}

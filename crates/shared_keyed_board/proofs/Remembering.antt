@@ -14,13 +14,13 @@ use Rattle.std.specs.Ordering.{eq_by_cmp}
 use Rattle.std.specs.declared.cmp.Ordering.{Ordering}
 use Rattle.spec_client_go.specs.Delays.{delay_after, earlier}
 use Rattle.baton.specs.Marks.{CanHappen}
-use Rattle.keyed_backoff.specs.Failures.{failures}
-use Rattle.keyed_delays.specs.Delays.{KeyDelays, delayed, due, still_delayed}
-use Rattle.keyed_laws.specs.QueueLaws as calls
-use Rattle.keyed_laws.proofs.DueKeys.{have_come, still_later}
-use Rattle.keyed_laws.proofs.QueueRuns.{wanted_is_served, added-wanted, wanted_is_somewhere}
-use Rattle.keyed_queue.specs.Queues as queues
-use Rattle.keyed_queue.specs.Queues.{KeyQueue, added, added_all, got, handed}
+use Rattle.keyed_queues.specs.Failures.{failures}
+use Rattle.keyed_queues.specs.Delays.{KeyDelays, delayed, due, still_delayed}
+use Rattle.keyed_queues.specs.QueueLaws as calls
+use Rattle.keyed_queues.proofs.DueKeys.{have_come, still_later}
+use Rattle.keyed_queues.proofs.QueueRuns.{wanted_is_served, added-wanted, wanted_is_somewhere}
+use Rattle.keyed_queues.specs.Queues as queues
+use Rattle.keyed_queues.specs.Queues.{KeyQueue, added, added_all, got, handed}
 use Rattle.keyed_board.specs.Boards.{KeyBoard, moment_in}
 use Rattle.keyed_board.specs.Steps.{Step, add, add_after, take, finish, tick, shut_down, after}
 use Rattle.keyed_board.specs.declared.outcome.Outcome.{Outcome}

@@ -7,11 +7,11 @@ use Rattle.std.specs.FinSet.{IsAntisymmetric, contains-empty}
 use Rattle.std.specs.declared.cmp.Ordering.{Ordering}
 use Rattle.baton.specs.Marks.{entries, made_by, CanHappen}
 use Rattle.baton.proofs.Entries.{made_here_one, made_else_one, made_none}
-use Rattle.keyed_queue.specs.Queues as queues
-use Rattle.keyed_queue.specs.Queues.{KeyQueue, added, added_all, got, got_from, handed, front}
-use Rattle.keyed_laws.specs.QueueLaws as calls
-use Rattle.keyed_laws.proofs.QueueRuns.{IsSound, after-sound, idle-sound, queued_is_free, front_is_queued}
-use Rattle.keyed_delays.specs.Delays.{due}
+use Rattle.keyed_queues.specs.Queues as queues
+use Rattle.keyed_queues.specs.Queues.{KeyQueue, added, added_all, got, got_from, handed, front}
+use Rattle.keyed_queues.specs.QueueLaws as calls
+use Rattle.keyed_queues.proofs.QueueRuns.{IsSound, after-sound, idle-sound, queued_is_free, front_is_queued}
+use Rattle.keyed_queues.specs.Delays.{due}
 use Rattle.keyed_board.specs.Boards.{KeyBoard, begun}
 use Rattle.keyed_board.specs.Steps.{Step, add, add_after, take, finish, tick, shut_down, after, after_all}
 use Rattle.keyed_board.specs.declared.outcome.Outcome.{Outcome}

@@ -1,7 +1,7 @@
 -- What calls do, and what comes of an attempt to take a key.
 use Rattle.std.specs.Prelude.{◌≡◌, Bool, List, [], ◌∷◌, Option, Some, None, true, false}
 use Rattle.std.specs.declared.cmp.Ordering.{Ordering}
-use Rattle.keyed_queue.specs.Queues.{handed}
+use Rattle.keyed_queues.specs.Queues.{handed}
 use Rattle.keyed_board.specs.Boards.{KeyBoard}
 use Rattle.shared_keyed_board.specs.declared.attempt.Attempt.{Attempt}
 use Rattle.shared_keyed_board.specs.declared.attempt.Attempt.TheVariants.{Taken, NoneWaits, ShutDown}

@@ -2,7 +2,7 @@
 use Rattle.std.specs.Prelude.{◌≡◌, ℕ, List, ◌++◌, Option, None, option_map, Result, Ok, Err}
 use Rattle.std.specs.declared.cmp.Ordering.{Ordering}
 use Rattle.baton.specs.Marks.{StartsWith, entries, made_by, marked, CanHappen}
-use Rattle.keyed_queue.specs.Queues.{handed}
+use Rattle.keyed_queues.specs.Queues.{handed}
 use Rattle.keyed_board.specs.Boards.{KeyBoard}
 use Rattle.keyed_board.specs.Steps.{Step, take}
 use Rattle.shared_keyed_board.specs.Histories.{History, board, MayFollow}

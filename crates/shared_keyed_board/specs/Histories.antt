@@ -3,7 +3,7 @@ use Rattle.std.specs.Prelude.{◌≡◌, ℕ, List, [], ◌∷◌, Option, Some,
 use Rattle.std.specs.FinSet as set
 use Rattle.std.specs.declared.cmp.Ordering.{Ordering}
 use Rattle.baton.specs.Marks.{entries, made_by, CanHappen}
-use Rattle.keyed_queue.specs.Queues.{handed}
+use Rattle.keyed_queues.specs.Queues.{handed}
 use Rattle.keyed_board.specs.Boards.{KeyBoard, begun}
 use Rattle.keyed_board.specs.Steps.{Step, add, add_after, take, finish, tick, shut_down, after_all}
 

@@ -2,7 +2,7 @@
 use crate::entries::BoardEntry;
 use baton::Law;
 use keyed_board::KeyedBoard;
-use named_keys::Named;
+use keyed_queues::Named;
 use std::marker::PhantomData;
 
 /// A board begins with nothing to be done and takes in step after step. A key is taken only by a pass that has none, and given

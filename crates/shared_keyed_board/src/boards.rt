@@ -4,7 +4,7 @@ use crate::entries::BoardEntry;
 use baton::Baton;
 use baton::views::PassView;
 use keyed_board::KeyedBoard;
-use named_keys::Named;
+use keyed_queues::Named;
 use wakeups::Bell;
 
 /// The right to work at a board. What it has seen of the board's history, and what it made of it, its calls say.

@@ -1,6 +1,6 @@
 //! What happens to a board. No value is ever made: it is what the proofs speak of.
 use keyed_board::{KeyedBoard, Outcome};
-use named_keys::Named;
+use keyed_queues::Named;
 use std::collections::LinkedList;
 
 /// A step of a board.

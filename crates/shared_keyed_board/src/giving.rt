@@ -13,7 +13,7 @@ use crate::doing::{Doing, KeyDoing};
 use crate::entries::BoardEntry;
 use baton::{EntryMade, Held};
 use keyed_board::KeyedBoard;
-use named_keys::Named;
+use keyed_queues::Named;
 use std::marker::Brand;
 use std::sync::Wait;
 

@@ -12,7 +12,7 @@ use crate::doing::{Doing, KeyDoing};
 use crate::steps;
 use baton::Baton;
 use keyed_board::KeyedBoard;
-use named_keys::Named;
+use keyed_queues::Named;
 use std::alloc::{AllocError, Global};
 use std::sync::Wait;
 use wakeups::Bell;

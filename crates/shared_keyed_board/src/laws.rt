@@ -2,7 +2,7 @@
 ghost use Rattle.shared_keyed_board.specs.Histories.{HandsAreApart};
 ghost use Rattle.shared_keyed_board.specs.Remembered.{NothingIsForgotten};
 
-use named_keys::Named;
+use keyed_queues::Named;
 
 /// In every history that a pass sees, the keys in process are just those in the hands of passes, and no key is in the hands of
 /// two.

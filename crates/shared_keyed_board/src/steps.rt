@@ -1,13 +1,13 @@
 //! The steps of a board that a pass holds.
 ghost use Rattle.std.specs.Prelude.{◌≡◌, ◌∷◌, [], IfOk, OnOk, OnErr, map, option_map};
-ghost use Rattle.keyed_queue.specs.Queues.{handed};
+ghost use Rattle.keyed_queues.specs.Queues.{handed};
 ghost use Rattle.keyed_board.specs.Boards.{with_keys, postponed, taken, finished, ticked, shut_off};
 ghost use Rattle.keyed_board.specs.Said.{said};
 ghost use Rattle.keyed_board.specs.declared.outcome.Outcome.TheVariants.{Done};
 
 use baton::Held;
 use keyed_board::{KeyedBoard, Outcome};
-use named_keys::Named;
+use keyed_queues::Named;
 use std::alloc::AllocError;
 
 /// Adds a key.

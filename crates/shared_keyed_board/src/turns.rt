@@ -4,7 +4,7 @@ ghost use Rattle.keyed_board.specs.Boards as boards;
 ghost use Rattle.keyed_board.specs.Said.{said};
 ghost use Rattle.keyed_board.specs.Steps as said_steps;
 ghost use Rattle.keyed_board.specs.declared.outcome.Outcome.TheVariants.{Done};
-ghost use Rattle.keyed_queue.specs.Queues.{handed};
+ghost use Rattle.keyed_queues.specs.Queues.{handed};
 ghost use Rattle.shared_keyed_board.specs.Attempts.{Attempts, key_taken};
 ghost use Rattle.shared_keyed_board.specs.Calls.{IsCall, Nothing, once_ok, taking, having_seen};
 ghost use Rattle.shared_keyed_board.specs.Histories.{board, hand};
@@ -17,7 +17,7 @@ use crate::hands::KeyInHand;
 use crate::steps;
 use baton::Held;
 use keyed_board::{KeyedBoard, Outcome};
-use named_keys::Named;
+use keyed_queues::Named;
 use std::alloc::AllocError;
 use std::sync::Wait;
 

@@ -1,14 +1,14 @@
 //! Waits for keys.
 ghost use Rattle.std.specs.Prelude.{◌≡◌, None, IfOk, OnErr, option_map, true};
 ghost use Rattle.keyed_board.specs.Boards.{until_due};
-ghost use Rattle.keyed_queue.specs.Queues.{handed};
+ghost use Rattle.keyed_queues.specs.Queues.{handed};
 ghost use Rattle.shared_keyed_board.specs.Calls.{IsCall, once_ok, taking};
 ghost use Rattle.shared_keyed_board.specs.Passes.{sight, key_in_hand, IsPassAt};
 
 use crate::attempt::Attempt;
 use crate::boards::{BoardPass, SharedKeyedBoard};
 use crate::hands::KeyInHand;
-use named_keys::Named;
+use keyed_queues::Named;
 use std::alloc::AllocError;
 use std::sync::Wait;
 use std::time::Clock;

@@ -3,7 +3,7 @@ ghost use Rattle.std.specs.Prelude.{◌≡◌, IfOk, OnOk, OnErr, length, map, o
 ghost use Rattle.spec_client_go.specs.WorkQueues.{WorkQueue, idle, added, add, got, handed, done, shut, after_all};
 ghost use Rattle.object_keys.specs.WorkKeys.{work_key_of};
 
-use keyed_queue::KeyedQueue;
+use keyed_queues::KeyedQueue;
 use object_keys::WorkKey;
 use std::alloc::{AllocError, Global};
 use std::marker::Model;

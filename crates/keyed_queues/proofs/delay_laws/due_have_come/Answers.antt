@@ -1,5 +1,5 @@
-use Rattle.keyed_laws.proofs.DueKeys.{have_come}
-use Rattle.keyed_laws.proofs.delay_laws.due_have_come.Goals as goal
+use Rattle.keyed_queues.proofs.DueKeys.{have_come}
+use Rattle.keyed_queues.proofs.delay_laws.due_have_come.Goals as goal
 
 pub returns : goal.returns
 returns g c = have_come g.K.Named.order g.met.K.Named.ordered g.met.K.Named.apart

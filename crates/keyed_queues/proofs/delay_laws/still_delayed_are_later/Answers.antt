@@ -1,5 +1,5 @@
-use Rattle.keyed_laws.proofs.DueKeys.{still_later}
-use Rattle.keyed_laws.proofs.delay_laws.still_delayed_are_later.Goals as goal
+use Rattle.keyed_queues.proofs.DueKeys.{still_later}
+use Rattle.keyed_queues.proofs.delay_laws.still_delayed_are_later.Goals as goal
 
 pub returns : goal.returns
 returns g c = still_later g.K.Named.order g.met.K.Named.ordered g.met.K.Named.apart

@@ -1,7 +1,7 @@
-use Rattle.keyed_queue.specs.Queues.{added}
-use Rattle.keyed_laws.specs.QueueLaws.{made}
-use Rattle.keyed_laws.proofs.QueueRuns.{wanted_is_served, added-wanted}
-use Rattle.keyed_laws.proofs.queue_laws.added_is_served.Goals as goal
+use Rattle.keyed_queues.specs.Queues.{added}
+use Rattle.keyed_queues.specs.QueueLaws.{made}
+use Rattle.keyed_queues.proofs.QueueRuns.{wanted_is_served, added-wanted}
+use Rattle.keyed_queues.proofs.queue_laws.added_is_served.Goals as goal
 
 pub returns : goal.returns
 returns g c =

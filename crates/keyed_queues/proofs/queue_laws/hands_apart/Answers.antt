@@ -1,5 +1,5 @@
-use Rattle.keyed_laws.proofs.QueueRuns.{sound, queued_is_free, front_is_queued}
-use Rattle.keyed_laws.proofs.queue_laws.hands_apart.Goals as goal
+use Rattle.keyed_queues.proofs.QueueRuns.{sound, queued_is_free, front_is_queued}
+use Rattle.keyed_queues.proofs.queue_laws.hands_apart.Goals as goal
 
 pub returns : goal.returns
 returns g c =

@@ -1,5 +1,5 @@
-use Rattle.keyed_laws.proofs.QueueRuns.{sound, wanted_is_somewhere}
-use Rattle.keyed_laws.proofs.queue_laws.nothing_is_lost.Goals as goal
+use Rattle.keyed_queues.proofs.QueueRuns.{sound, wanted_is_somewhere}
+use Rattle.keyed_queues.proofs.queue_laws.nothing_is_lost.Goals as goal
 
 pub returns : goal.returns
 returns g c =

@@ -1,5 +1,5 @@
-use Rattle.keyed_laws.proofs.QueueRuns.{sound}
-use Rattle.keyed_laws.proofs.queue_laws.queues_once.Goals as goal
+use Rattle.keyed_queues.proofs.QueueRuns.{sound}
+use Rattle.keyed_queues.proofs.queue_laws.queues_once.Goals as goal
 
 pub returns : goal.returns
 returns g c =

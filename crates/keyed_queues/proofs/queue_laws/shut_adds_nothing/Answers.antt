@@ -1,8 +1,8 @@
 use Rattle.std.proofs.Common.{refl}
-use Rattle.keyed_queue.specs.Queues.{shut}
-use Rattle.keyed_laws.specs.QueueLaws.{made}
-use Rattle.keyed_laws.proofs.QueueRuns.{sound, runs_are_sound, queued_is_wanted, front_is_queued, shut-wanted}
-use Rattle.keyed_laws.proofs.queue_laws.shut_adds_nothing.Goals as goal
+use Rattle.keyed_queues.specs.Queues.{shut}
+use Rattle.keyed_queues.specs.QueueLaws.{made}
+use Rattle.keyed_queues.proofs.QueueRuns.{sound, runs_are_sound, queued_is_wanted, front_is_queued, shut-wanted}
+use Rattle.keyed_queues.proofs.queue_laws.shut_adds_nothing.Goals as goal
 
 pub returns : goal.returns
 returns g c =

@@ -1,7 +1,7 @@
 use Rattle.std.proofs.Common.{ap, ◌∙◌}
 use Rattle.std.proofs.lemmas.Result.{IfOk-weaker}
 use Rattle.spec_client_go.specs.Delays.{due}
-use Rattle.keyed_laws.proofs.WorkDelays.{same_due}
+use Rattle.keyed_queues.proofs.WorkDelays.{same_due}
 use Rattle.backoff.specs.Seen.{counts_of}
 use Rattle.backoff.proofs.delayed.Delayed.due.Goals as goal
 

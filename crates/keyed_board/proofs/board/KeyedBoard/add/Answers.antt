@@ -1,5 +1,5 @@
 use Rattle.std.proofs.Common.{◌∙◌, ap, sym}
-use Rattle.keyed_queue.specs.Lists as queues
+use Rattle.keyed_queues.specs.Lists as queues
 use Rattle.keyed_board.proofs.Shutting.{added_shut}
 use Rattle.keyed_board.proofs.board.KeyedBoard.add.Goals as goal
 

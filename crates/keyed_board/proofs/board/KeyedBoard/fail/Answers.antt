@@ -1,9 +1,9 @@
 use Rattle.std.proofs.Common.{◌∙◌, ap}
 use Rattle.std.specs.FinMap as map
-use Rattle.keyed_backoff.specs.Failures.{failed, restored}
-use Rattle.keyed_queue.specs.Lists as queues
-use Rattle.named_keys.specs.Numbers as numbers
-use Rattle.keyed_laws.proofs.FailureCounts.{has_failed, taken_back}
+use Rattle.keyed_queues.specs.Failures.{failed, restored}
+use Rattle.keyed_queues.specs.Lists as queues
+use Rattle.keyed_queues.specs.Numbers as numbers
+use Rattle.keyed_queues.proofs.FailureCounts.{has_failed, taken_back}
 use Rattle.keyed_board.specs.Said.{said}
 use Rattle.keyed_board.proofs.board.KeyedBoard.fail.Goals as goal
 

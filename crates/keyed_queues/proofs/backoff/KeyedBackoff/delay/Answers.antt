@@ -1,11 +1,11 @@
 use Rattle.std.proofs.Common.{ap, ◌∙◌, ◌+◌, min, unwrap_or}
 use Rattle.std.specs.FinMap as map_of
 use Rattle.spec_client_go.specs.Delays.{delay_after}
-use Rattle.named_keys.specs.Numbers.{said}
-use Rattle.named_keys.proofs.Numbers.{inserted}
-use Rattle.keyed_backoff.specs.Failures.{failed, failures}
-use Rattle.keyed_backoff.proofs.Counts.{counted}
-use Rattle.keyed_backoff.proofs.backoff.KeyedBackoff.delay.Goals as goal
+use Rattle.keyed_queues.specs.Numbers.{said}
+use Rattle.keyed_queues.proofs.Numbers.{inserted}
+use Rattle.keyed_queues.specs.Failures.{failed, failures}
+use Rattle.keyed_queues.proofs.Counts.{counted}
+use Rattle.keyed_queues.proofs.backoff.KeyedBackoff.delay.Goals as goal
 
 pub returns-clause-ok : goal.returns-clause-ok
 returns-clause-ok g c =

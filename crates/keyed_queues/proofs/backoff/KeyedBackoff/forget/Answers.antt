@@ -1,8 +1,8 @@
 use Rattle.std.proofs.Common.{ap, ◌∙◌}
 use Rattle.std.specs.FinMap as map_of
-use Rattle.named_keys.specs.Numbers.{said}
-use Rattle.named_keys.proofs.Numbers.{removed}
-use Rattle.keyed_backoff.proofs.backoff.KeyedBackoff.forget.Goals as goal
+use Rattle.keyed_queues.specs.Numbers.{said}
+use Rattle.keyed_queues.proofs.Numbers.{removed}
+use Rattle.keyed_queues.proofs.backoff.KeyedBackoff.forget.Goals as goal
 
 pub returns : goal.returns
 returns g c =

@@ -1,10 +1,10 @@
 use Rattle.std.proofs.Common.{◌≡◌, refl, ap, ◌∙◌, sym, is_some, true≢false, ℕ, Option, Some, None}
 use Rattle.std.specs.FinMap as map_of
 use Rattle.std.specs.Option.{IsSome}
-use Rattle.named_keys.specs.Numbers.{said}
-use Rattle.named_keys.proofs.Numbers.{found, removed, changed}
-use Rattle.keyed_backoff.specs.Failures.{restored}
-use Rattle.keyed_backoff.proofs.backoff.KeyedBackoff.restore.Goals as goal
+use Rattle.keyed_queues.specs.Numbers.{said}
+use Rattle.keyed_queues.proofs.Numbers.{found, removed, changed}
+use Rattle.keyed_queues.specs.Failures.{restored}
+use Rattle.keyed_queues.proofs.backoff.KeyedBackoff.restore.Goals as goal
 
 is_there : (o : Option ℕ) (x : ℕ) → Some x ≡ o → IsSome o
 is_there None x e = cc

@@ -1,9 +1,9 @@
 use Rattle.std.proofs.Common.{ap, sym, ◌∙◌, arith}
 use Rattle.std.specs.FinMap as map_of
-use Rattle.named_keys.specs.Numbers.{said}
-use Rattle.named_keys.proofs.Numbers.{found}
-use Rattle.keyed_delays.proofs.Steps.{delayed_before}
-use Rattle.keyed_delays.proofs.delays.KeyedDelays.add_after.Goals as goal
+use Rattle.keyed_queues.specs.Numbers.{said}
+use Rattle.keyed_queues.proofs.Numbers.{found}
+use Rattle.keyed_queues.proofs.DelaySteps.{delayed_before}
+use Rattle.keyed_queues.proofs.delays.KeyedDelays.add_after.Goals as goal
 
 pub begin-requires : goal.begin-requires
 begin-requires g c =

@@ -1,10 +1,10 @@
 use Rattle.std.proofs.Common.{ap, sym, ◌∙◌}
 use Rattle.std.specs.FinMap as map_of
 use Rattle.spec_client_go.specs.Delays.{earlier}
-use Rattle.named_keys.specs.Numbers.{said}
-use Rattle.named_keys.proofs.Numbers.{inserted}
-use Rattle.keyed_delays.proofs.Steps.{begun, taken_back, kept}
-use Rattle.keyed_delays.proofs.delays.KeyedDelays.begin.Goals as goal
+use Rattle.keyed_queues.specs.Numbers.{said}
+use Rattle.keyed_queues.proofs.Numbers.{inserted}
+use Rattle.keyed_queues.proofs.DelaySteps.{begun, taken_back, kept}
+use Rattle.keyed_queues.proofs.delays.KeyedDelays.begin.Goals as goal
 
 -- the copy that came back says the same
 pub invariant_of-self-in-Err : goal.invariant_of-self-in-Err

@@ -1,10 +1,10 @@
 use Rattle.std.proofs.Common.{ap, ◌∙◌, length, map}
-use Rattle.keyed_delays.specs.Delays.{due}
-use Rattle.named_keys.specs.Numbers.{said}
-use Rattle.keyed_delays.specs.Said.{alarm_said}
-use Rattle.keyed_delays.proofs.Due.{count_first}
-use Rattle.keyed_delays.proofs.Steps.{leading_said}
-use Rattle.keyed_delays.proofs.delays.KeyedDelays.count_due.Goals as goal
+use Rattle.keyed_queues.specs.Delays.{due}
+use Rattle.keyed_queues.specs.Numbers.{said}
+use Rattle.keyed_queues.specs.Said.{alarm_said}
+use Rattle.keyed_queues.proofs.Due.{count_first}
+use Rattle.keyed_queues.proofs.DelaySteps.{leading_said}
+use Rattle.keyed_queues.proofs.delays.KeyedDelays.count_due.Goals as goal
 
 pub returns : goal.returns
 returns g c =

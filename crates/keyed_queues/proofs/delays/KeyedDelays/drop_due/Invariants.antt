@@ -1,7 +1,7 @@
 use Rattle.std.proofs.Common.{◌≡◌, length}
-use Rattle.keyed_delays.specs.Delays.{due, still_delayed}
-use Rattle.named_keys.specs.Numbers.{said}
-use Rattle.keyed_delays.proofs.delays.KeyedDelays.drop_due.Given as goal
+use Rattle.keyed_queues.specs.Delays.{due, still_delayed}
+use Rattle.keyed_queues.specs.Numbers.{said}
+use Rattle.keyed_queues.proofs.delays.KeyedDelays.drop_due.Given as goal
 
 -- what is left in the end stays the same
 abbrev pub invariant-loop-key : goal.invariant-loop-key

@@ -1,13 +1,13 @@
 use Rattle.std.proofs.Common.{ap, sym, ◌∙◌, ◌≡◌, ◌++◌, subst, map, arith}
 use Rattle.std.specs.FinMap as map_of
 use Rattle.std.proofs.lemmas.Bool.Decides.{nat_tests}
-use Rattle.keyed_delays.specs.Delays.{AreAlarms, due}
-use Rattle.named_keys.specs.Numbers.{said}
-use Rattle.keyed_delays.specs.Said.{alarm_said}
-use Rattle.keyed_delays.proofs.Due.{rest_are, none_due, none_due_yet}
-use Rattle.keyed_delays.proofs.Steps.{noted, all_noted}
-use Rattle.keyed_delays.proofs.delays.KeyedDelays.due_keys.Goals as goal
-use Rattle.keyed_delays.proofs.delays.KeyedDelays.due_keys.Goals.{in-None, in-Some+then-alarm-now}
+use Rattle.keyed_queues.specs.Delays.{AreAlarms, due}
+use Rattle.keyed_queues.specs.Numbers.{said}
+use Rattle.keyed_queues.specs.Said.{alarm_said}
+use Rattle.keyed_queues.proofs.Due.{rest_are, none_due, none_due_yet}
+use Rattle.keyed_queues.proofs.DelaySteps.{noted, all_noted}
+use Rattle.keyed_queues.proofs.delays.KeyedDelays.due_keys.Goals as goal
+use Rattle.keyed_queues.proofs.delays.KeyedDelays.due_keys.Goals.{in-None, in-Some+then-alarm-now}
 
 pub loop-alarm-init : goal.loop-alarm-init
 loop-alarm-init g c =

@@ -1,8 +1,8 @@
 use Rattle.std.proofs.Common.{◌≡◌, ◌++◌, map}
-use Rattle.keyed_delays.specs.Delays.{KeyDelays, AreAlarms, due}
-use Rattle.named_keys.specs.Numbers.{said}
-use Rattle.keyed_delays.specs.Said.{alarm_said}
-use Rattle.keyed_delays.proofs.delays.KeyedDelays.due_keys.Given as goal
+use Rattle.keyed_queues.specs.Delays.{KeyDelays, AreAlarms, due}
+use Rattle.keyed_queues.specs.Numbers.{said}
+use Rattle.keyed_queues.specs.Said.{alarm_said}
+use Rattle.keyed_queues.proofs.delays.KeyedDelays.due_keys.Given as goal
 
 -- what was copied, then what is due of the delays whose alarms are left, is all
 abbrev pub invariant-loop-alarm : goal.invariant-loop-alarm

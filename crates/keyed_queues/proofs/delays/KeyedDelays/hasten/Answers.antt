@@ -1,10 +1,10 @@
 use Rattle.std.proofs.Common.{◌≡◌, ap, sym, ◌∙◌, None, Some}
 use Rattle.std.specs.FinMap as map_of
 use Rattle.spec_client_go.specs.Delays.{earlier}
-use Rattle.named_keys.specs.Numbers.{said}
-use Rattle.named_keys.proofs.Numbers.{found, inserted}
-use Rattle.keyed_delays.proofs.Steps.{hastened, sooner}
-use Rattle.keyed_delays.proofs.delays.KeyedDelays.hasten.Goals as goal
+use Rattle.keyed_queues.specs.Numbers.{said}
+use Rattle.keyed_queues.proofs.Numbers.{found, inserted}
+use Rattle.keyed_queues.proofs.DelaySteps.{hastened, sooner}
+use Rattle.keyed_queues.proofs.delays.KeyedDelays.hasten.Goals as goal
 
 -- the key has an entry, so that no room is wanted
 pub invariant_of-self-in_err-insert-2 : goal.invariant_of-self-in_err-insert-2

@@ -1,5 +1,5 @@
-use Rattle.keyed_delays.proofs.Steps.{new_are}
-use Rattle.keyed_delays.proofs.delays.KeyedDelays.new.Goals as goal
+use Rattle.keyed_queues.proofs.DelaySteps.{new_are}
+use Rattle.keyed_queues.proofs.delays.KeyedDelays.new.Goals as goal
 
 pub invariant_of-result : goal.invariant_of-result
 invariant_of-result g c =

@@ -1,10 +1,10 @@
 use Rattle.std.proofs.Common.{ap, sym, ◌∙◌, subst, ◌∷◌, [], map}
-use Rattle.keyed_delays.specs.Delays.{AreAlarms, next_moment}
-use Rattle.named_keys.specs.Numbers.{said}
-use Rattle.keyed_delays.specs.Said.{alarm_said}
-use Rattle.keyed_delays.proofs.Due.{next_is_first}
-use Rattle.keyed_delays.proofs.Steps.{head_is, no_keys}
-use Rattle.keyed_delays.proofs.delays.KeyedDelays.next_moment.Goals as goal
+use Rattle.keyed_queues.specs.Delays.{AreAlarms, next_moment}
+use Rattle.keyed_queues.specs.Numbers.{said}
+use Rattle.keyed_queues.specs.Said.{alarm_said}
+use Rattle.keyed_queues.proofs.Due.{next_is_first}
+use Rattle.keyed_queues.proofs.DelaySteps.{head_is, no_keys}
+use Rattle.keyed_queues.proofs.delays.KeyedDelays.next_moment.Goals as goal
 
 pub returns-in_default : goal.returns-in_default
 returns-in_default g c =

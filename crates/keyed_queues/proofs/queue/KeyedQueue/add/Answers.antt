@@ -1,9 +1,9 @@
 use Rattle.std.proofs.Common.{ap, sym, ◌∙◌, ◌++◌, ◌∷◌, []}
-use Rattle.keyed_queue.specs.Queues.{added}
-use Rattle.keyed_queue.specs.Lists.{said}
-use Rattle.keyed_queue.proofs.Steps.{add_shut, add_dirty, add_held, add_waiting, pushed-seen}
-use Rattle.keyed_queue.proofs.queue.KeyedQueue.add.Goals as goal
-use Rattle.keyed_queue.proofs.queue.KeyedQueue.add.Goals.{then-self-via-then-self, then-self-via-else-self+then-contains}
+use Rattle.keyed_queues.specs.Queues.{added}
+use Rattle.keyed_queues.specs.Lists.{said}
+use Rattle.keyed_queues.proofs.Steps.{add_shut, add_dirty, add_held, add_waiting, pushed-seen}
+use Rattle.keyed_queues.proofs.queue.KeyedQueue.add.Goals as goal
+use Rattle.keyed_queues.proofs.queue.KeyedQueue.add.Goals.{then-self-via-then-self, then-self-via-else-self+then-contains}
 
 pub returns-then-self-clause-ok : goal.returns-then-self-clause-ok
 returns-then-self-clause-ok g c =

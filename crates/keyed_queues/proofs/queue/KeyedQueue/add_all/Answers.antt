@@ -1,6 +1,6 @@
-use Rattle.keyed_queue.specs.Lists.{said}
-use Rattle.keyed_queue.proofs.Undone.{next_added}
-use Rattle.keyed_queue.proofs.queue.KeyedQueue.add_all.Goals as goal
+use Rattle.keyed_queues.specs.Lists.{said}
+use Rattle.keyed_queues.proofs.Undone.{next_added}
+use Rattle.keyed_queues.proofs.queue.KeyedQueue.add_all.Goals as goal
 
 pub loop-key-preserved : goal.loop-key-preserved
 loop-key-preserved g c =

@@ -1,12 +1,12 @@
 use Rattle.std.proofs.Common.{ap, sym, ◌∙◌, ◌++◌, ◌∷◌, []}
 use Rattle.std.specs.FinSet as set
 use Rattle.object_keys.proofs.SeenSets.{contains-seen}
-use Rattle.keyed_queue.specs.Queues.{added}
-use Rattle.keyed_queue.specs.Lists.{said}
-use Rattle.keyed_queue.proofs.Steps.{add_shut, add_dirty}
-use Rattle.keyed_queue.proofs.Undone.{one_more}
-use Rattle.keyed_queue.proofs.queue.KeyedQueue.add_fresh.Goals as goal
-use Rattle.keyed_queue.proofs.queue.KeyedQueue.add_fresh.Goals.{then-self-via-then-self, then-self-via-else-self+then-contains}
+use Rattle.keyed_queues.specs.Queues.{added}
+use Rattle.keyed_queues.specs.Lists.{said}
+use Rattle.keyed_queues.proofs.Steps.{add_shut, add_dirty}
+use Rattle.keyed_queues.proofs.Undone.{one_more}
+use Rattle.keyed_queues.proofs.queue.KeyedQueue.add_fresh.Goals as goal
+use Rattle.keyed_queues.proofs.queue.KeyedQueue.add_fresh.Goals.{then-self-via-then-self, then-self-via-else-self+then-contains}
 
 pub returns-then-self-clause-ok : goal.returns-then-self-clause-ok
 returns-then-self-clause-ok g c =

@@ -1,10 +1,10 @@
 use Rattle.std.proofs.Common.{ap, sym, ◌∙◌}
 use Rattle.std.specs.Ordering.{is_eq}
 use Rattle.object_keys.proofs.SeenSets.{says_same}
-use Rattle.keyed_queue.specs.Queues.{done}
-use Rattle.keyed_queue.specs.Lists.{said}
-use Rattle.keyed_queue.proofs.Steps.{queue_of, done_absent, done_again, done_clean, pushed-seen}
-use Rattle.keyed_queue.proofs.queue.KeyedQueue.done.Goals as goal
+use Rattle.keyed_queues.specs.Queues.{done}
+use Rattle.keyed_queues.specs.Lists.{said}
+use Rattle.keyed_queues.proofs.Steps.{queue_of, done_absent, done_again, done_clean, pushed-seen}
+use Rattle.keyed_queues.proofs.queue.KeyedQueue.done.Goals as goal
 
 pub returns-in_default : goal.returns-in_default
 returns-in_default g c =

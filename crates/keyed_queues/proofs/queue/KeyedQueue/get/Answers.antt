@@ -1,10 +1,10 @@
 use Rattle.std.proofs.Common.{ap, ◌∙◌}
 use Rattle.std.specs.FinSet as set
 use Rattle.object_keys.proofs.SeenSets.{insert-seen, remove-seen}
-use Rattle.keyed_queue.specs.Queues.{got}
-use Rattle.keyed_queue.specs.Lists.{said}
-use Rattle.keyed_queue.proofs.Steps.{get_from_front, names}
-use Rattle.keyed_queue.proofs.queue.KeyedQueue.get.Goals as goal
+use Rattle.keyed_queues.specs.Queues.{got}
+use Rattle.keyed_queues.specs.Lists.{said}
+use Rattle.keyed_queues.proofs.Steps.{get_from_front, names}
+use Rattle.keyed_queues.proofs.queue.KeyedQueue.get.Goals as goal
 
 pub returns-clause-ok : goal.returns-clause-ok
 returns-clause-ok g c =

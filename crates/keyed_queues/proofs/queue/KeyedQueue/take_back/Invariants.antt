@@ -1,8 +1,8 @@
 use Rattle.std.proofs.Common.{map}
-use Rattle.keyed_queue.specs.Queues.{KeyQueue}
-use Rattle.keyed_queue.specs.Lists.{said}
-use Rattle.keyed_queue.specs.Undoing.{IsUndoable}
-use Rattle.keyed_queue.proofs.queue.KeyedQueue.take_back.Given as goal
+use Rattle.keyed_queues.specs.Queues.{KeyQueue}
+use Rattle.keyed_queues.specs.Lists.{said}
+use Rattle.keyed_queues.specs.Undoing.{IsUndoable}
+use Rattle.keyed_queues.proofs.queue.KeyedQueue.take_back.Given as goal
 
 abbrev pub invariant-loop-key : goal.invariant-loop-key
 invariant-loop-key g l =

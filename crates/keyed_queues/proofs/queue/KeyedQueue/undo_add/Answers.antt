@@ -1,8 +1,8 @@
 use Rattle.std.proofs.Common.{refl, sym, ap, ◌∙◌, ◌-◌, true, false}
 use Rattle.std.proofs.lemmas.List.{length-map}
-use Rattle.keyed_queue.specs.Lists.{said}
-use Rattle.keyed_queue.proofs.Undone.{queue_back, popped}
-use Rattle.keyed_queue.proofs.queue.KeyedQueue.undo_add.Goals as goal
+use Rattle.keyed_queues.specs.Lists.{said}
+use Rattle.keyed_queues.proofs.Undone.{queue_back, popped}
+use Rattle.keyed_queues.proofs.queue.KeyedQueue.undo_add.Goals as goal
 
 pub returns-then-not-contains : goal.returns-then-not-contains
 returns-then-not-contains g c before f is =

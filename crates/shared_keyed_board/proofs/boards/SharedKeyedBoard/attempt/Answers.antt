@@ -1,7 +1,7 @@
 use Rattle.std.proofs.Common.{◌∙◌, ap}
 use Rattle.keyed_board.specs.Boards.{taken}
 use Rattle.keyed_board.specs.Said.{said}
-use Rattle.keyed_queue.specs.Queues.{handed}
+use Rattle.keyed_queues.specs.Queues.{handed}
 use Rattle.shared_keyed_board.specs.Calls.{having_seen}
 use Rattle.shared_keyed_board.specs.Histories.{board}
 use Rattle.shared_keyed_board.specs.Passes.{sight}

@@ -2,9 +2,9 @@ use Rattle.std.proofs.Common.{ap, ◌∙◌}
 use Rattle.std.proofs.lemmas.Result.{on_ok_weaker}
 use Rattle.spec_client_go.specs.WorkQueues.{work_key_cmp, added}
 use Rattle.object_keys.specs.WorkKeys.{work_key_of}
-use Rattle.keyed_queue.specs.Lists.{said}
-use Rattle.keyed_laws.specs.WorkLaws.{work_queue}
-use Rattle.keyed_laws.proofs.WorkQueues.{added_is}
+use Rattle.keyed_queues.specs.Lists.{said}
+use Rattle.keyed_queues.specs.WorkLaws.{work_queue}
+use Rattle.keyed_queues.proofs.WorkQueues.{added_is}
 use Rattle.workqueue.proofs.queue.Queue.add.Goals as goal
 
 pub returns-clause-ok : goal.returns-clause-ok

@@ -2,9 +2,9 @@ use Rattle.std.proofs.Common.{ap, ◌∙◌, map}
 use Rattle.std.proofs.lemmas.Result.{on_ok_weaker, on_err_weaker}
 use Rattle.spec_client_go.specs.WorkQueues.{work_key_cmp, add, after_all}
 use Rattle.object_keys.specs.WorkKeys.{work_key_of}
-use Rattle.keyed_queue.specs.Lists.{said}
-use Rattle.keyed_laws.specs.WorkLaws.{work_queue}
-use Rattle.keyed_laws.proofs.WorkQueues.{added_all_are}
+use Rattle.keyed_queues.specs.Lists.{said}
+use Rattle.keyed_queues.specs.WorkLaws.{work_queue}
+use Rattle.keyed_queues.proofs.WorkQueues.{added_all_are}
 use Rattle.workqueue.proofs.queue.Queue.add_all.Goals as goal
 
 pub returns-clause-ok : goal.returns-clause-ok

@@ -1,9 +1,9 @@
 use Rattle.std.proofs.Common.{ap, ◌∙◌}
 use Rattle.spec_client_go.specs.WorkQueues.{work_key_cmp, done}
 use Rattle.object_keys.specs.WorkKeys.{work_key_of}
-use Rattle.keyed_queue.specs.Lists.{said}
-use Rattle.keyed_laws.specs.WorkLaws.{work_queue}
-use Rattle.keyed_laws.proofs.WorkQueues.{done_is}
+use Rattle.keyed_queues.specs.Lists.{said}
+use Rattle.keyed_queues.specs.WorkLaws.{work_queue}
+use Rattle.keyed_queues.proofs.WorkQueues.{done_is}
 use Rattle.workqueue.proofs.queue.Queue.done.Goals as goal
 
 pub returns : goal.returns

@@ -1,8 +1,8 @@
 use Rattle.std.proofs.Common.{ap, ◌∙◌}
 use Rattle.spec_client_go.specs.WorkQueues.{work_key_cmp, handed}
 use Rattle.object_keys.specs.WorkKeys.{work_key_of}
-use Rattle.keyed_queue.specs.Lists.{said}
-use Rattle.keyed_laws.proofs.WorkQueues.{same_handed}
+use Rattle.keyed_queues.specs.Lists.{said}
+use Rattle.keyed_queues.proofs.WorkQueues.{same_handed}
 use Rattle.workqueue.proofs.queue.Queue.first.Goals as goal
 
 pub returns : goal.returns

@@ -2,9 +2,9 @@ use Rattle.std.proofs.Common.{ap, ◌∙◌}
 use Rattle.std.proofs.lemmas.Result.{on_ok_weaker, IfOk-weaker}
 use Rattle.spec_client_go.specs.WorkQueues.{work_key_cmp, got, handed}
 use Rattle.object_keys.specs.WorkKeys.{work_key_of}
-use Rattle.keyed_queue.specs.Lists.{said}
-use Rattle.keyed_laws.specs.WorkLaws.{work_queue}
-use Rattle.keyed_laws.proofs.WorkQueues.{got_is, same_handed}
+use Rattle.keyed_queues.specs.Lists.{said}
+use Rattle.keyed_queues.specs.WorkLaws.{work_queue}
+use Rattle.keyed_queues.proofs.WorkQueues.{got_is, same_handed}
 use Rattle.workqueue.proofs.queue.Queue.get.Goals as goal
 
 pub returns-clause-ok : goal.returns-clause-ok

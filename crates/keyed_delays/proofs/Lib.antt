@@ -1,4 +1,0 @@
-pub mod Alarms
-pub mod Due
-pub mod SeenAlarms
-pub mod Steps

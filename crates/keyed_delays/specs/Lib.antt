@@ -1,2 +1,0 @@
-pub mod Delays
-pub mod Said

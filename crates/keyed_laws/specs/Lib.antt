@@ -1,4 +1,0 @@
-pub mod DelayLaws
-pub mod FailureLaws
-pub mod QueueLaws
-pub mod WorkLaws
