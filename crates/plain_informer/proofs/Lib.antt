@@ -1,1 +1,2 @@
 pub mod SeenTasks
+pub mod Deletions

@@ -1,2 +1,3 @@
 pub mod Owed
 pub mod Appended
+pub mod Changes

@@ -5,7 +5,7 @@ ghost use Rattle.work_board.specs.Seen.{observation_of, owner_of};
 ghost use Rattle.spec_reconcile.specs.PodClaims as claims;
 ghost use Rattle.spec_sim.specs.PodObservations.{is_same_pod, was_being_deleted, creation, deletion, seen_now, seen_no_more, observations_of_pod, observations_by};
 ghost use Rattle.indexer.specs.Shifted.{shift_of};
-ghost use Rattle.pod_observations.specs.Changes.{data_of, seen_first, seen_deleted, of_old, of_new};
+ghost use Rattle.plain_informer.specs.Changes.{data_of, seen_first, seen_deleted, of_old, of_new};
 
 use crate::sets::sets_of;
 use indexer::Shift;

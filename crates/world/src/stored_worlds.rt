@@ -8,8 +8,7 @@ ghost use Rattle.world.specs.StoredStates.{owed};
 
 use crate::outcomes::Outcome;
 use object_keys::WorkKey;
-use plain_informer::keys_of;
-use pod_observations::{object_in, observations};
+use plain_informer::{keys_of, object_in, observations};
 use sim_cluster::Cluster;
 use sim_followers::Notification;
 use sim_manager::{Manager, ToldOutcome, WorkOutcome};

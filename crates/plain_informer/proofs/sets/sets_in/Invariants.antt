@@ -2,7 +2,7 @@ use Rattle.std.proofs.Common.{◌≡◌, ◌++◌, map, filter_map}
 use Rattle.meta.specs.Owners.{owner_of as reference_of}
 use Rattle.work_board.specs.Seen.{owner_of}
 use Rattle.spec_sim.specs.PodObservations.{set_named}
-use Rattle.pod_observations.proofs.sets.sets_in.Given as goal
+use Rattle.plain_informer.proofs.sets.sets_in.Given as goal
 
 -- those found and those still to be found are all
 abbrev pub invariant-loop-reference : goal.invariant-loop-reference

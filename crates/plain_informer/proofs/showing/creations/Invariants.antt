@@ -1,7 +1,7 @@
 use Rattle.std.proofs.Common.{◌≡◌, ◌++◌, map}
 use Rattle.spec_client_go.specs.Boards.{creation_observed}
 use Rattle.work_board.specs.Seen.{observation_of, owner_of}
-use Rattle.pod_observations.proofs.showing.creations.Given as goal
+use Rattle.plain_informer.proofs.showing.creations.Given as goal
 
 -- those found and those still to be found are all
 abbrev pub invariant-loop-owner : goal.invariant-loop-owner

@@ -3,8 +3,8 @@ use Rattle.spec_client_go.specs.Boards.{deletion_observed}
 use Rattle.work_board.specs.Seen.{observation_of}
 use Rattle.spec_client_go.specs.Expectations.{Owner}
 use Rattle.spec_sim.specs.PodObservations.{sets_of, deletion}
-use Rattle.pod_observations.proofs.Deletions.{deletion_is, told}
-use Rattle.pod_observations.proofs.showing.deletion.Goals as goal
+use Rattle.plain_informer.proofs.Deletions.{deletion_is, told}
+use Rattle.plain_informer.proofs.showing.deletion.Goals as goal
 
 pub returns-in_ok-sets_of-in-Some : goal.returns-in_ok-sets_of-in-Some
 returns-in_ok-sets_of-in-Some c =

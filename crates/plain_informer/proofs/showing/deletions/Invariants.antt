@@ -2,7 +2,7 @@ use Rattle.std.proofs.Common.{◌≡◌, ◌++◌, map}
 use Rattle.spec_client_go.specs.Boards.{deletion_observed}
 use Rattle.spec_client_go.specs.Expectations.{Owner}
 use Rattle.work_board.specs.Seen.{observation_of, owner_of}
-use Rattle.pod_observations.proofs.showing.deletions.Given as goal
+use Rattle.plain_informer.proofs.showing.deletions.Given as goal
 
 -- those found and those still to be found are all
 abbrev pub invariant-loop-owner : goal.invariant-loop-owner
