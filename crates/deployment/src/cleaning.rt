@@ -11,8 +11,7 @@ ghost use Rattle.reconcile_types.specs.Entries.{entry_of};
 use crate::ages::sort_by_revision;
 use crate::rollout::Rollout;
 use meta::Object;
-use reconcile_status::{count_in_spec, count_in_status};
-use reconcile_types::{Command, Entry};
+use reconcile_types::{Command, Entry, count_in_spec, count_in_status};
 use spec_reconcile::Summary;
 use std::alloc::{AllocError, Global};
 

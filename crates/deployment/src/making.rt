@@ -25,8 +25,7 @@ use json_values::values::whole_number;
 use meta::{Kind, Object};
 use object_fields::{blank, in_spec, inner};
 use owner_references::edits::controller_reference;
-use reconcile_status::count_in_status;
-use reconcile_types::Command;
+use reconcile_types::{Command, count_in_status};
 use serde_json::Value;
 use std::alloc::{AllocError, Global};
 

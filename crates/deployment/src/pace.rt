@@ -7,7 +7,7 @@ ghost use Rattle.spec_reconcile.specs.Rollouts.{at_least_one, pace, rounded_down
 
 use meta::Object;
 use object_fields::{amount, in_spec};
-use reconcile_status::{count_in_spec, not_below_0};
+use reconcile_types::{count_in_spec, not_below_0};
 use spec_api::amounts::Amount;
 use spec_reconcile::Pace;
 

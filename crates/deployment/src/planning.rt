@@ -21,8 +21,7 @@ use json_values::values::whole_number;
 use meta::{Kind, Object};
 use object_fields::in_spec;
 use object_keys::Key;
-use reconcile_status::{add_update, count_in_status, status};
-use reconcile_types::{Command, Hand, Looks, Plan, Seen};
+use reconcile_types::{Command, Hand, Looks, Plan, Seen, add_update, count_in_status, status};
 use spec_reconcile::Summary;
 use std::alloc::{AllocError, Global};
 

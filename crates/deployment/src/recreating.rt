@@ -17,8 +17,7 @@ use crate::rollout::{Rollout, due};
 use crate::scaling::{renew, scale_each};
 use meta::Object;
 use object_fields::{in_status, text_in};
-use reconcile_status::count_in_spec;
-use reconcile_types::{Command, Entry, Seen};
+use reconcile_types::{Command, Entry, Seen, count_in_spec};
 use spec_reconcile::Summary;
 use std::alloc::{AllocError, Global};
 

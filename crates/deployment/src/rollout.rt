@@ -13,8 +13,7 @@ use crate::revisions::revision;
 use crate::templates::bare_text;
 use meta::Object;
 use object_keys::Key;
-use reconcile_status::{count_in_spec, count_in_status};
-use reconcile_types::Entry;
+use reconcile_types::{Entry, count_in_spec, count_in_status};
 use spec_reconcile::Tally;
 use std::alloc::{AllocError, Global};
 

@@ -6,8 +6,7 @@ ghost use Rattle.reconcile_types.specs.Entries.{entry_of};
 
 use crate::edits::with_replicas;
 use crate::revisions::{raised, revision};
-use reconcile_status::count_in_spec;
-use reconcile_types::{Command, Entry};
+use reconcile_types::{Command, Entry, count_in_spec};
 use std::alloc::{AllocError, Global};
 
 /// Adds the update of a set that is to have another number of pods. The error is running out of memory.

@@ -14,8 +14,7 @@ ghost use Rattle.reconcile_types.specs.Entries.{entry_of};
 use crate::rollout::{Rollout, all_sets, tallies};
 use crate::rollouts::total_asked;
 use meta::Object;
-use reconcile_status::{count_in_status, status};
-use reconcile_types::{Command, Entry};
+use reconcile_types::{Command, Entry, count_in_status, status};
 use spec_reconcile::Summary;
 use std::alloc::{AllocError, Global};
 
@@ -79,7 +78,7 @@ pub(crate) fn summary(alloc: Global, rollout: &Rollout<'_>) -> Result<Summary, A
 fn with_count(alloc: Global, earlier: Object, name: &str, count: u128) -> Result<Object, AllocError>
     ensures { IfOk result (λ o. o.value ≡ object (put name.now (counted count) (members_of earlier.value))) }
 {
-    reconcile_status::with_count(alloc, earlier, name, count.min(u64::MAX as u128) as u64)
+    reconcile_types::with_count(alloc, earlier, name, count.min(u64::MAX as u128) as u64)
 }
 
 /// Returns a status with these counts. The error is running out of memory.
@@ -111,5 +110,5 @@ pub(crate) fn add_report(
         ≡ map command_of commands.old.items ++ report (rollout_seen rollout.now)) }
 {
     let new = with_summary(alloc, status(alloc, rollout.deployment)?, counts)?;
-    reconcile_status::add_report(alloc, rollout.key, rollout.deployment, new, commands)
+    reconcile_types::add_report(alloc, rollout.key, rollout.deployment, new, commands)
 }

@@ -9,11 +9,11 @@ ghost use Rattle.object_keys.specs.Keys.{key_of};
 ghost use Rattle.spec_reconcile.specs.Statuses.{report_status, status, with_status};
 ghost use Rattle.reconcile_types.specs.Commands.{command_of};
 
+use crate::commands::Command;
 use json_values::values::whole_number;
 use meta::Object;
 use object_fields::{inner, says_the_same};
 use object_keys::Key;
-use reconcile_types::Command;
 use std::alloc::{AllocError, Global};
 
 /// Returns a copy of an object's status, as an object; one that says nothing where it has none. The error is running out of

@@ -13,8 +13,7 @@ use crate::ranks::Ranked;
 use crate::victims::delete_lowest;
 use meta::Object;
 use object_keys::Key;
-use reconcile_status::count_in_spec;
-use reconcile_types::Command;
+use reconcile_types::{Command, count_in_spec};
 use std::alloc::{AllocError, Global};
 
 /// At most so many pods are created or deleted in one turn.

@@ -13,8 +13,7 @@ use crate::own_pods::count_ready;
 use crate::ranks::Ranked;
 use meta::Object;
 use object_keys::Key;
-use reconcile_status::{status, with_count};
-use reconcile_types::Command;
+use reconcile_types::{Command, status, with_count};
 use std::alloc::{AllocError, Global};
 
 /// Returns the set's status with these counts. The error is running out of memory.
@@ -51,5 +50,5 @@ pub(crate) fn add_report(
         ≡ map command_of commands.old.items ++ report (key_of key.now) set.now.value (pods_of pods.now)) }
 {
     let new = new_status(alloc, set, pods)?;
-    reconcile_status::add_report(alloc, key, set, new, commands)
+    reconcile_types::add_report(alloc, key, set, new, commands)
 }
