@@ -5,8 +5,8 @@ use Rattle.http_client.specs.declared.answer.Answer as client
 use Rattle.http_client.specs.declared.answer.Answer.TheVariants as outcome
 use Rattle.spec_sim.specs.Turns as turns
 use Rattle.reconcile_turn.specs.Seen.{answer_of, data_of}
-use Rattle.reconcile_parts.specs.declared.answers.CommandAnswer.{CommandAnswer}
-use Rattle.reconcile_parts.specs.declared.answers.CommandAnswer.TheVariants as answer
+use Rattle.reconcile_turn.specs.declared.answers.CommandAnswer.{CommandAnswer}
+use Rattle.reconcile_turn.specs.declared.answers.CommandAnswer.TheVariants as answer
 use Rattle.manager_worker.specs.declared.answers.Learnt.{Learnt}
 use Rattle.manager_worker.specs.declared.answers.Learnt.TheVariants as learnt
 

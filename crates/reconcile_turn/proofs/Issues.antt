@@ -10,10 +10,10 @@ use Rattle.std.specs.declared.sync.Arc.{Arc}
 use Rattle.spec_client_go.specs.Commands.{Command}
 use Rattle.spec_sim.specs.NextSteps.{first}
 use Rattle.spec_sim.specs.Turns.{Answer, Issue, is_accepted, is_refused, all_accepted, version_answered, version_in}
-use Rattle.reconcile_parts.specs.Answers.{answers_of, is_undone, last_version, undone_of}
-use Rattle.reconcile_parts.specs.Seen.{answer_of}
-use Rattle.reconcile_parts.specs.Stages.{issued}
-use Rattle.reconcile_parts.specs.declared.answers.CommandAnswer.{CommandAnswer as Shared}
+use Rattle.reconcile_turn.specs.Answers.{answers_of, is_undone, last_version, undone_of}
+use Rattle.reconcile_turn.specs.Seen.{answer_of}
+use Rattle.reconcile_turn.specs.Stages.{issued}
+use Rattle.reconcile_turn.specs.declared.answers.CommandAnswer.{CommandAnswer as Shared}
 
 -- an answer to the first command that has none is one more issue
 pub issued_more : (cs : List Command) (as' : List Answer) (a : Answer) (c : Command) → first (drop (length as') cs) ≡ Some c

@@ -17,19 +17,19 @@ use Rattle.spec_reconcile.specs.ReplicaSets as replica_sets
 use Rattle.spec_sim.specs.NextSteps as steps
 use Rattle.spec_sim.specs.NextSteps.{NextStep, Sighting, of_kind, of_expectations, next, seeing, expect, issue, finish, look, ask_satisfied, first, unseen, expecting, issuing}
 use Rattle.spec_sim.specs.Turns.{Turn, Sight, Answer, Issue, Expected, asks, asks_by, plan_by, commands, creates_pod, expected, expected_by, hand, owner, owner_by, looks, was_satisfied, all_accepted, left}
-use Rattle.reconcile_parts.specs.NextCommands.{IsCommandNext}
-use Rattle.reconcile_parts.specs.Pods.{makes_pods}
-use Rattle.reconcile_parts.specs.Seen.{IsNext}
-use Rattle.reconcile_parts.specs.Sightings.{sighting_of}
-use Rattle.reconcile_parts.specs.Stages as phase
-use Rattle.reconcile_parts.specs.Stages.{Phase, IsPlanned, IsIn, IsTurn, commands_in, issued, turn_of}
-use Rattle.reconcile_parts.specs.declared.sightings.Sighting.{Sighting as Seen}
-use Rattle.reconcile_parts.specs.declared.next_steps.NextStep.{NextStep as Step}
-use Rattle.reconcile_parts.specs.declared.next_steps.NextStep.TheVariants as step
-use Rattle.reconcile_parts.proofs.Firsts.{first_left_as}
-use Rattle.reconcile_parts.proofs.Issues.{length-issued}
-use Rattle.reconcile_parts.proofs.PodCounts.{expects, creates_fewer}
-use Rattle.reconcile_parts.proofs.Steps.{next_planned, step_by}
+use Rattle.reconcile_turn.specs.NextCommands.{IsCommandNext}
+use Rattle.reconcile_turn.specs.Pods.{makes_pods}
+use Rattle.reconcile_turn.specs.Seen.{IsNext}
+use Rattle.reconcile_turn.specs.Sightings.{sighting_of}
+use Rattle.reconcile_turn.specs.Stages as phase
+use Rattle.reconcile_turn.specs.Stages.{Phase, IsPlanned, IsIn, IsTurn, commands_in, issued, turn_of}
+use Rattle.reconcile_turn.specs.declared.sightings.Sighting.{Sighting as Seen}
+use Rattle.reconcile_turn.specs.declared.next_steps.NextStep.{NextStep as Step}
+use Rattle.reconcile_turn.specs.declared.next_steps.NextStep.TheVariants as step
+use Rattle.reconcile_turn.proofs.Firsts.{first_left_as}
+use Rattle.reconcile_turn.proofs.Issues.{length-issued}
+use Rattle.reconcile_turn.proofs.PodCounts.{expects, creates_fewer}
+use Rattle.reconcile_turn.proofs.Steps.{next_planned, step_by}
 
 -- ---- all that is to be seen
 

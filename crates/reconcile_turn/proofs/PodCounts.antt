@@ -4,7 +4,7 @@ use Rattle.spec_client_go.specs.Commands.{Command, create, update, update_status
 use Rattle.spec_client_go.specs.Expectations.{Owner}
 use Rattle.spec_laws.specs.ReplicaSetLaws.{created}
 use Rattle.spec_sim.specs.Turns.{creates_pod, expected_by}
-use Rattle.reconcile_parts.specs.Pods.{makes_pods}
+use Rattle.reconcile_turn.specs.Pods.{makes_pods}
 
 -- pods are expected just where some are created or deleted
 pub expects : (o : Owner) (cs : List Command) → is_some (expected_by (Some o) cs) ≡ makes_pods cs

@@ -14,18 +14,18 @@ use Rattle.reconcile_types.specs.Commands.{commands_of}
 use Rattle.reconcile_types.specs.Hands.{reads_of}
 use Rattle.reconcile_types.specs.declared.commands.Plan.{Plan}
 use Rattle.object_keys.specs.WorkKeys.{work_key_of}
-use Rattle.reconcile_parts.specs.Answers.{answers_of, last_version, undone_of}
-use Rattle.reconcile_parts.specs.Seen.{answer_of, sight_of, key_read, command_issued, answered_to}
-use Rattle.reconcile_parts.specs.Stages as phase
-use Rattle.reconcile_parts.specs.Stages.{Phase, IsPlanned, IsIn, IsTurn, commands_in, issued, phase_of, turn_of}
+use Rattle.reconcile_turn.specs.Answers.{answers_of, last_version, undone_of}
+use Rattle.reconcile_turn.specs.Seen.{answer_of, sight_of, key_read, command_issued, answered_to}
+use Rattle.reconcile_turn.specs.Stages as phase
+use Rattle.reconcile_turn.specs.Stages.{Phase, IsPlanned, IsIn, IsTurn, commands_in, issued, phase_of, turn_of}
 use Rattle.reconcile_turn.specs.contracts.turn.Turn.{the_view, the_invariant}
-use Rattle.reconcile_parts.specs.declared.answers.CommandAnswer.{CommandAnswer as Shared}
-use Rattle.reconcile_parts.specs.declared.stages.Stage.{Stage}
-use Rattle.reconcile_parts.specs.declared.stages.Stage.TheVariants.{Planned}
+use Rattle.reconcile_turn.specs.declared.answers.CommandAnswer.{CommandAnswer as Shared}
+use Rattle.reconcile_turn.specs.declared.stages.Stage.{Stage}
+use Rattle.reconcile_turn.specs.declared.stages.Stage.TheVariants.{Planned}
 use Rattle.reconcile_turn.specs.declared.turn.Turn.TheInside.{Inside}
-use Rattle.reconcile_parts.proofs.Issues.{issued_more, fits_more, accepted_more, last_version_issued, undone-issued}
-use Rattle.reconcile_parts.proofs.Phases.{left_of}
-use Rattle.reconcile_parts.proofs.Steps.{next_seeing, next_reading, next_planned, step_by}
+use Rattle.reconcile_turn.proofs.Issues.{issued_more, fits_more, accepted_more, last_version_issued, undone-issued}
+use Rattle.reconcile_turn.proofs.Phases.{left_of}
+use Rattle.reconcile_turn.proofs.Steps.{next_seeing, next_reading, next_planned, step_by}
 
 -- a turn in this phase, with what is issued of its plan
 pub record IsAt (p : Phase) (t : Turn) (as' : List Answer) (acc : Bool) : Type 0 where

@@ -6,8 +6,8 @@ use Rattle.std.specs.Global.{Global}
 use Rattle.spec_client_go.specs.Commands.{Command}
 use Rattle.spec_sim.specs.Turns as turns
 use Rattle.spec_sim.specs.Turns.{is_refused, version_in}
-use Rattle.reconcile_parts.specs.Seen.{answer_of}
-use Rattle.reconcile_parts.specs.declared.answers.CommandAnswer.{CommandAnswer}
+use Rattle.reconcile_turn.specs.Seen.{answer_of}
+use Rattle.reconcile_turn.specs.declared.answers.CommandAnswer.{CommandAnswer}
 
 abbrev pub answers_of : List (Arc CommandAnswer Global) → List turns.Answer
 answers_of as' = map (λ a. answer_of (arc_value a)) as'

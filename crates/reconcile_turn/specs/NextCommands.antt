@@ -2,8 +2,8 @@
 use Rattle.std.specs.Prelude.{◌≡◌, Option, Some, None}
 use Rattle.spec_client_go.specs.Commands.{Command}
 use Rattle.reconcile_types.specs.Commands.{command_of}
-use Rattle.reconcile_parts.specs.declared.next_steps.NextStep.{NextStep}
-use Rattle.reconcile_parts.specs.declared.next_steps.NextStep.TheVariants.{Look, AskSatisfied, Read, Expect, Issue, Finish}
+use Rattle.reconcile_turn.specs.declared.next_steps.NextStep.{NextStep}
+use Rattle.reconcile_turn.specs.declared.next_steps.NextStep.TheVariants.{Look, AskSatisfied, Read, Expect, Issue, Finish}
 
 -- this command is issued, or where there is none the turn ends
 abbrev pub IsCommandNext : NextStep → Option Command → Type 0

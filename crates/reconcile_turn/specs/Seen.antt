@@ -11,13 +11,13 @@ use Rattle.spec_sim.specs.NextSteps.{next, look, ask_satisfied, expect, issue, f
 use Rattle.spec_sim.specs.Turns as turns
 use Rattle.spec_sim.specs.Turns.{Turn, looked, satisfied, accepted, refused, lost, with_read, with_issue}
 use Rattle.reconcile_types.specs.Commands.{command_of}
-use Rattle.reconcile_parts.specs.declared.answers.CommandAnswer.{CommandAnswer}
-use Rattle.reconcile_parts.specs.declared.answers.CommandAnswer.TheVariants as answer
-use Rattle.reconcile_parts.specs.declared.expected.Expected.{Expected}
-use Rattle.reconcile_parts.specs.declared.next_steps.NextStep.{NextStep}
-use Rattle.reconcile_parts.specs.declared.next_steps.NextStep.TheVariants.{Look, AskSatisfied, Read, Expect, Issue, Finish}
-use Rattle.reconcile_parts.specs.declared.sights.Sight.{Sight}
-use Rattle.reconcile_parts.specs.declared.sights.Sight.TheVariants.{Looked, Satisfied}
+use Rattle.reconcile_turn.specs.declared.answers.CommandAnswer.{CommandAnswer}
+use Rattle.reconcile_turn.specs.declared.answers.CommandAnswer.TheVariants as answer
+use Rattle.reconcile_turn.specs.declared.expected.Expected.{Expected}
+use Rattle.reconcile_turn.specs.declared.next_steps.NextStep.{NextStep}
+use Rattle.reconcile_turn.specs.declared.next_steps.NextStep.TheVariants.{Look, AskSatisfied, Read, Expect, Issue, Finish}
+use Rattle.reconcile_turn.specs.declared.sights.Sight.{Sight}
+use Rattle.reconcile_turn.specs.declared.sights.Sight.TheVariants.{Looked, Satisfied}
 
 -- ---- what is seen and learnt
 

@@ -9,8 +9,8 @@ use Rattle.object_keys.specs.Keys.{key_of}
 use Rattle.spec_sim.specs.NextSteps.{first, unseen}
 use Rattle.spec_sim.specs.Turns.{Sight, Answer, Issue, Turn, all_accepted, asks, commands, expected}
 use Rattle.reconcile_types.specs.Commands.{commands_of}
-use Rattle.reconcile_parts.specs.declared.stages.Stage.{Stage}
-use Rattle.reconcile_parts.specs.declared.stages.Stage.TheVariants.{Seeing, Reading, Planned}
+use Rattle.reconcile_turn.specs.declared.stages.Stage.{Stage}
+use Rattle.reconcile_turn.specs.declared.stages.Stage.TheVariants.{Seeing, Reading, Planned}
 
 -- something is still to be seen; all was seen, and a key is to be read live; or these are the commands, of which pods are expected or are not
 pub data Phase : Type 0 where

@@ -1,8 +1,8 @@
 //! Answers to commands.
 ghost use Rattle.std.specs.Prelude.{◌≡◌, IfOk};
-ghost use Rattle.reconcile_parts.specs.Answers.{answers_of};
+ghost use Rattle.reconcile_turn.specs.Answers.{answers_of};
 ghost use Rattle.spec_sim.specs.Turns.{is_accepted, is_refused};
-ghost use Rattle.reconcile_parts.specs.Seen.{answer_of};
+ghost use Rattle.reconcile_turn.specs.Seen.{answer_of};
 
 use std::alloc::{AllocError, Global};
 use std::sync::Arc;

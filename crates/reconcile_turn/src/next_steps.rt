@@ -2,7 +2,7 @@
 ghost use Rattle.std.specs.Prelude.{◌≡◌, drop, map, option_map};
 ghost use Rattle.spec_sim.specs.NextSteps.{issuing};
 ghost use Rattle.reconcile_types.specs.Commands.{command_of, commands_of};
-ghost use Rattle.reconcile_parts.specs.NextCommands.{IsCommandNext};
+ghost use Rattle.reconcile_turn.specs.NextCommands.{IsCommandNext};
 
 use object_keys::Key;
 use reconcile_types::{Command, Plan};

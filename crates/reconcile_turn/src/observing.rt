@@ -4,9 +4,9 @@ ghost use Rattle.spec_client_go.specs.Boards.{creation_observed, deletion_observ
 ghost use Rattle.work_board.specs.Seen.{owner_of, observation_of};
 ghost use Rattle.spec_sim.specs.Turns.{as_observed, creates_pod, expected_of, pod_deleted};
 ghost use Rattle.reconcile_types.specs.Commands.{command_of};
-ghost use Rattle.reconcile_parts.specs.Answers.{answers_of, is_undone, undone_of};
-ghost use Rattle.reconcile_parts.specs.Pods.{commands_lent};
-ghost use Rattle.reconcile_parts.specs.Seen.{expected_of as expected_seen};
+ghost use Rattle.reconcile_turn.specs.Answers.{answers_of, is_undone, undone_of};
+ghost use Rattle.reconcile_turn.specs.Pods.{commands_lent};
+ghost use Rattle.reconcile_turn.specs.Seen.{expected_of as expected_seen};
 
 use crate::answers::CommandAnswer;
 use crate::expected::Expected;

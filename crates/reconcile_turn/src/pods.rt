@@ -2,7 +2,7 @@
 ghost use Rattle.std.specs.Prelude.{◌≡◌, IfOk, length, map, filter, filter_map, option_map, string_bytes};
 ghost use Rattle.spec_sim.specs.Turns.{creates_pod, pod_deleted};
 ghost use Rattle.reconcile_types.specs.Commands.{command_of};
-ghost use Rattle.reconcile_parts.specs.Pods.{commands_lent, makes_pods};
+ghost use Rattle.reconcile_turn.specs.Pods.{commands_lent, makes_pods};
 
 use meta::Kind;
 use reconcile_types::Command;

@@ -6,8 +6,8 @@ ghost use Rattle.spec_api.specs.Metadata.{version};
 ghost use Rattle.request_parts.specs.Requests.{request_of};
 ghost use Rattle.serde_json.specs.View.{view};
 ghost use Rattle.reconcile_types.specs.Commands.{command_of, version_of};
-ghost use Rattle.reconcile_parts.specs.Answers.{answers_of, last_version};
-ghost use Rattle.reconcile_parts.specs.Seen.{data_of};
+ghost use Rattle.reconcile_turn.specs.Answers.{answers_of, last_version};
+ghost use Rattle.reconcile_turn.specs.Seen.{data_of};
 
 use crate::answers::CommandAnswer;
 use lifecycle::DeleteOptions;

@@ -7,8 +7,8 @@ ghost use Rattle.object_keys.specs.Keys.{key_of};
 ghost use Rattle.object_fields.specs.Lent.{data_of};
 ghost use Rattle.spec_sim.specs.Turns.{owner, shown};
 ghost use Rattle.object_keys.specs.WorkKeys.{work_key_of};
-ghost use Rattle.reconcile_parts.specs.Seen.{sight_of};
-ghost use Rattle.reconcile_parts.specs.Stages.{turn_of};
+ghost use Rattle.reconcile_turn.specs.Seen.{sight_of};
+ghost use Rattle.reconcile_turn.specs.Stages.{turn_of};
 
 use crate::sights::{Sight, look_at};
 use meta::{Kind, Object};

@@ -1,7 +1,7 @@
 //! What is to be seen in a turn.
 ghost use Rattle.std.specs.Prelude.{◌≡◌, drop, option_map};
 ghost use Rattle.spec_sim.specs.NextSteps.{first, order};
-ghost use Rattle.reconcile_parts.specs.Sightings.{sighting_of};
+ghost use Rattle.reconcile_turn.specs.Sightings.{sighting_of};
 
 use spec_api::kinds::Kind;
 use spec_client_go::controller::Controller;

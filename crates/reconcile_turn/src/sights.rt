@@ -2,8 +2,8 @@
 ghost use Rattle.std.specs.Prelude.{◌≡◌, IfOk, map};
 ghost use Rattle.spec_sim.specs.Turns.{shown, was_satisfied, looks};
 ghost use Rattle.reconcile_types.specs.Hands.{looks_by, members_of};
-ghost use Rattle.reconcile_parts.specs.Seen.{sight_of};
-ghost use Rattle.reconcile_parts.specs.Looked.{shown_by};
+ghost use Rattle.reconcile_turn.specs.Seen.{sight_of};
+ghost use Rattle.reconcile_turn.specs.Looked.{shown_by};
 
 use indexer::Indexed;
 use reconcile_types::Looks;

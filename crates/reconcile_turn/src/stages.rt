@@ -1,6 +1,6 @@
 //! Where a turn is.
 ghost use Rattle.std.specs.Prelude.{◌≡◌, IfOk};
-ghost use Rattle.reconcile_parts.specs.Stages.{phase_of};
+ghost use Rattle.reconcile_turn.specs.Stages.{phase_of};
 
 use object_keys::Key;
 use reconcile_types::Plan;

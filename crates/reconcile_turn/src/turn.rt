@@ -1,16 +1,16 @@
 //! A worker's turn.
+use crate::answers::{CommandAnswer, copies_of_answers};
+use crate::expected::Expected;
+use crate::next_steps::{NextStep, next_command};
+use crate::observing::{expected_of, taken_back_of, undone};
 use crate::planning::{copies_of_reads, stage_of};
+use crate::requesting::request_of;
+use crate::sets::owner_of;
+use crate::sightings::{Sighting, next_sighting};
+use crate::sights::{Sight, copies};
+use crate::stages::Stage;
 use meta::Object;
 use object_keys::WorkKey;
-use reconcile_parts::answers::{CommandAnswer, copies_of_answers};
-use reconcile_parts::expected::Expected;
-use reconcile_parts::next_steps::{NextStep, next_command};
-use reconcile_parts::observing::{expected_of, taken_back_of, undone};
-use reconcile_parts::requesting::request_of;
-use reconcile_parts::sets::owner_of;
-use reconcile_parts::sightings::{Sighting, next_sighting};
-use reconcile_parts::sights::{Sight, copies};
-use reconcile_parts::stages::Stage;
 use reconcile_types::Read;
 use request_parts::Request;
 use std::alloc::{AllocError, Global};
@@ -38,9 +38,9 @@ impl Model for Turn {
     ghost use Rattle.spec_sim.specs.Turns as turns;
     ghost use Rattle.reconcile_types.specs.Hands.{reads_of};
     ghost use Rattle.object_keys.specs.WorkKeys.{work_key_of};
-    ghost use Rattle.reconcile_parts.specs.Answers.{answers_of};
-    ghost use Rattle.reconcile_parts.specs.Seen.{sight_of};
-    ghost use Rattle.reconcile_parts.specs.Stages.{IsTurn, turn_of, issued, phase_of, commands_in};
+    ghost use Rattle.reconcile_turn.specs.Answers.{answers_of};
+    ghost use Rattle.reconcile_turn.specs.Seen.{sight_of};
+    ghost use Rattle.reconcile_turn.specs.Stages.{IsTurn, turn_of, issued, phase_of, commands_in};
 
     ghost Value = { turns.Turn };
 
@@ -66,7 +66,7 @@ impl Turn {
     ghost use Rattle.spec_sim.specs.Turns.{begun, with_sight, with_expected, owner, taken_back, all_accepted};
     ghost use Rattle.request_parts.specs.Requests.{request_of};
     ghost use Rattle.object_keys.specs.WorkKeys.{work_key_of};
-    ghost use Rattle.reconcile_parts.specs.Seen.{sight_of, answer_of, expected_of, IsNext, step_of, key_read, expectation, command_issued, found_under, answered_to};
+    ghost use Rattle.reconcile_turn.specs.Seen.{sight_of, answer_of, expected_of, IsNext, step_of, key_read, expectation, command_issued, found_under, answered_to};
 
     /// Returns the turn of a key that was taken: nothing is seen. It takes no memory.
     pub fn begin(alloc: Global, key: WorkKey) -> Turn

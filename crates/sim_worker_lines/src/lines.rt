@@ -7,12 +7,12 @@ ghost use Rattle.spec_sim.specs.ControlPlaneOutcomeTexts.{outcome_text, answer_t
 ghost use Rattle.spec_sim.specs.Outcomes as outcomes;
 ghost use Rattle.reconcile_types.specs.Commands.{command_of};
 ghost use Rattle.object_keys.specs.WorkKeys.{work_key_of};
-ghost use Rattle.reconcile_parts.specs.Seen.{answer_of};
+ghost use Rattle.reconcile_turn.specs.Seen.{answer_of};
 ghost use Rattle.std.specs.Prelude.{◌++◌, ◌∷◌, OnOk};
 
 use crate::words::{begin, controller, end, push, push_key, push_named, push_number};
 use object_keys::{Key, WorkKey};
-use reconcile_parts::CommandAnswer;
+use reconcile_turn::CommandAnswer;
 use reconcile_types::Command;
 use spec_api::kinds::Kind;
 use std::alloc::{AllocError, Global};

@@ -1,6 +1,6 @@
 use Rattle.std.proofs.Common.{◌≡◌, ◌++◌, drop}
-use Rattle.reconcile_parts.specs.Answers.{answers_of}
-use Rattle.reconcile_parts.proofs.answers.copies_of_answers.Given as goal
+use Rattle.reconcile_turn.specs.Answers.{answers_of}
+use Rattle.reconcile_turn.proofs.answers.copies_of_answers.Given as goal
 
 -- those so far and those still to come are all
 abbrev pub invariant-loop-answer : goal.invariant-loop-answer

@@ -1,6 +1,6 @@
 use Rattle.std.proofs.Common.{◌<◌, length, rules, arith}
-use Rattle.reconcile_parts.proofs.next_steps.next_command.Goals as goal
-use Rattle.reconcile_parts.proofs.Firsts.{issued_at}
+use Rattle.reconcile_turn.proofs.next_steps.next_command.Goals as goal
+use Rattle.reconcile_turn.proofs.Firsts.{issued_at}
 
 pub returns-in-Some : goal.returns-in-Some
 returns-in-Some c =

@@ -4,11 +4,11 @@ use Rattle.std.specs.Global.{Global}
 use Rattle.std.specs.declared.sync.Arc.{Arc}
 use Rattle.std.proofs.lemmas.Option.{slice_get_past, slice_get_read, slice_get-map}
 use Rattle.spec_sim.specs.Turns as turns
-use Rattle.reconcile_parts.specs.Answers.{is_undone}
-use Rattle.reconcile_parts.specs.Seen.{answer_of}
-use Rattle.reconcile_parts.specs.declared.answers.CommandAnswer.{CommandAnswer}
+use Rattle.reconcile_turn.specs.Answers.{is_undone}
+use Rattle.reconcile_turn.specs.Seen.{answer_of}
+use Rattle.reconcile_turn.specs.declared.answers.CommandAnswer.{CommandAnswer}
 use Rattle.std.specs.List.{slice_get}
-use Rattle.reconcile_parts.proofs.observing.is_undone.Goals as goal
+use Rattle.reconcile_turn.proofs.observing.is_undone.Goals as goal
 
 pub returns-in-Some : goal.returns-in-Some
 returns-in-Some c =

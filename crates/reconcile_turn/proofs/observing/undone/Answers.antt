@@ -7,11 +7,11 @@ use Rattle.std.specs.List.{slice_get}
 use Rattle.spec_client_go.specs.Commands as commands
 use Rattle.reconcile_types.specs.Commands.{command_of}
 use Rattle.reconcile_types.specs.declared.commands.Command.{Command}
-use Rattle.reconcile_parts.specs.Answers.{answers_of, undone_of}
-use Rattle.reconcile_parts.specs.Pods.{commands_lent}
-use Rattle.reconcile_parts.proofs.Issues.{undone_more, undone_same, undone_past}
-use Rattle.reconcile_parts.proofs.observing.undone.Goals as goal
-use Rattle.reconcile_parts.proofs.observing.undone.Goals.{then-is_undone+in_ok-push, else-is_undone}
+use Rattle.reconcile_turn.specs.Answers.{answers_of, undone_of}
+use Rattle.reconcile_turn.specs.Pods.{commands_lent}
+use Rattle.reconcile_turn.proofs.Issues.{undone_more, undone_same, undone_past}
+use Rattle.reconcile_turn.proofs.observing.undone.Goals as goal
+use Rattle.reconcile_turn.proofs.observing.undone.Goals.{then-is_undone+in_ok-push, else-is_undone}
 
 pub loop-place-preserved : goal.loop-place-preserved
 loop-place-preserved c =

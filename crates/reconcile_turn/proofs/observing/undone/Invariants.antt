@@ -1,8 +1,8 @@
 use Rattle.std.proofs.Common.{◌≡◌, ◌++◌, map, drop}
 use Rattle.reconcile_types.specs.Commands.{command_of}
-use Rattle.reconcile_parts.specs.Answers.{answers_of, undone_of}
-use Rattle.reconcile_parts.specs.Pods.{commands_lent}
-use Rattle.reconcile_parts.proofs.observing.undone.Given as goal
+use Rattle.reconcile_turn.specs.Answers.{answers_of, undone_of}
+use Rattle.reconcile_turn.specs.Pods.{commands_lent}
+use Rattle.reconcile_turn.proofs.observing.undone.Given as goal
 
 -- those so far and those still to come are all
 abbrev pub invariant-loop-place : goal.invariant-loop-place

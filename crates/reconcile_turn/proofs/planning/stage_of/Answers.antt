@@ -5,9 +5,9 @@ use Rattle.reconcile_types.specs.Commands.{commands_of}
 use Rattle.reconcile_types.specs.Hands.{hand_of, reads_of}
 use Rattle.object_keys.specs.WorkKeys.{work_key_of}
 use Rattle.std.specs.Arc.{arc_value}
-use Rattle.reconcile_parts.specs.Seen.{sight_of}
-use Rattle.reconcile_parts.specs.Stages.{turn_of}
-use Rattle.reconcile_parts.proofs.Phases.{all_seen, to_read, to_issue}
+use Rattle.reconcile_turn.specs.Seen.{sight_of}
+use Rattle.reconcile_turn.specs.Stages.{turn_of}
+use Rattle.reconcile_turn.proofs.Phases.{all_seen, to_read, to_issue}
 use Rattle.reconcile_turn.proofs.planning.stage_of.Goals as goal
 
 pub returns-in-Some : goal.returns-in-Some

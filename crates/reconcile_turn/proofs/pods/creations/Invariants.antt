@@ -1,7 +1,7 @@
 use Rattle.std.proofs.Common.{◌≡◌, ℕ, ◌+◌, ◌≤◌, length, drop, filter}
 use Rattle.spec_sim.specs.Turns.{creates_pod}
-use Rattle.reconcile_parts.specs.Pods.{commands_lent}
-use Rattle.reconcile_parts.proofs.pods.creations.Given as goal
+use Rattle.reconcile_turn.specs.Pods.{commands_lent}
+use Rattle.reconcile_turn.proofs.pods.creations.Given as goal
 
 -- what is counted so far and what is still to be are all, and so far at most each
 pub record Counted (n i more all : ℕ) : Type 0 where

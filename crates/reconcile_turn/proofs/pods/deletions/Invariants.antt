@@ -1,7 +1,7 @@
 use Rattle.std.proofs.Common.{◌≡◌, ◌++◌, map, drop, filter_map, string_bytes}
 use Rattle.spec_sim.specs.Turns.{pod_deleted}
-use Rattle.reconcile_parts.specs.Pods.{commands_lent}
-use Rattle.reconcile_parts.proofs.pods.deletions.Given as goal
+use Rattle.reconcile_turn.specs.Pods.{commands_lent}
+use Rattle.reconcile_turn.proofs.pods.deletions.Given as goal
 
 -- those so far and those still to come are all
 abbrev pub invariant-loop-command : goal.invariant-loop-command

@@ -1,7 +1,7 @@
 use Rattle.std.proofs.Common.{◌≡◌, map, drop}
 use Rattle.reconcile_types.specs.Commands.{command_of}
-use Rattle.reconcile_parts.specs.Pods.{makes_pods}
-use Rattle.reconcile_parts.proofs.pods.makes_pods.Given as goal
+use Rattle.reconcile_turn.specs.Pods.{makes_pods}
+use Rattle.reconcile_turn.proofs.pods.makes_pods.Given as goal
 
 -- no pod is made by those so far
 abbrev pub invariant-loop-command : goal.invariant-loop-command

@@ -1,7 +1,7 @@
 use Rattle.std.proofs.Common.{sym}
-use Rattle.reconcile_parts.specs.declared.answers.CommandAnswer.TheVariants.{Accepted, Refused, Lost}
-use Rattle.reconcile_parts.proofs.Issues.{last_is}
-use Rattle.reconcile_parts.proofs.requesting.last_version.Goals as goal
+use Rattle.reconcile_turn.specs.declared.answers.CommandAnswer.TheVariants.{Accepted, Refused, Lost}
+use Rattle.reconcile_turn.proofs.Issues.{last_is}
+use Rattle.reconcile_turn.proofs.requesting.last_version.Goals as goal
 
 pub returns-in-Accepted : goal.returns-in-Accepted
 returns-in-Accepted c =

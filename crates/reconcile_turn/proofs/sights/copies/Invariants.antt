@@ -1,6 +1,6 @@
 use Rattle.std.proofs.Common.{◌≡◌, ◌++◌, map, drop}
-use Rattle.reconcile_parts.specs.Seen.{sight_of}
-use Rattle.reconcile_parts.proofs.sights.copies.Given as goal
+use Rattle.reconcile_turn.specs.Seen.{sight_of}
+use Rattle.reconcile_turn.proofs.sights.copies.Given as goal
 
 -- those so far and those still to come are all
 abbrev pub invariant-loop-sight : goal.invariant-loop-sight

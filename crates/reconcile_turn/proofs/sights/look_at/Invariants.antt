@@ -1,7 +1,7 @@
 use Rattle.std.proofs.Common.{◌≡◌, map, drop}
 use Rattle.spec_sim.specs.Turns.{shown}
-use Rattle.reconcile_parts.specs.Seen.{sight_of}
-use Rattle.reconcile_parts.proofs.sights.look_at.Given as goal
+use Rattle.reconcile_turn.specs.Seen.{sight_of}
+use Rattle.reconcile_turn.proofs.sights.look_at.Given as goal
 
 -- none so far was of the kind
 abbrev pub invariant-loop-sight : goal.invariant-loop-sight

@@ -1,7 +1,7 @@
 use Rattle.std.proofs.Common.{◌≡◌, map, drop}
 use Rattle.spec_sim.specs.Turns.{was_satisfied}
-use Rattle.reconcile_parts.specs.Seen.{sight_of}
-use Rattle.reconcile_parts.proofs.sights.was_satisfied.Given as goal
+use Rattle.reconcile_turn.specs.Seen.{sight_of}
+use Rattle.reconcile_turn.proofs.sights.was_satisfied.Given as goal
 
 -- none so far was an answer
 abbrev pub invariant-loop-sight : goal.invariant-loop-sight

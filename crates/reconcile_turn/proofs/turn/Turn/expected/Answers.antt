@@ -4,8 +4,8 @@ use Rattle.spec_client_go.specs.Commands as commands
 use Rattle.work_board.specs.Seen.{owner_of}
 use Rattle.spec_sim.specs.Turns.{owner, creates_pod}
 use Rattle.reconcile_types.specs.Commands.{command_of, commands_of}
-use Rattle.reconcile_parts.specs.Pods.{commands_lent}
-use Rattle.reconcile_parts.proofs.Phases.{few_creations}
+use Rattle.reconcile_turn.specs.Pods.{commands_lent}
+use Rattle.reconcile_turn.proofs.Phases.{few_creations}
 use Rattle.reconcile_turn.proofs.Turning.{planned_now}
 use Rattle.reconcile_turn.proofs.turn.Turn.expected.Goals as goal
 

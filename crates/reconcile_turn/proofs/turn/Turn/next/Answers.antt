@@ -4,13 +4,13 @@ use Rattle.std.specs.Global.{Global}
 use Rattle.std.specs.declared.sync.Arc.{Arc}
 use Rattle.spec_sim.specs.NextSteps.{issuing}
 use Rattle.reconcile_types.specs.declared.commands.Plan.{Plan}
-use Rattle.reconcile_parts.specs.NextCommands.{IsCommandNext}
-use Rattle.reconcile_parts.specs.Seen.{answer_of}
-use Rattle.reconcile_parts.specs.declared.answers.CommandAnswer.{CommandAnswer}
+use Rattle.reconcile_turn.specs.NextCommands.{IsCommandNext}
+use Rattle.reconcile_turn.specs.Seen.{answer_of}
+use Rattle.reconcile_turn.specs.declared.answers.CommandAnswer.{CommandAnswer}
 use Rattle.std.specs.Arc.{arc_value}
 use Rattle.reconcile_types.specs.Commands.{commands_of}
-use Rattle.reconcile_parts.specs.Answers.{answers_of}
-use Rattle.reconcile_parts.proofs.Phases.{next_expects, next_command}
+use Rattle.reconcile_turn.specs.Answers.{answers_of}
+use Rattle.reconcile_turn.proofs.Phases.{next_expects, next_command}
 use Rattle.reconcile_turn.proofs.Turning.{planned_now, has_expected_now}
 use Rattle.reconcile_turn.proofs.turn.Turn.next.Goals as goal
 use Rattle.reconcile_turn.proofs.turn.Turn.next.Goals.{else-expects_pods-via-then-expects_pods+else-not-self, else-expects_pods-via-else-expects_pods}

@@ -6,9 +6,9 @@ use Rattle.spec_api.specs.ObjectRequests as verbs
 use Rattle.spec_sim.specs.Managers.{requested}
 use Rattle.spec_sim.specs.NextSteps.{NextStep}
 use Rattle.reconcile_types.specs.Commands.{command_of}
-use Rattle.reconcile_parts.specs.Answers.{answers_of, last_version}
-use Rattle.reconcile_parts.specs.Seen.{command_issued}
-use Rattle.reconcile_parts.specs.declared.answers.CommandAnswer.{CommandAnswer}
+use Rattle.reconcile_turn.specs.Answers.{answers_of, last_version}
+use Rattle.reconcile_turn.specs.Seen.{command_issued}
+use Rattle.reconcile_turn.specs.declared.answers.CommandAnswer.{CommandAnswer}
 use Rattle.reconcile_turn.proofs.Turning.{version_now}
 use Rattle.reconcile_turn.proofs.turn.Turn.request.Goals as goal
 

@@ -7,9 +7,9 @@ use Rattle.spec_client_go.specs.Expectations as expectations
 use Rattle.work_board.specs.Seen.{owner_of}
 use Rattle.spec_sim.specs.Turns.{owner, taken_back, taken_back_by, undone}
 use Rattle.reconcile_types.specs.Commands.{command_of, commands_of}
-use Rattle.reconcile_parts.specs.Answers.{answers_of, undone_of}
-use Rattle.reconcile_parts.specs.Pods.{commands_lent}
-use Rattle.reconcile_parts.specs.declared.answers.CommandAnswer.{CommandAnswer}
+use Rattle.reconcile_turn.specs.Answers.{answers_of, undone_of}
+use Rattle.reconcile_turn.specs.Pods.{commands_lent}
+use Rattle.reconcile_turn.specs.declared.answers.CommandAnswer.{CommandAnswer}
 use Rattle.reconcile_turn.proofs.Turning.{planned_now, undone_now}
 use Rattle.reconcile_turn.proofs.turn.Turn.taken_back.Goals as goal
 

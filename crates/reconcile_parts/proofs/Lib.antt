@@ -1,5 +1,0 @@
-pub mod Firsts
-pub mod Issues
-pub mod Steps
-pub mod PodCounts
-pub mod Phases

@@ -1,7 +1,0 @@
-pub mod Looked
-pub mod Seen
-pub mod Answers
-pub mod NextCommands
-pub mod Sightings
-pub mod Stages
-pub mod Pods
