@@ -5,7 +5,7 @@ use Rattle.spec_line_protocol.specs.Lines as lines
 use Rattle.line_service.specs.Replies as service
 use Rattle.line_service.specs.Replies.{lines_of, replies, none_refused, reply_or_refusal, next_or_same}
 use Rattle.line_service.specs.declared.fault.RunFault.{RunFault}
-use Rattle.line_replies.specs.Shown.{no_memory_line}
+use Rattle.line_service.specs.Shown.{no_memory_line}
 
 -- any line may be refused since there was no memory for it
 abbrev pub refusal : List ℕ → Option (List ℕ)

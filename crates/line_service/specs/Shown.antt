@@ -8,8 +8,8 @@ use Rattle.spec_api.specs.Verbs.{refused}
 use Rattle.spec_line_protocol.specs.Lines.{reply_text}
 use Rattle.meta.specs.Members.{member_of}
 use Rattle.revisions.specs.Events.{event_seen}
-use Rattle.line_replies.specs.declared.lines.Shown.{Shown}
-use Rattle.line_replies.specs.declared.lines.Shown.TheVariants.{Change, Bookmark, Initial, InitialEnd}
+use Rattle.line_service.specs.declared.lines.Shown.{Shown}
+use Rattle.line_service.specs.declared.lines.Shown.TheVariants.{Change, Bookmark, Initial, InitialEnd}
 
 -- the line as the definitions say it
 abbrev pub line_seen : Shown → streams.Line

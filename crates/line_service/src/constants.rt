@@ -1,6 +1,6 @@
 //! What is always the same, and takes no memory.
 ghost use Rattle.std.specs.Prelude.{◌≡◌};
-ghost use Rattle.line_replies.specs.Shown.{no_memory_line};
+ghost use Rattle.line_service.specs.Shown.{no_memory_line};
 
 /// Returns the line that tells that there was no memory for a request. It takes none.
 pub fn no_memory_line() -> &'static [u8]

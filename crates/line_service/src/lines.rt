@@ -12,7 +12,7 @@ ghost use Rattle.meta.specs.Members.{member_of};
 ghost use Rattle.object_keys.specs.declared.fault.Fault.TheVariants as faults;
 ghost use Rattle.revisions.specs.Events.{event_seen};
 ghost use Rattle.revisions.specs.Watches.{last_bookmark};
-ghost use Rattle.line_replies.specs.Shown.{line_seen};
+ghost use Rattle.line_service.specs.Shown.{line_seen};
 
 use meta::Member;
 use object_keys::Fault;

@@ -4,7 +4,7 @@ ghost use Rattle.spec_api.specs.Replies.{shown};
 ghost use Rattle.spec_api.specs.WatchReplies.{opening_lines};
 ghost use Rattle.spec_line_protocol.specs.Lines.{reply_text};
 
-use line_replies::lines::opening_lines;
+use line_service::lines::opening_lines;
 use server::InitialEvents;
 use spec_api::kinds::Kind;
 use std::alloc::{AllocError, Global};

@@ -1,11 +1,10 @@
 //! Sessions.
 use crate::effects::{Effect, Prepared};
 use crate::openings::stream_opening;
-use line_replies::lines::{
+use line_service::lines::{
     change_lines, fault_line, initial_lines, line, refusal_line, success_line,
 };
-use line_replies::no_memory_line;
-use line_service::LineService;
+use line_service::{LineService, no_memory_line};
 use meta::Write;
 use metadata_values::moments::Moment;
 use object_keys::Fault;
@@ -326,7 +325,7 @@ impl Session {
 
 impl LineService for Session {
     ghost use Rattle.std.specs.Prelude.{Some};
-    ghost use Rattle.line_replies.specs.Shown.{no_memory_line};
+    ghost use Rattle.line_service.specs.Shown.{no_memory_line};
     ghost use Rattle.line_session.specs.SessionStates.{reply_by_state, next_state};
 
     ghost reply = { reply_by_state };

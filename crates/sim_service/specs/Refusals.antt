@@ -1,6 +1,6 @@
 -- What a line is told for which there was no memory.
 use Rattle.std.specs.Prelude.{ℕ, List, Option, Some, None, is_some, if◌then◌else◌}
-use Rattle.line_replies.specs.Shown.{no_memory_line}
+use Rattle.line_service.specs.Shown.{no_memory_line}
 use Rattle.spec_sim.specs.Clusters.{ClusterStep, request, compact, moves, restart}
 use Rattle.spec_sim.specs.StepLines.{config_of_line}
 use Rattle.spec_sim.specs.ControlPlanes.{Step, in_cluster, handle, works, tick}

@@ -8,8 +8,7 @@ ghost use Rattle.sim_service.specs.SimulationStates.{told_by_stored, stored_afte
 ghost use Rattle.spec_sim.specs.ControlPlaneOutcomeTexts.{outcome_text};
 ghost use Rattle.world.specs.Outcomes.{outcome_of};
 
-use line_replies::no_memory_line;
-use line_service::LineService;
+use line_service::{LineService, no_memory_line};
 use sim_outcome_lines::{ready, told};
 use sim_step_lines::step_asked;
 use sim_steps::{Config, PlaneStep, Step};

@@ -1,7 +1,7 @@
 use Rattle.std.proofs.Common.{◌≡◌, ◌++◌, map, drop}
 use Rattle.spec_api.specs.Streams.{event, text_of_lines}
 use Rattle.revisions.specs.Events.{event_seen}
-use Rattle.line_replies.proofs.lines.push_changes.Given as goal
+use Rattle.line_service.proofs.lines.push_changes.Given as goal
 
 -- the lines so far and those that are left are all
 abbrev pub invariant-loop-event : goal.invariant-loop-event

@@ -1,7 +1,7 @@
 use Rattle.std.proofs.Common.{◌≡◌, ◌++◌, map, drop}
 use Rattle.spec_api.specs.Streams.{text_of_lines, added_lines}
 use Rattle.meta.specs.Members.{member_of}
-use Rattle.line_replies.proofs.lines.push_members.Given as goal
+use Rattle.line_service.proofs.lines.push_members.Given as goal
 
 -- the lines so far and those that are left are all
 abbrev pub invariant-loop-member : goal.invariant-loop-member
