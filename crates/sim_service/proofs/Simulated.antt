@@ -8,9 +8,9 @@ use Rattle.spec_sim.specs.ControlPlanes as planes
 use Rattle.spec_sim.specs.ControlPlanes.{ControlPlane, Step}
 use Rattle.spec_sim.specs.ControlPlaneOutcomeTexts.{outcome_text}
 use Rattle.spec_sim.specs.ControlPlaneStepLines.{opened_with}
-use Rattle.sim_step_lines.proofs.Following as following
-use Rattle.sim_step_lines.proofs.Simulated.{simulated}
-use Rattle.sim_step_lines.specs.Planes.{plane_after, told_by_plane, reply_by_plane, next_plane}
+use Rattle.sim_steps.proofs.Following as following
+use Rattle.sim_steps.proofs.Simulated.{simulated}
+use Rattle.sim_steps.specs.Planes.{plane_after, told_by_plane, reply_by_plane, next_plane}
 use Rattle.sim_service.specs.Laws.{Follows, AnswersAll, AnswersSome, RepliesAreSimulated}
 use Rattle.sim_service.specs.Refusals.{refusal}
 use Rattle.sim_service.specs.SimulationStates.{opened_stored, stored_after, told_by_stored, reply_by_stored, next_stored}

@@ -6,8 +6,8 @@ use Rattle.line_service.specs.Replies.{lines_of, replies, none_refused, reply_or
 use Rattle.line_service.specs.declared.fault.RunFault.{RunFault}
 use Rattle.spec_sim.specs.ControlPlanes.{ControlPlane}
 use Rattle.spec_sim.specs.ControlPlaneStepLines.{simulate}
-use Rattle.sim_step_lines.specs.Lines.{FollowsBy}
-use Rattle.sim_step_lines.specs.Planes.{reply_by_plane, next_plane}
+use Rattle.sim_steps.specs.Lines.{FollowsBy}
+use Rattle.sim_steps.specs.Planes.{reply_by_plane, next_plane}
 use Rattle.sim_service.specs.Refusals.{refusal}
 use Rattle.sim_service.specs.SimulationStates.{reply_by_stored, next_stored}
 use Rattle.world.specs.Standing.{StandsFor}

@@ -4,7 +4,7 @@ use Rattle.std.specs.Coded.{Coded, coded_option}
 use Rattle.spec_sim.specs.StepLines.{Config}
 use Rattle.spec_sim.specs.ControlPlanes.{Step}
 use Rattle.spec_sim.specs.ControlPlaneOutcomeTexts.{outcome_text}
-use Rattle.sim_step_lines.specs.Lines as lines
+use Rattle.sim_steps.specs.Lines as lines
 use Rattle.world.specs.WorldStates as stored
 use Rattle.world.specs.WorldStates.{WorldState, coded_world}
 

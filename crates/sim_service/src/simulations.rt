@@ -10,8 +10,7 @@ ghost use Rattle.world.specs.Outcomes.{outcome_of};
 
 use line_service::{LineService, no_memory_line};
 use sim_outcome_lines::{ready, told};
-use sim_step_lines::step_asked;
-use sim_steps::{Config, PlaneStep, Step};
+use sim_steps::{Config, PlaneStep, Step, step_asked};
 use std::alloc::{AllocError, Global};
 use std::marker::Model;
 use world::{Outcome, World};

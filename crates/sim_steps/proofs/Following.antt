@@ -4,7 +4,7 @@ use Rattle.std.proofs.lemmas.Bool.Decides.{nat_tests}
 use Rattle.spec_sim.specs.ControlPlanes.{Step}
 use Rattle.spec_sim.specs.ControlPlaneStepLines.{step_asked}
 use Rattle.spec_sim.specs.StepLines.{Config, default_config, config_of_line}
-use Rattle.sim_step_lines.specs.Lines.{reply, next, FollowsBy}
+use Rattle.sim_steps.specs.Lines.{reply, next, FollowsBy}
 
 pub not-empty : (x : ℕ) (t : List ℕ) → (length (x ∷ t) == 0) ≡ false
 not-empty x t = grind (arith, nat_tests)

@@ -1,3 +1,5 @@
 pub mod Cuts
 pub mod Digits
 pub mod ByWords
+pub mod Following
+pub mod Simulated

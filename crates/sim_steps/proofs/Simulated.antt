@@ -10,8 +10,8 @@ use Rattle.spec_sim.specs.ControlPlanes.{ControlPlane}
 use Rattle.spec_sim.specs.ControlPlaneOutcomeTexts.{outcome_text}
 use Rattle.spec_sim.specs.ControlPlaneStepLines.{opened_with, step_asked, outcome_lines, run_from, simulate_lines, simulate}
 use Rattle.spec_sim.specs.StepLines.{Config, default_config, config_of_line}
-use Rattle.sim_step_lines.proofs.Following.{not-empty}
-use Rattle.sim_step_lines.specs.Planes.{reply_by_plane, next_plane}
+use Rattle.sim_steps.proofs.Following.{not-empty}
+use Rattle.sim_steps.specs.Planes.{reply_by_plane, next_plane}
 
 abbrev is_full : List ℕ → Bool
 is_full t = not (length t == 0)

@@ -4,7 +4,7 @@ use Rattle.spec_sim.specs.ControlPlanes as planes
 use Rattle.spec_sim.specs.ControlPlanes.{ControlPlane, Step}
 use Rattle.spec_sim.specs.ControlPlaneOutcomeTexts.{outcome_text}
 use Rattle.spec_sim.specs.ControlPlaneStepLines.{opened_with}
-use Rattle.sim_step_lines.specs.Lines as lines
+use Rattle.sim_steps.specs.Lines as lines
 
 abbrev pub plane_after : ControlPlane → Step → ControlPlane
 plane_after p step = (planes.step p step).plane

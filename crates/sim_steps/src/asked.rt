@@ -3,7 +3,8 @@ ghost use Rattle.std.specs.Prelude.{◌≡◌};
 ghost use Rattle.spec_sim.specs.ControlPlaneStepLines.{step_asked};
 ghost use Rattle.sim_steps.specs.PlaneSteps.{plane_step_of};
 
-use sim_steps::{PlaneStep, Step};
+use crate::plane_steps::PlaneStep;
+use crate::steps::Step;
 
 /// Returns the step that a line asks for. A line of no form is answered as a request that says nothing is.
 pub fn step_asked(line: &[u8]) -> PlaneStep<'_>
