@@ -5,7 +5,7 @@ use Rattle.spec_api.specs.declared.kinds.Kind.{Kind}
 use Rattle.spec_api.specs.Events.{Event}
 use Rattle.spec_api.specs.Frames.{frame_text, bookmark_frame}
 use Rattle.spec_api.specs.Streams.{Line, initial_end, frame_of, text_of_lines}
-use Rattle.sim_links.specs.Openings.{initial_line, initial_lines, lines_left, added_text}
+use Rattle.sim_followers.specs.Openings.{initial_line, initial_lines, lines_left, added_text}
 
 -- ---- objects alone
 

@@ -3,7 +3,7 @@ use Rattle.std.proofs.Common.{◌≡◌, ℕ, [], ◌∷◌, true, refl, ap}
 use Rattle.spec_api.specs.History.{Entries}
 use Rattle.spec_api.specs.Streams.{initial}
 use Rattle.spec_api.specs.WatchReplies.{added_events, opening_lines}
-use Rattle.sim_links.specs.Openings.{initial_lines}
+use Rattle.sim_followers.specs.Openings.{initial_lines}
 
 pub opening_is : (r : ℕ) (ms : Entries) → initial_lines (added_events r ms) r ≡ opening_lines true r ms
 opening_is r [] = refl

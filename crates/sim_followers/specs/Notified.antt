@@ -3,7 +3,7 @@ use Rattle.std.specs.Prelude.{Bool, true, false}
 use Rattle.spec_client_go.specs.Reflectors.{Delta, replace, put, remove, mark}
 use Rattle.indexer.specs.Shifted.{shift_of}
 use Rattle.spec_sim.specs.Followers as followers
-use Rattle.sim_notifications.specs.declared.notifications.Notification.{Notification}
+use Rattle.sim_followers.specs.declared.notifications.Notification.{Notification}
 
 abbrev pub notification_of : Notification → followers.Notification
 notification_of n = record { shift = shift_of n.shift; is_in_initial_list = n.is_in_initial_list }

@@ -5,11 +5,11 @@ ghost use Rattle.spec_api.specs.History.{viewed};
 ghost use Rattle.selector.specs.Views.{view_of};
 ghost use Rattle.spec_sim.specs.Followers.{asks_streams, streaming_at};
 
+use crate::links::Link;
 use meta::Kind;
 use reflector::Reflector;
 use selector::View;
 use server::Server;
-use sim_links::Link;
 use spec_sim::initial_syncs::InitialSync;
 use std::alloc::{AllocError, Global};
 

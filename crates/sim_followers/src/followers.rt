@@ -4,6 +4,8 @@ ghost use Rattle.reflector.specs.Deltas.{delta_of};
 ghost use Rattle.sim_followers.specs.Listed.{listed_count};
 
 use crate::beginnings::{begun, streaming};
+use crate::links::Link;
+use crate::notifications::{Notification, apply_all};
 use crate::outcomes::ClusterOutcome;
 use indexer::Indexed;
 use meta::Kind;
@@ -12,8 +14,6 @@ use reflector::{Delta, Fed, Reflector};
 use revisions::WatchedEvents;
 use selector::View;
 use server::Server;
-use sim_links::Link;
-use sim_notifications::{Notification, apply_all};
 use sim_steps::Move;
 use spec_api::versions::At;
 use spec_client_go::reflectors::Ask;
@@ -40,7 +40,7 @@ impl Model for SimulatedFollower {
     ghost use Rattle.reflector.specs.Deltas.{deltas_of};
     ghost use Rattle.spec_sim.specs.Followers as followers;
     ghost use Rattle.spec_sim.specs.Codes.{coded_follower};
-    ghost use Rattle.sim_notifications.specs.Notified.{notification_of};
+    ghost use Rattle.sim_followers.specs.Notified.{notification_of};
 
     ghost Value = { followers.Follower };
 
@@ -65,7 +65,7 @@ impl SimulatedFollower {
     ghost use Rattle.spec_api.specs.History.{unfiltered};
     ghost use Rattle.selector.specs.Views.{view_of};
     ghost use Rattle.sim_followers.specs.Answered.{AnswersLists};
-    ghost use Rattle.sim_notifications.specs.Notified.{notification_of};
+    ghost use Rattle.sim_followers.specs.Notified.{notification_of};
     ghost use Rattle.sim_followers.specs.Outcomes.{outcome_of};
     ghost use Rattle.sim_steps.specs.Steps.{move_of};
 

@@ -6,7 +6,7 @@ ghost use Rattle.object_keys.specs.Faults.{refusal_of};
 ghost use Rattle.revisions.specs.Events.{event_seen};
 ghost use Rattle.spec_sim.specs.Followers.{opened_at};
 ghost use Rattle.spec_sim.specs.Moves.{after_lines, after_initial, after_refusal};
-ghost use Rattle.sim_links.specs.Openings.{initial_lines};
+ghost use Rattle.sim_followers.specs.Openings.{initial_lines};
 
 use crate::openings::InitialBacklog;
 use meta::Kind;

@@ -5,7 +5,7 @@ ghost use Rattle.spec_client_go.specs.Shifts.{shifts_of};
 ghost use Rattle.indexer.specs.Shifted.{shift_of};
 ghost use Rattle.reflector.specs.Deltas.{delta_of, deltas_of};
 ghost use Rattle.spec_sim.specs.Followers.{notifications, notified};
-ghost use Rattle.sim_notifications.specs.Notified.{is_replace, notification_of};
+ghost use Rattle.sim_followers.specs.Notified.{is_replace, notification_of};
 
 use indexer::{Indexed, Shift};
 use reflector::Delta;

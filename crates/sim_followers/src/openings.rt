@@ -3,7 +3,7 @@ ghost use Rattle.std.specs.Prelude.{◌≡◌, ◌++◌, drop, take, length, [],
 ghost use Rattle.spec_api.specs.Frames.{frame_text, bookmark_frame};
 ghost use Rattle.spec_api.specs.Streams.{text_of_lines};
 ghost use Rattle.revisions.specs.Events.{event_seen};
-ghost use Rattle.sim_links.specs.Openings.{initial_lines, added_text};
+ghost use Rattle.sim_followers.specs.Openings.{initial_lines, added_text};
 
 use meta::Kind;
 use revisions::Event;
@@ -23,7 +23,7 @@ impl Model for InitialBacklog {
     ghost use Rattle.std.specs.Prelude.{◌≤◌, List, drop, length, map};
     ghost use Rattle.std.specs.Coded.{coded_list};
     ghost use Rattle.spec_api.specs.Streams.{Line};
-    ghost use Rattle.sim_links.specs.Openings.{lines_left};
+    ghost use Rattle.sim_followers.specs.Openings.{lines_left};
     ghost use Rattle.revisions.specs.Events.{event_seen};
     ghost use Rattle.spec_sim.specs.LineCodes.{coded_line};
 

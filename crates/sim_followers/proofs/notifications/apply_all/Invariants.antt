@@ -2,8 +2,8 @@ use Rattle.std.proofs.Common.{◌≡◌, ◌++◌, map, drop}
 use Rattle.spec_client_go.specs.Informers.{all_applied}
 use Rattle.reflector.specs.Deltas.{deltas_of}
 use Rattle.spec_sim.specs.Followers.{notifications}
-use Rattle.sim_notifications.specs.Notified.{notification_of}
-use Rattle.sim_notifications.proofs.notifications.apply_all.Given as goal
+use Rattle.sim_followers.specs.Notified.{notification_of}
+use Rattle.sim_followers.proofs.notifications.apply_all.Given as goal
 
 -- with what is still to be applied, it is all
 abbrev pub invariant-loop-delta : goal.invariant-loop-delta

@@ -1,8 +1,8 @@
 use Rattle.std.proofs.Common.{◌≡◌, ◌++◌, map}
 use Rattle.indexer.specs.Shifted.{shift_of}
 use Rattle.spec_sim.specs.Followers.{notified}
-use Rattle.sim_notifications.specs.Notified.{notification_of}
-use Rattle.sim_notifications.proofs.notifications.notify.Given as goal
+use Rattle.sim_followers.specs.Notified.{notification_of}
+use Rattle.sim_followers.proofs.notifications.notify.Given as goal
 
 -- those added and those still to be added are all
 abbrev pub invariant-loop-shift : goal.invariant-loop-shift

@@ -1,7 +1,7 @@
 use Rattle.std.proofs.Common.{◌≡◌, ◌++◌, map, drop, string_bytes}
 use Rattle.revisions.specs.Events.{event_seen}
-use Rattle.sim_links.specs.Openings.{added_text}
-use Rattle.sim_links.proofs.openings.added_text.Given as goal
+use Rattle.sim_followers.specs.Openings.{added_text}
+use Rattle.sim_followers.proofs.openings.added_text.Given as goal
 
 -- with what is still to be written, it is all
 abbrev pub invariant-loop-event : goal.invariant-loop-event

@@ -1,7 +1,7 @@
 use Rattle.std.proofs.Common.{◌∙◌, ap, arith, drop}
 use Rattle.revisions.specs.Events.{event_seen}
-use Rattle.sim_links.proofs.InitialLines.{few_passed}
-use Rattle.sim_links.proofs.openings.InitialBacklog.pass.Goals as goal
+use Rattle.sim_followers.proofs.InitialLines.{few_passed}
+use Rattle.sim_followers.proofs.openings.InitialBacklog.pass.Goals as goal
 
 pub returns : goal.returns
 returns c =

@@ -2,9 +2,9 @@ use Rattle.std.proofs.Common.{◌≡◌, ◌≤◌, ◌<◌, ◌++◌, true, ◌
 use Rattle.spec_api.specs.Frames.{frame_text, bookmark_frame}
 use Rattle.spec_api.specs.Streams.{text_of_lines}
 use Rattle.revisions.specs.Events.{event_seen}
-use Rattle.sim_links.specs.Openings.{added_text}
-use Rattle.sim_links.proofs.InitialLines.{few_written, all_written}
-use Rattle.sim_links.proofs.openings.InitialBacklog.text.Goals as goal
+use Rattle.sim_followers.specs.Openings.{added_text}
+use Rattle.sim_followers.proofs.InitialLines.{few_written, all_written}
+use Rattle.sim_followers.proofs.openings.InitialBacklog.text.Goals as goal
 
 pub returns-then-most-left : goal.returns-then-most-left
 returns-then-most-left c =
