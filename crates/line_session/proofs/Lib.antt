@@ -1,3 +1,4 @@
 pub mod Followed
 pub mod Served
 pub mod Changes
+pub mod RecordedWrites

@@ -19,7 +19,7 @@ use Rattle.spec_server.specs.Servers.{Server, after_compaction, list_by, watch_s
 use Rattle.line_session.proofs.Followed.{same_outcome}
 use Rattle.line_session.specs.Laws.{Follows}
 use Rattle.line_session.specs.SessionStates.{SessionState, reply_for, of_write, written_by, of_compaction}
-use Rattle.sim_server.specs.RecordedStates.{entry_in, with_entry, journal_after}
+use Rattle.line_session.specs.RecordedStates.{entry_in, with_entry, journal_after}
 
 -- ---- what is asked
 

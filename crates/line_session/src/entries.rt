@@ -2,10 +2,10 @@
 ghost use Rattle.std.specs.Prelude.{◌≡◌, IfOk, option_map};
 ghost use Rattle.meta.specs.Writes.{write_of};
 ghost use Rattle.line_session.specs.Effects.{effect_of};
-ghost use Rattle.sim_server.specs.Entries.{entry_of};
-ghost use Rattle.sim_server.specs.RecordedStates.{entry_in};
+ghost use Rattle.line_session.specs.Entries.{entry_of};
+ghost use Rattle.line_session.specs.RecordedStates.{entry_in};
 
-use line_session::Effect;
+use crate::effects::Effect;
 use meta::Write;
 use std::alloc::AllocError;
 

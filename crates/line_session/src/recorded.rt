@@ -1,6 +1,7 @@
 //! Sessions of which all that happens is recorded.
+use crate::effects::{Effect, Prepared};
 use crate::entries::{JournalEntry, happening};
-use line_session::{Effect, Prepared, Session};
+use crate::sessions::Session;
 use meta::Write;
 use object_keys::Fault;
 use reply::Reply;
@@ -18,8 +19,8 @@ pub struct RecordedSession {
 
 impl Model for RecordedSession {
     ghost use Rattle.std.specs.Prelude.{map};
-    ghost use Rattle.sim_server.specs.Entries.{entry_of};
-    ghost use Rattle.sim_server.specs.RecordedStates.{RecordedState, coded_recorded};
+    ghost use Rattle.line_session.specs.Entries.{entry_of};
+    ghost use Rattle.line_session.specs.RecordedStates.{RecordedState, coded_recorded};
 
     ghost Value = { RecordedState };
 
@@ -38,8 +39,8 @@ impl RecordedSession {
     ghost use Rattle.line_session.specs.Effects.{effect_of};
     ghost use Rattle.line_session.specs.SessionStates.{HasRoom, accepted, changed_by, of_write, reply_to, state_after};
     ghost use Rattle.request_parts.specs.Requests.{request_of};
-    ghost use Rattle.sim_server.specs.Entries.{entry_of};
-    ghost use Rattle.sim_server.specs.RecordedStates.{begun, entry_in, with_entry, journal_after};
+    ghost use Rattle.line_session.specs.Entries.{entry_of};
+    ghost use Rattle.line_session.specs.RecordedStates.{begun, entry_in, with_entry, journal_after};
 
     /// Returns a session at which nothing has happened, whose windows have this size. The error is running out of memory.
     pub fn new(alloc: Global, window: usize) -> Result<RecordedSession, AllocError>

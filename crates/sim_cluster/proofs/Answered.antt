@@ -17,8 +17,8 @@ use Rattle.spec_sim.specs.Followers.{Follower, begun}
 use Rattle.spec_sim.specs.Moves as moving
 use Rattle.spec_sim.specs.Moves.{Move, answers_by, listed_of, move_by}
 use Rattle.sim_cluster_laws.proofs.Serving.{same_answers}
-use Rattle.sim_server.specs.RecordedStates as recorded
-use Rattle.sim_server.specs.RecordedStates.{RecordedState, journal_after}
+use Rattle.line_session.specs.RecordedStates as recorded
+use Rattle.line_session.specs.RecordedStates.{RecordedState, journal_after}
 use Rattle.sim_cluster.specs.Standing.{Stands}
 use Rattle.sim_cluster.specs.ClusterStates.{ClusterState, follower, with_follower, step}
 use Rattle.sim_cluster.proofs.Stood.{same_follower, stood, stands_opened}

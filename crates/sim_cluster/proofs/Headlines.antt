@@ -25,8 +25,8 @@ use Rattle.sim_steps.specs.Steps.{step_of}
 use Rattle.sim_steps.specs.declared.steps.Step.{Step}
 use Rattle.sim_cluster.specs.declared.stopped.Stopped.{Stopped}
 use Rattle.sim_cluster.specs.Headline.{ShowsLists, RevisionsRise, ReplacesNamedVersion, ReplacesNamedVersions}
-use Rattle.sim_server.specs.RecordedStates.{entry_in, with_entry, journal_after}
-use Rattle.sim_server.proofs.RecordedWrites.{made}
+use Rattle.line_session.specs.RecordedStates.{entry_in, with_entry, journal_after}
+use Rattle.line_session.proofs.RecordedWrites.{made}
 use Rattle.sim_cluster.specs.Standing.{StandsFor, Stands}
 use Rattle.sim_cluster.specs.ClusterStates.{ClusterState, published, step, run}
 use Rattle.sim_cluster.proofs.Taking.{run_last}

@@ -20,7 +20,7 @@ use Rattle.sim_cluster_laws.specs.ClusterLaws.{IsFollowed}
 use Rattle.sim_cluster_laws.specs.FollowerLaws.{IsFollowing}
 use Rattle.sim_cluster_laws.proofs.Growing.{stand}
 use Rattle.sim_cluster_laws.proofs.Runs.{with_session}
-use Rattle.sim_server.specs.RecordedStates.{RecordedState}
+use Rattle.line_session.specs.RecordedStates.{RecordedState}
 use Rattle.sim_cluster.specs.Requested.{IsWriteOf, IsRead, written}
 use Rattle.sim_cluster.specs.Standing.{StandsFor, Stands}
 use Rattle.sim_cluster.specs.ClusterStates.{ClusterState}

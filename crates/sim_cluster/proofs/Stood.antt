@@ -15,7 +15,7 @@ use Rattle.sim_cluster_laws.proofs.Runs.{keeps, runs_followed}
 use Rattle.sim_cluster_laws.proofs.Serving.{servers_serve}
 use Rattle.sim_cluster.specs.Standing.{StandsFor, Stands}
 use Rattle.sim_cluster.specs.ClusterStates.{ClusterState, opened, answered_line, follower, with_follower, step, run}
-use Rattle.sim_server.proofs.RecordedWrites.{line_recorded}
+use Rattle.line_session.proofs.RecordedWrites.{line_recorded}
 
 -- ---- one step
 

@@ -17,7 +17,7 @@ use Rattle.spec_sim.specs.Codes.{coded_follower}
 use Rattle.spec_sim.specs.Followers as followers
 use Rattle.spec_sim.specs.Followers.{Follower}
 use Rattle.spec_sim.specs.Moves.{Moved, Outcome, replied, restarted, answers_by, move_by}
-use Rattle.sim_server.specs.RecordedStates.{journal_after}
+use Rattle.line_session.specs.RecordedStates.{journal_after}
 
 -- a session, all that has happened at it, the oldest first, how followers begin, and what follows each kind
 pub record ClusterState : Type 0 where

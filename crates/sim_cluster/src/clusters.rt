@@ -1,8 +1,8 @@
 //! Clusters.
 use crate::stopped::Stopped;
 use indexer::Indexed;
+use line_session::{JournalEntry, RecordedSession};
 use sim_followers::{ClusterOutcome, SimulatedFollower};
-use sim_server::{JournalEntry, RecordedSession};
 use sim_steps::{InitialSync, Move, Step};
 use spec_api::kinds::Kind;
 use std::alloc::{AllocError, Global};
@@ -51,7 +51,7 @@ impl Model for Cluster {
 impl Cluster {
     ghost use Rattle.std.specs.Prelude.{◌≡◌, ◌<◌, IfOk, IfErr, OnOk, OnErr, [], ◌∷◌, length, map, take};
     ghost use Rattle.spec_line_protocol.specs.Lines.{line_of, compact};
-    ghost use Rattle.sim_server.specs.Entries.{entry_of};
+    ghost use Rattle.line_session.specs.Entries.{entry_of};
     ghost use Rattle.spec_sim.specs.Moves.{answers_by, move_by};
     ghost use Rattle.sim_followers.specs.Outcomes.{outcome_of};
     ghost use Rattle.sim_steps.specs.Steps.{move_of, step_of};

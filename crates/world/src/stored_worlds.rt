@@ -7,12 +7,12 @@ ghost use Rattle.object_keys.specs.WorkKeys.{work_key_of};
 ghost use Rattle.world.specs.StoredStates.{owed};
 
 use crate::outcomes::Outcome;
+use line_session::JournalEntry;
 use object_keys::WorkKey;
 use plain_informer::{keys_of, object_in, observations};
 use sim_cluster::Cluster;
 use sim_followers::Notification;
 use sim_manager::{Manager, ToldOutcome, WorkOutcome};
-use sim_server::JournalEntry;
 use sim_steps::{Action, Config, PlaneStep, Step};
 use sim_worker_slots::{Issued, Slots};
 use spec_api::kinds::Kind;
@@ -76,7 +76,7 @@ impl StoredWorld {
     ghost use Rattle.sim_steps.specs.Actions.{action_of};
     ghost use Rattle.sim_steps.specs.PlaneSteps.{plane_step_of};
     ghost use Rattle.sim_steps.specs.Steps.{step_of};
-    ghost use Rattle.sim_server.specs.Entries.{entry_of};
+    ghost use Rattle.line_session.specs.Entries.{entry_of};
     ghost use Rattle.sim_worker_slots.specs.Seen.{issued_of};
     ghost use Rattle.world.specs.Outcomes.{outcome_of};
     ghost use Rattle.world.specs.StoredStates.{opened, step, step_cluster, handle_in, after_action, tick_in};

@@ -1,8 +1,8 @@
 //! Worlds.
 use crate::outcomes::Outcome;
 use crate::stored_worlds::StoredWorld;
+use line_session::JournalEntry;
 use sim_cluster::Stopped;
-use sim_server::JournalEntry;
 use sim_steps::{Config, PlaneStep};
 use sim_traces::Trace;
 use sim_worker_slots::{Issued, Slots};
@@ -34,7 +34,7 @@ impl World {
     ghost use Rattle.std.specs.Prelude.{◌≡◌, ◌<◌, IfOk, IfErr, OnOk, OnErr, length, map, take};
     ghost use Rattle.std.specs.Arc.{arc_value};
     ghost use Rattle.spec_sim.specs.ControlPlanes as planes;
-    ghost use Rattle.sim_server.specs.Entries.{entry_of};
+    ghost use Rattle.line_session.specs.Entries.{entry_of};
     ghost use Rattle.sim_steps.specs.PlaneSteps.{plane_step_of};
     ghost use Rattle.sim_traces.specs.Taken.{plane, followed, followed_by_all};
     ghost use Rattle.sim_worker_slots.specs.Seen.{issued_of};

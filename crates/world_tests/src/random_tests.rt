@@ -1,11 +1,11 @@
 //! A random run of a simulated cluster.
+use line_session::JournalEntry as Happened;
 use meta::{Member, Write};
 use reconcile_types::Entry;
 use revisions::Journal;
 use selector::View;
 use sim_cluster::Cluster;
 use sim_followers::ClusterOutcome;
-use sim_server::JournalEntry as Happened;
 use sim_steps::{InitialSync, Move, Step};
 use spec_api::kinds::Kind;
 use std::alloc::{AllocError, Global};

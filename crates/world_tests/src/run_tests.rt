@@ -1,6 +1,6 @@
 //! Worked examples, each taken at once as one list of steps.
+use line_session::JournalEntry;
 use reconcile_types::Command;
-use sim_server::JournalEntry;
 use sim_steps::{Action, Config, Delivery, InitialSync, Move, PlaneStep, Step};
 use spec_api::kinds::Kind;
 use std::alloc::{AllocError, Global};

@@ -3,8 +3,8 @@ use Rattle.spec_line_protocol.specs.Lines.{line_of}
 use Rattle.line_session.specs.Effects.{effect_of}
 use Rattle.line_session.specs.SessionStates.{changed_by, effect_on, HasRoom}
 use Rattle.line_session.proofs.Changes.{effects_change, effects_fit}
-use Rattle.sim_server.specs.RecordedStates.{RecordedState}
-use Rattle.sim_server.proofs.recorded.RecordedSession.serve_text.Goals as goal
+use Rattle.line_session.specs.RecordedStates.{RecordedState}
+use Rattle.line_session.proofs.recorded.RecordedSession.serve_text.Goals as goal
 
 pub commit-requires : goal.commit-requires
 commit-requires c =

@@ -1,2 +1,0 @@
-pub mod RecordedStates
-pub mod Entries
