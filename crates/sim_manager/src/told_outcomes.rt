@@ -6,7 +6,7 @@ ghost use Rattle.sim_manager.specs.Outcomes.{outcome_of};
 
 use crate::outcomes::WorkOutcome;
 use object_keys::WorkKey;
-use sim_worker_lines::lines;
+use sim_worker_slots::lines;
 use std::alloc::{AllocError, Global};
 
 /// What came of a step, and the line by which it is told: where there is no memory for it, the step is not taken.
