@@ -20,7 +20,7 @@ use Rattle.sim_control_plane_laws.specs.PlaneLaws.{IsServerList}
 use Rattle.sim_control_plane_laws.proofs.PlaneRuns.{followed, look_listed}
 use Rattle.sim_steps.specs.PlaneSteps.{plane_step_of}
 use Rattle.sim_steps.specs.declared.plane_steps.PlaneStep.{PlaneStep}
-use Rattle.sim_traces.specs.Taken.{opening, plane, followed_by_all}
+use Rattle.world.specs.Taken.{opening, plane, followed_by_all}
 use Rattle.sim_cluster.specs.Standing as stored
 use Rattle.sim_cluster.specs.declared.stopped.Stopped.{Stopped}
 use Rattle.sim_cluster.proofs.Headlines.{shown}

@@ -24,7 +24,7 @@ use Rattle.sim_control_plane_laws.proofs.Rising.{revisions_rise}
 use Rattle.sim_control_plane_laws.proofs.Asked.{written_is}
 use Rattle.sim_control_plane_laws.proofs.Spared.{spared}
 use Rattle.sim_overshoot_laws.proofs.MadePods.{no_overshoot}
-use Rattle.sim_traces.specs.Taken.{Taken, opening}
+use Rattle.world.specs.Taken.{Taken, opening}
 use Rattle.world.specs.Headline.{plane_after, IsAskedBy, ReplacesNamedVersions, ForgetsNothing, RevisionsRise, TakesTheHeads, SparesLiveOwners, NeverOvershoots}
 
 -- ---- conditional writes

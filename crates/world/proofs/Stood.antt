@@ -5,7 +5,7 @@ use Rattle.spec_sim.specs.ControlPlanes as planes
 use Rattle.spec_sim.specs.ControlPlanes.{ControlPlane, Step}
 use Rattle.spec_sim.specs.Outcomes.{Outcome}
 use Rattle.sim_worker_laws.proofs.IssuedRuns.{run_one}
-use Rattle.sim_traces.specs.Taken.{Taken, begun, opening, plane, followed, followed_by_all}
+use Rattle.world.specs.Taken.{Taken, begun, opening, plane, followed, followed_by_all}
 use Rattle.world.proofs.StoredStood as stored
 use Rattle.world.specs.Standing.{StandsFor, Stands}
 use Rattle.world.specs.StoredStates as states

@@ -13,7 +13,7 @@ use Rattle.spec_sim.specs.Moves.{Move}
 use Rattle.spec_sim.specs.ControlPlanes.{Step, in_cluster, handle, works, tick}
 use Rattle.spec_sim.specs.Managers as action
 use Rattle.spec_sim.specs.Managers.{Action, Delivery, delivered, answer_lost, dropped}
-use Rattle.sim_traces.specs.Taken.{Taken}
+use Rattle.world.specs.Taken.{Taken}
 
 -- ---- actions
 

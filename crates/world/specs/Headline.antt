@@ -30,7 +30,7 @@ use Rattle.sim_control_plane_laws.specs.PlaneLaws.{IsServerList}
 use Rattle.sim_control_plane_laws.specs.SparingLaws as collector
 use Rattle.sim_control_plane_laws.specs.SparingLaws.{IsOfTheCollector}
 use Rattle.sim_overshoot_laws.specs.Overshoot.{LetAlone, NeverMoreThanDeclared}
-use Rattle.sim_traces.specs.Taken.{Taken, opening, plane}
+use Rattle.world.specs.Taken.{Taken, opening, plane}
 use Rattle.sim_cluster.specs.Headline.{ShowsLists}
 use Rattle.world.specs.Standing.{StandsFor}
 use Rattle.world.specs.WorldStates.{WorldState}

@@ -4,3 +4,5 @@ pub mod WorldStates
 pub mod Standing
 pub mod Headline
 pub mod Outcomes
+pub mod Taken
+pub mod Codes

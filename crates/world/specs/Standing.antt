@@ -1,6 +1,6 @@
 -- What a world stands for.
 use Rattle.spec_sim.specs.ControlPlanes.{ControlPlane}
-use Rattle.sim_traces.specs.Taken.{plane}
+use Rattle.world.specs.Taken.{plane}
 use Rattle.world.specs.StoredStanding as stored
 use Rattle.world.specs.WorldStates.{WorldState}
 

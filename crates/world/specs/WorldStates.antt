@@ -4,9 +4,9 @@ use Rattle.std.specs.Coded.{Coded, code_by, coded×}
 use Rattle.spec_sim.specs.declared.initial_syncs.InitialSync.{InitialSync}
 use Rattle.spec_sim.specs.ControlPlanes.{Step}
 use Rattle.spec_sim.specs.Outcomes.{Outcome}
-use Rattle.sim_traces.specs.Codes.{coded_taken}
-use Rattle.sim_traces.specs.Taken as traces
-use Rattle.sim_traces.specs.Taken.{Taken, followed}
+use Rattle.world.specs.Codes.{coded_taken}
+use Rattle.world.specs.Taken as traces
+use Rattle.world.specs.Taken.{Taken, followed}
 use Rattle.world.specs.StoredStates as stored
 use Rattle.world.specs.StoredStates.{StoredState, coded_stored}
 

@@ -1,8 +1,8 @@
 //! Traces.
 ghost use Rattle.std.specs.Prelude.{◌≡◌};
 ghost use Rattle.std.specs.Borrow.{ftrue};
-ghost use Rattle.sim_traces.specs.Codes.{coded_taken};
-ghost use Rattle.sim_traces.specs.Taken.{Taken};
+ghost use Rattle.world.specs.Codes.{coded_taken};
+ghost use Rattle.world.specs.Taken.{Taken};
 
 use sim_steps::{Config, PlaneStep};
 use std::marker::Model;
@@ -20,7 +20,7 @@ impl Model for Trace {
 impl Trace {
     ghost use Rattle.std.specs.Prelude.{◌≡◌};
     ghost use Rattle.sim_steps.specs.PlaneSteps.{plane_step_of};
-    ghost use Rattle.sim_traces.specs.Taken.{begun, followed};
+    ghost use Rattle.world.specs.Taken.{begun, followed};
 
     /// Returns the trace of what was opened so, and took no step.
     pub fn begun(config: &Config) -> Trace

@@ -1,10 +1,10 @@
 //! Worlds.
 use crate::outcomes::Outcome;
 use crate::stored_worlds::StoredWorld;
+use crate::traces::Trace;
 use line_session::JournalEntry;
 use sim_cluster::Stopped;
 use sim_steps::{Config, PlaneStep};
-use sim_traces::Trace;
 use sim_worker_slots::{Issued, Slots};
 use std::alloc::{AllocError, Global};
 use std::marker::Model;
@@ -36,7 +36,7 @@ impl World {
     ghost use Rattle.spec_sim.specs.ControlPlanes as planes;
     ghost use Rattle.line_session.specs.Entries.{entry_of};
     ghost use Rattle.sim_steps.specs.PlaneSteps.{plane_step_of};
-    ghost use Rattle.sim_traces.specs.Taken.{plane, followed, followed_by_all};
+    ghost use Rattle.world.specs.Taken.{plane, followed, followed_by_all};
     ghost use Rattle.sim_worker_slots.specs.Seen.{issued_of};
     ghost use Rattle.world.specs.Headline.{Headline};
     ghost use Rattle.world.specs.Outcomes.{outcome_of};

@@ -26,11 +26,11 @@ use denote.Triple.Table.{entered}
 use denote.Triple.Walked.{says, Stays, stay_dropped, walk_of, ends_at, walk_Meets, Goes-dropped}
 use Rattle.bytes.proofs.Walks.{none, none_made}
 use Rattle.sim_steps.specs.contracts.config.Config as Config
-use Rattle.sim_traces.specs.Taken.{begun}
-use Rattle.sim_traces.specs.contracts.traces.Trace as Trace
-use Rattle.sim_traces.specs.contracts.traces.Trace.begun as f
-use Rattle.sim_traces.proofs.traces.Trace.begun.Statement as stated
-use Rattle.sim_traces.proofs.traces.Trace.begun.Code as code
+use Rattle.world.specs.Taken.{begun}
+use Rattle.world.specs.contracts.traces.Trace as Trace
+use Rattle.world.specs.contracts.traces.Trace.begun as f
+use Rattle.world.proofs.traces.Trace.begun.Statement as stated
+use Rattle.world.proofs.traces.Trace.begun.Code as code
 
 abbrev stayed : Stays f.ended.signature.params f.ended.kept
 stayed = (stay_dropped (RefOf (0 ∷ []) tt (plain (λ _. Config.the_row)) (λ _. tt)) yes, tt)

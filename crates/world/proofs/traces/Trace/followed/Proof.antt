@@ -27,11 +27,11 @@ use denote.Triple.Walked.{says, Stays, stay_dropped, walk_of, ends_at, walk_Meet
 use Rattle.bytes.proofs.Walks.{none, none_made}
 use Rattle.sim_steps.specs.PlaneSteps.{plane_step_of}
 use Rattle.sim_steps.specs.contracts.plane_steps.PlaneStep as PlaneStep
-use Rattle.sim_traces.specs.Taken.{followed}
-use Rattle.sim_traces.specs.contracts.traces.Trace as Trace
-use Rattle.sim_traces.specs.contracts.traces.Trace.followed as f
-use Rattle.sim_traces.proofs.traces.Trace.followed.Statement as stated
-use Rattle.sim_traces.proofs.traces.Trace.followed.Code as code
+use Rattle.world.specs.Taken.{followed}
+use Rattle.world.specs.contracts.traces.Trace as Trace
+use Rattle.world.specs.contracts.traces.Trace.followed as f
+use Rattle.world.proofs.traces.Trace.followed.Statement as stated
+use Rattle.world.proofs.traces.Trace.followed.Code as code
 
 abbrev stayed : Stays f.ended.signature.params f.ended.kept
 stayed = (
