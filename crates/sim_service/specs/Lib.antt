@@ -1,3 +1,5 @@
 pub mod Laws
 pub mod SimulationStates
 pub mod Refusals
+pub mod Ready
+pub mod Texts

@@ -1,15 +1,15 @@
 //! A simulated control plane that answers lines.
 ghost use Rattle.std.specs.Prelude.{◌≡◌, IfOk, OnOk, OnErr, None, option_map};
 ghost use Rattle.spec_sim.specs.ControlPlaneStepLines.{step_asked};
-ghost use Rattle.sim_outcome_lines.specs.Ready.{IsReady};
+ghost use Rattle.sim_service.specs.Ready.{IsReady};
 ghost use Rattle.sim_service.specs.Refusals.{of_step};
 ghost use Rattle.sim_steps.specs.PlaneSteps.{plane_step_of};
 ghost use Rattle.sim_service.specs.SimulationStates.{told_by_stored, stored_after, first_text, first_stored};
 ghost use Rattle.spec_sim.specs.ControlPlaneOutcomeTexts.{outcome_text};
 ghost use Rattle.world.specs.Outcomes.{outcome_of};
 
+use crate::telling::{ready, told};
 use line_service::{LineService, no_memory_line};
-use sim_outcome_lines::{ready, told};
 use sim_steps::{Config, PlaneStep, Step, step_asked};
 use std::alloc::{AllocError, Global};
 use std::marker::Model;

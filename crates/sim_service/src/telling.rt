@@ -3,8 +3,8 @@ ghost use Rattle.std.specs.Prelude.{◌≡◌, codes, ◌++◌, ◌∷◌, ◌+�
 ghost use Rattle.spec_api.specs.Kinds.{plural};
 ghost use Rattle.spec_sim.specs.OutcomeTexts.{outcome_text, end_words, words_line};
 ghost use Rattle.sim_followers.specs.Outcomes.{outcome_of};
-ghost use Rattle.sim_outcome_lines.specs.Texts.{after_words};
-ghost use Rattle.sim_outcome_lines.specs.Ready.{IsReady};
+ghost use Rattle.sim_service.specs.Texts.{after_words};
+ghost use Rattle.sim_service.specs.Ready.{IsReady};
 
 use itoa::Buffer;
 use sim_followers::ClusterOutcome;
