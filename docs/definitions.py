@@ -17,8 +17,7 @@ SPECS = CRATES / "spec_api/specs"
 BESIDE = {
     "spec_line_protocol": ["Lines"],
     "chunked": ["Bodies"],
-    "spec_http_server": ["Heads", "Checks", "Connections", "Replies"],
-    "spec_http_client": ["Requests", "Answers"],
+    "spec_http": ["Heads", "Checks", "Connections", "Replies", "Requests", "Answers"],
     "list_and_watch": ["Followers", "Recognized", "Answered", "Given", "Pauses"],
     "http_client": ["Replies", "Bodies", "Calls", "Watches"],
     "spec_server": ["Snapshots", "Recorded", "Servers"],
@@ -30,7 +29,7 @@ BESIDE = {
 }
 
 # The crates of laws, whose words stand in the index of words.
-LAWS = ["spec_laws", "keyed_queues", "informer_laws", "sim_worker_laws", "sim_cluster_laws", "sim_control_plane_laws", "sim_overshoot_laws", "list_and_watch", "spec_http_client"]
+LAWS = ["spec_laws", "keyed_queues", "informer_laws", "sim_worker_laws", "sim_cluster_laws", "sim_control_plane_laws", "sim_overshoot_laws", "list_and_watch", "spec_http"]
 
 HEAD = """# Definitions
 

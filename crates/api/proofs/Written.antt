@@ -8,7 +8,7 @@ use Rattle.chunked.specs.Writing.{WritesInPlace}
 use Rattle.chunked.specs.declared.fault.ChunkFault.{ChunkFault}
 use Rattle.chunked.specs.declared.fault.ChunkFault.TheVariants as chunk
 use Rattle.chunked.specs.declared.watched.Watched.{Watched}
-use Rattle.spec_http_server.specs.Replies.{response_text, reply_text}
+use Rattle.spec_http.specs.Replies.{response_text, reply_text}
 use Rattle.object_keys.specs.Faults.{refusal_of}
 use Rattle.object_keys.specs.declared.fault.Fault.{Fault}
 use Rattle.reply.specs.declared.reply.Reply as replies

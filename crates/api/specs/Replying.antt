@@ -6,7 +6,7 @@ use Rattle.spec_api.specs.Replies.{outcome}
 use Rattle.spec_api.specs.Verbs.{Outcome, answered, refused}
 use Rattle.chunked.specs.Devices.{AppendsBeginning, device_of, has_failed}
 use Rattle.chunked.specs.declared.watched.Watched.{Watched}
-use Rattle.spec_http_server.specs.Replies.{reply_text}
+use Rattle.spec_http.specs.Replies.{reply_text}
 use Rattle.api.specs.declared.fault.ServeFault.{ServeFault}
 use Rattle.api.specs.declared.fault.ServeFault.TheVariants as fault
 

@@ -8,7 +8,7 @@ use Rattle.spec_api.specs.Replies.{outcome}
 use Rattle.spec_api.specs.Targets.{Asked, request, list, watch}
 use Rattle.spec_api.specs.Verbs.{Outcome, answered, refused}
 use Rattle.spec_api.specs.Versions.{Listed}
-use Rattle.spec_http_server.specs.Replies.{response_text, reply_text}
+use Rattle.spec_http.specs.Replies.{response_text, reply_text}
 use Rattle.object_keys.specs.Faults.{refusal_of}
 use Rattle.object_keys.specs.declared.fault.Fault.{Fault}
 use Rattle.reply.specs.declared.reply.Reply as replies

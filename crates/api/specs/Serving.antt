@@ -10,8 +10,8 @@ use Rattle.spec_api.specs.Targets.{Asked, request, list, watch}
 use Rattle.spec_api.specs.Verbs.{Outcome, refused}
 use Rattle.spec_api.specs.Versions.{Listed}
 use Rattle.chunked.specs.declared.watched.Watched.{Watched}
-use Rattle.spec_http_server.specs.Connections.{Asks}
-use Rattle.spec_http_server.specs.Replies.{reply_text}
+use Rattle.spec_http.specs.Connections.{Asks}
+use Rattle.spec_http.specs.Replies.{reply_text}
 use Rattle.object_keys.specs.Faults.{refusal_of}
 use Rattle.http_request_reader.specs.Receiving.{IsWhole, IsNeeded}
 use Rattle.http_watch.specs.Served.{Serves}

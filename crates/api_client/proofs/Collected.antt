@@ -6,13 +6,13 @@ use Rattle.request_encoding.specs.Scopes.{Scope, IsText, is_scope}
 use Rattle.request_encoding.specs.Seen.{scope_of}
 use Rattle.request_encoding.specs.Targets.{target}
 use Rattle.request_encoding.specs.ScopesTold.{Asks}
-use Rattle.spec_http_server.specs.Connections.{AsksOnly}
+use Rattle.spec_http.specs.Connections.{AsksOnly}
 use Rattle.spec_api.specs.declared.kinds.Kind.{Kind}
 use Rattle.spec_api.specs.declared.methods.Method.TheVariants.{Get}
 use Rattle.spec_api.specs.Refusals.{no_such_path}
 use Rattle.spec_api.specs.Targets.{Asked}
-use Rattle.spec_http_client.proofs.Asked.{written_asked}
-use Rattle.spec_http_client.specs.RequestLaws.{IsWritable}
+use Rattle.spec_http.proofs.Asked.{written_asked}
+use Rattle.spec_http.specs.RequestLaws.{IsWritable}
 use Rattle.api_client.specs.Laws.{IsAskedBy, AreAsked, CollectionsAreAsked}
 use Rattle.api_client.specs.Outgoing.{get_text}
 use Rattle.api_client.proofs.Written.{named, typed, takes, host_is_value, no_path}

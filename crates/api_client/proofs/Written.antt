@@ -9,11 +9,11 @@ use Rattle.spec_api.specs.declared.methods.Method.TheVariants.{Get, Post, Put, P
 use Rattle.spec_api.specs.ObjectRequests.{Request}
 use Rattle.spec_api.specs.Refusals.{no_such_path, too_large}
 use Rattle.spec_api.specs.Targets.{Asked, read_request, is_too_long}
-use Rattle.spec_http_server.proofs.OnLiterals.{http_on_literals}
-use Rattle.spec_http_server.specs.Connections.{AsksOnly}
-use Rattle.spec_http_server.specs.Heads.{method_named, takes_type, without_parameters}
-use Rattle.spec_http_client.specs.RequestLaws.{is_value, IsWritable}
-use Rattle.spec_http_client.proofs.Asked.{written_asked, long_refused}
+use Rattle.spec_http.proofs.OnLiterals.{http_on_literals}
+use Rattle.spec_http.specs.Connections.{AsksOnly}
+use Rattle.spec_http.specs.Heads.{method_named, takes_type, without_parameters}
+use Rattle.spec_http.specs.RequestLaws.{is_value, IsWritable}
+use Rattle.spec_http.proofs.Asked.{written_asked, long_refused}
 use Rattle.request_encoding.specs.Texts.{is_of_path, is_visible}
 use Rattle.request_encoding.specs.declared.text.RequestText.{RequestText}
 use Rattle.api_client.specs.Outgoing.{method_text, media_type, written}

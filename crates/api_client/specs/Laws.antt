@@ -9,8 +9,8 @@ use Rattle.spec_api.specs.declared.kinds.Kind.{Kind}
 use Rattle.spec_api.specs.Targets.{Asked}
 use Rattle.spec_api.specs.ObjectRequests.{Request}
 use Rattle.spec_api.specs.Refusals.{too_large}
-use Rattle.spec_http_server.specs.Connections.{longest_head, AsksOnly}
-use Rattle.spec_http_client.specs.Requests.{request_head}
+use Rattle.spec_http.specs.Connections.{longest_head, AsksOnly}
+use Rattle.spec_http.specs.Requests.{request_head}
 use Rattle.request_encoding.specs.Texts.{IsPath, taken}
 use Rattle.request_encoding.specs.Told.{Asks}
 use Rattle.request_encoding.specs.declared.text.RequestText.{RequestText}

@@ -1,6 +1,6 @@
 -- A request of one object as it is written (RFC 9112, Message Format).
 use Rattle.std.specs.Prelude.{ℕ, List, [], codes, string_bytes}
-use Rattle.spec_http_client.specs.Requests.{request_text}
+use Rattle.spec_http.specs.Requests.{request_text}
 use Rattle.spec_api.specs.declared.methods.Method.{Method}
 use Rattle.spec_api.specs.declared.methods.Method.TheVariants.{Get, Post, Put, Patch, Delete}
 use Rattle.request_encoding.specs.declared.text.RequestText.{RequestText}

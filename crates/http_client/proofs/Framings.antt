@@ -1,7 +1,7 @@
 -- How the end of a body is known by the fields of its head.
 use Rattle.std.proofs.Common.{◌≡◌, ℕ, List, [], ◌∷◌, length, Bool, true, codes, sym, ap, ◌∙◌, arith}
 use Rattle.std.specs.Str.{str_eq_ignore_ascii_case}
-use Rattle.spec_http_server.specs.Heads.{Field}
+use Rattle.spec_http.specs.Heads.{Field}
 use Rattle.http_client.specs.Heads.{IsFramed, codings_in}
 use Rattle.http_client.specs.declared.framing.Framing.TheVariants as framing
 

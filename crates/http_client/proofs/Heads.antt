@@ -7,7 +7,7 @@ use Rattle.httparse.specs.declared.spans.HeaderSpan.{HeaderSpan}
 use Rattle.httparse.specs.declared.spans.ResponseSpans.{ResponseSpans}
 use Rattle.httparse.specs.Grammar.{LineEnd, crlf, lf, print_end, print_blank, print_version, print_reason, print_field, ResponseHead, print_response, ReadsResponse, HasNoResponse}
 use Rattle.httparse.specs.Spans.{ResponseOverflows}
-use Rattle.spec_http_server.specs.Connections.{longest_head, most_fields}
+use Rattle.spec_http.specs.Connections.{longest_head, most_fields}
 use Rattle.http_client.specs.Heads.{BeginsWithNoHead}
 use Rattle.http_client.specs.Reading.{IfKnown, HasFound, IsFound}
 

@@ -6,7 +6,7 @@ use Rattle.httparse.specs.Grammar.{ResponseHead, print_response, ReadsResponse, 
 use Rattle.httparse.proofs.GrammarLemmas.{response_unique, ReadsResponse-append}
 use Rattle.chunked.specs.Bodies.{IsBodyWithin}
 use Rattle.chunked.specs.Reading.{longest_line}
-use Rattle.spec_http_client.specs.Answers.{Replied, Says, HasLength, IsChunked, fields_of, transfer_codings, OpensWatch}
+use Rattle.spec_http.specs.Answers.{Replied, Says, HasLength, IsChunked, fields_of, transfer_codings, OpensWatch}
 use Rattle.http_client.specs.Heads.{BeginsWithNoHead, SaysNothing, IsFramed, IsHeadOf}
 use Rattle.http_client.specs.Reading.{IfKnown, IsShorterThan, ReadsHead, ReadsLongerHead}
 use Rattle.http_client.specs.Bodies.{ReadsBody, HasNoBody, HasLongBody, IsStatedWithin}

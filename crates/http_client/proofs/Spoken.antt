@@ -5,10 +5,10 @@ use Rattle.httparse.proofs.GrammarLemmas.{response_unique, ReadsResponse-append}
 use Rattle.chunked.specs.Bodies.{IsBodyWithin, joined}
 use Rattle.chunked.specs.Reading.{longest_line}
 use Rattle.chunked.proofs.Bodies.{one_body}
-use Rattle.spec_http_server.specs.Replies.{response_text}
-use Rattle.spec_http_client.specs.Answers.{Replied, Says, HasLength, IsChunked, transfer_codings}
-use Rattle.spec_http_client.specs.Laws.{IsReply}
-use Rattle.spec_http_client.proofs.Read.{one_reply, written_read, cut_lost}
+use Rattle.spec_http.specs.Replies.{response_text}
+use Rattle.spec_http.specs.Answers.{Replied, Says, HasLength, IsChunked, transfer_codings}
+use Rattle.spec_http.specs.ClientLaws.{IsReply}
+use Rattle.spec_http.proofs.Read.{one_reply, written_read, cut_lost}
 use Rattle.http_client.specs.Laws.{OneWholeReplyIsSaid, WrittenRepliesAreWhole, CutRepliesAreNotWhole, LongerRepliesAreBeyond}
 use Rattle.http_client.specs.Heads.{StatesLonger}
 use Rattle.http_client.specs.Replies.{SaysInChunks, SaysWhole, IsBodyLonger}

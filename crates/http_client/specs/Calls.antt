@@ -3,7 +3,7 @@ use Rattle.std.specs.Prelude.{◌≡◌, ◌≤◌, ◌⊎◌, ℕ, List, length
 use Rattle.std.specs.Io.KnownBytes.{Appends}
 use Rattle.chunked.specs.Devices.{AppendsBeginning, device_of, has_failed}
 use Rattle.chunked.specs.declared.watched.Watched.{Watched}
-use Rattle.spec_http_client.specs.Requests.{request_text}
+use Rattle.spec_http.specs.Requests.{request_text}
 use Rattle.http_client.specs.Reading.{IfKnown}
 use Rattle.http_client.specs.Replies.{replied, SaysWhole}
 use Rattle.http_client.specs.declared.answer.Answer.{Answer}

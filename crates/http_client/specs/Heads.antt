@@ -2,8 +2,8 @@
 use Rattle.std.specs.Prelude.{◌≡◌, ◌≤◌, ◌<◌, ℕ, List, [], ◌∷◌, codes, Option, Some, true}
 use Rattle.std.specs.Str.{str_eq_ignore_ascii_case}
 use Rattle.httparse.specs.Grammar.{ResponseHead, ReadsResponse, status_code}
-use Rattle.spec_http_server.specs.Heads.{Field, values_of, length_in}
-use Rattle.spec_http_client.specs.Answers.{Replied, Says, IsWithinLimits, HasLength, fields_of}
+use Rattle.spec_http.specs.Heads.{Field, values_of, length_in}
+use Rattle.spec_http.specs.Answers.{Replied, Says, IsWithinLimits, HasLength, fields_of}
 use Rattle.http_client.specs.declared.framing.Framing.{Framing}
 use Rattle.http_client.specs.declared.framing.Framing.TheVariants as framing
 use Rattle.http_client.specs.declared.reply_head.ReplyHead.{ReplyHead}

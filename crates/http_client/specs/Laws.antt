@@ -1,8 +1,8 @@
 -- What follows for a client and a server that speak with one another.
 use Rattle.std.specs.Prelude.{◌≡◌, ◌<◌, ℕ, List, ◌++◌, length}
-use Rattle.spec_http_server.specs.Replies.{response_text}
-use Rattle.spec_http_client.specs.Answers.{Replied}
-use Rattle.spec_http_client.specs.Laws.{IsReply}
+use Rattle.spec_http.specs.Replies.{response_text}
+use Rattle.spec_http.specs.Answers.{Replied}
+use Rattle.spec_http.specs.ClientLaws.{IsReply}
 use Rattle.http_client.specs.Replies.{SaysWhole, SaysNoReply, IsLonger}
 
 -- bytes begin with at most one whole reply, however the end of its body is known

@@ -5,7 +5,7 @@ use Rattle.httparse.specs.declared.spans.HeaderSpan.{HeaderSpan}
 use Rattle.httparse.specs.declared.spans.ResponseSpans.{ResponseSpans}
 use Rattle.httparse.specs.Grammar.{ResponseHead, IsResponseHead, print_response}
 use Rattle.httparse.specs.Spans.{IsResponseAt, IsResponseWithin}
-use Rattle.spec_http_client.specs.Answers.{IsWithinLimits, HasLength}
+use Rattle.spec_http.specs.Answers.{IsWithinLimits, HasLength}
 use Rattle.http_client.specs.declared.fault.ReplyFault.{ReplyFault}
 use Rattle.http_client.specs.declared.fault.ReplyFault.TheVariants as fault
 

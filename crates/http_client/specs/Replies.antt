@@ -4,7 +4,7 @@ use Rattle.std.specs.Io.KnownBytes.{Consumes}
 use Rattle.httparse.specs.Grammar.{ResponseHead, ReadsResponse, status_code}
 use Rattle.chunked.specs.Bodies.{IsBodyWithin, joined}
 use Rattle.chunked.specs.Reading.{longest_line}
-use Rattle.spec_http_client.specs.Answers.{Replied, Says, IsWithinLimits, HasLength, IsChunked}
+use Rattle.spec_http.specs.Answers.{Replied, Says, IsWithinLimits, HasLength, IsChunked}
 use Rattle.http_client.specs.Heads.{StatesLonger}
 use Rattle.http_client.specs.declared.reply.HttpReply.{HttpReply}
 

@@ -1,6 +1,6 @@
 -- Watches that a client opens and reads.
 use Rattle.std.specs.Prelude.{◌≡◌, ◌<◌, ◌≤◌, ℕ, List, [], length, take, Option, Some, None, ⊤}
-use Rattle.spec_http_client.specs.Answers.{Says, OpensWatch}
+use Rattle.spec_http.specs.Answers.{Says, OpensWatch}
 use Rattle.chunked.specs.Reading.{Reaches, Stops, place_of, answered_fault, left_of}
 use Rattle.chunked.specs.declared.fault.ChunkFault.{ChunkFault}
 use Rattle.chunked.specs.declared.place.BodyPlace.TheVariants as place

@@ -1,6 +1,6 @@
 //! How the end of a reply's body is known.
 ghost use Rattle.std.specs.Prelude.{map};
-ghost use Rattle.spec_http_server.specs.Heads.{one_number};
+ghost use Rattle.spec_http.specs.Heads.{one_number};
 ghost use Rattle.http_request_head.specs.Fields.{field_seen};
 ghost use Rattle.http_client.specs.Heads.{IsFramed, IsFramedByLength};
 

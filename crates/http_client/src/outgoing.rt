@@ -2,7 +2,7 @@
 ghost use Rattle.std.specs.Prelude.{◌≡◌, IfOk};
 ghost use Rattle.http_client.specs.Calls.{text_of};
 
-use spec_http_client::request_head;
+use spec_http::request_head;
 use std::alloc::{AllocError, Global};
 
 /// A request as it is written (RFC 9112, Message Format).

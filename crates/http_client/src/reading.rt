@@ -4,7 +4,7 @@ ghost use Rattle.std.specs.Io.KnownBytes.{Consumes, IsAtEnd};
 ghost use Rattle.httparse.specs.Grammar.{HasNoResponse};
 ghost use Rattle.httparse.specs.Spans.{ResponseOverflows};
 ghost use Rattle.chunked.specs.Devices.{device_of, has_failed};
-ghost use Rattle.spec_http_server.specs.Connections.{longest_head, most_fields};
+ghost use Rattle.spec_http.specs.Connections.{longest_head, most_fields};
 ghost use Rattle.http_client.specs.Heads.{BeginsWithNoHead};
 ghost use Rattle.http_client.specs.Reading.{IsWatched, HasFound, IsFound, IfKnown};
 ghost use Rattle.http_client.specs.declared.fault.ReplyFault.TheVariants as fault;

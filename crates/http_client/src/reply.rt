@@ -1,7 +1,7 @@
 //! Replies, read whole.
 ghost use Rattle.std.specs.Prelude.{◌≡◌, ◌≤◌, IfOk, IfErr, vec_len, true, false, Err};
 ghost use Rattle.chunked.specs.Devices.{device_of, has_failed};
-ghost use Rattle.spec_http_client.specs.Answers.{Says};
+ghost use Rattle.spec_http.specs.Answers.{Says};
 ghost use Rattle.http_client.specs.Heads.{SaysNothing};
 ghost use Rattle.http_client.specs.Replies.{replied, ReadsReply};
 ghost use Rattle.http_client.specs.Reading.{IsWatched, IfKnown, ReadsLongerHead};

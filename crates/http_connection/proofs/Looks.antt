@@ -7,7 +7,7 @@ use Rattle.spec_api.specs.Refusals.{Refusal}
 use Rattle.spec_api.specs.Versions.{Watched}
 use Rattle.spec_api.specs.WatchReplies.{told_lines}
 use Rattle.chunked.specs.Bodies.{chunk_text}
-use Rattle.spec_http_server.specs.Replies.{frames_text}
+use Rattle.spec_http.specs.Replies.{frames_text}
 use Rattle.http_watch.specs.Watches.{Look, Ends, most_changes, most_idle, stands_after, idle_after, look_frames}
 use Rattle.http_connection.specs.Watches.{AreLooks, Lasts, revision_after, idles_after}
 

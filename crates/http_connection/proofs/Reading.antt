@@ -3,12 +3,12 @@ use Rattle.std.proofs.Common.{◌<◌, ℕ, List, [], ◌∷◌, ◌++◌, lengt
 use Rattle.std.proofs.KnownBytes.{Consumes-nil, Consumes-trans}
 use Rattle.std.specs.Io.KnownBytes.{Consumes}
 use Rattle.httparse.specs.Grammar.{print_request}
-use Rattle.spec_http_server.proofs.Halves.{half_a_head}
-use Rattle.spec_http_server.proofs.OnLiterals.{http_on_literals}
-use Rattle.spec_http_server.proofs.WellFormed.{well_formed}
-use Rattle.spec_http_server.specs.ConnectionExamples.{pods}
-use Rattle.spec_http_server.specs.Connections.{Asks}
-use Rattle.spec_http_server.specs.HeadExamples.{head}
+use Rattle.spec_http.proofs.Halves.{half_a_head}
+use Rattle.spec_http.proofs.OnLiterals.{http_on_literals}
+use Rattle.spec_http.proofs.WellFormed.{well_formed}
+use Rattle.spec_http.specs.ConnectionExamples.{pods}
+use Rattle.spec_http.specs.Connections.{Asks}
+use Rattle.spec_http.specs.HeadExamples.{head}
 use Rattle.http_request_reader.specs.Arriving.{WaitsFor}
 use Rattle.http_connection.specs.Arriving.{IsArriving, Arrives, ReadsOn}
 use Rattle.http_connection.specs.declared.arriving.Arriving.{Arriving}

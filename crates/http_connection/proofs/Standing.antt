@@ -10,7 +10,7 @@ use Rattle.spec_api.specs.Refusals.{Refusal}
 use Rattle.spec_api.specs.Targets as targets
 use Rattle.spec_api.specs.Verbs.{Outcome}
 use Rattle.spec_api.specs.Versions.{Listed}
-use Rattle.spec_http_server.specs.Connections.{Asks}
+use Rattle.spec_http.specs.Connections.{Asks}
 use Rattle.selector.specs.Views.{view_of}
 use Rattle.http_watch.specs.Opened.{opening_of}
 use Rattle.http_watch.specs.Watches.{Look, Opens, opening_text}

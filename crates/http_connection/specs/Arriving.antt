@@ -5,8 +5,8 @@ use Rattle.spec_api.specs.Refusals.{Refusal, no_memory}
 use Rattle.spec_api.specs.Replies.{outcome}
 use Rattle.spec_api.specs.Verbs.{refused}
 use Rattle.request_decoding.specs.Asked.{asked_seen}
-use Rattle.spec_http_server.specs.Connections.{IsHalfAHead, Asks}
-use Rattle.spec_http_server.specs.Replies.{reply_text}
+use Rattle.spec_http.specs.Connections.{IsHalfAHead, Asks}
+use Rattle.spec_http.specs.Replies.{reply_text}
 use Rattle.http_request_reader.specs.Arriving.{WaitsFor}
 use Rattle.api.specs.Responding.{text_of, IsReplyTo}
 use Rattle.api.specs.declared.served.Served.TheVariants as served

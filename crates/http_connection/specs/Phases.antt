@@ -9,7 +9,7 @@ use Rattle.spec_api.specs.Targets as targets
 use Rattle.spec_api.specs.Verbs.{Outcome}
 use Rattle.spec_api.specs.Versions.{Listed}
 use Rattle.request_decoding.specs.Asked.{asked_seen}
-use Rattle.spec_http_server.specs.Connections.{Asks}
+use Rattle.spec_http.specs.Connections.{Asks}
 use Rattle.selector.specs.Views.{view_of}
 use Rattle.http_watch.specs.Watches.{Look, Opening}
 use Rattle.http_watch.specs.declared.standing.WatchStanding.{WatchStanding}

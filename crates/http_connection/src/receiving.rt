@@ -1,6 +1,6 @@
 //! Requests, as their bytes come.
 ghost use Rattle.std.specs.Prelude.{◌≡◌, ℕ, List, ◌++◌, true, false, length};
-ghost use Rattle.spec_http_server.specs.Connections.{IsHalfAHead};
+ghost use Rattle.spec_http.specs.Connections.{IsHalfAHead};
 ghost use Rattle.http_request_reader.specs.Arriving.{WaitsFor};
 ghost use Rattle.api.specs.Responding.{text_of};
 ghost use Rattle.http_connection.specs.Arriving.{Arrives, Awaits, IsArriving, IsRefusal};

@@ -8,9 +8,9 @@ use Rattle.spec_api.specs.declared.refusals.Part.TheVariants as part
 use Rattle.spec_api.specs.Refusals.{Refusal, bad_request, no_such_path, method_not_allowed}
 use Rattle.spec_api.specs.Targets.{Route, route, path_of, names_namespace, is_allowed, query_for}
 use Rattle.spec_api.specs.Targets as queries
-use Rattle.spec_http_server.specs.Heads.{Head, stated_length, method_named}
-use Rattle.spec_http_server.specs.Checks as words
-use Rattle.spec_http_server.specs.Checks.{length_or_none, body_checked, query_checked, method_checked, path_checked, length_checked, checked}
+use Rattle.spec_http.specs.Heads.{Head, stated_length, method_named}
+use Rattle.spec_http.specs.Checks as words
+use Rattle.spec_http.specs.Checks.{length_or_none, body_checked, query_checked, method_checked, path_checked, length_checked, checked}
 use Rattle.object_keys.specs.Faults.{refusal_of}
 use Rattle.object_keys.specs.declared.fault.Fault.{Fault}
 use Rattle.http_request_head.specs.declared.body_length.BodyLength.{BodyLength}

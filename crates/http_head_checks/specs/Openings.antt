@@ -1,9 +1,9 @@
 -- What heads ask, as connections have it.
 use Rattle.std.specs.Prelude.{◌≡◌, ◌⊎◌, ℕ, Option, Result, Ok, Err}
 use Rattle.spec_api.specs.Refusals.{Refusal}
-use Rattle.spec_http_server.specs.Heads.{Head}
-use Rattle.spec_http_server.specs.Checks as words
-use Rattle.spec_http_server.specs.Checks.{body_checked}
+use Rattle.spec_http.specs.Heads.{Head}
+use Rattle.spec_http.specs.Checks as words
+use Rattle.spec_http.specs.Checks.{body_checked}
 use Rattle.object_keys.specs.Faults.{refusal_of}
 use Rattle.object_keys.specs.declared.fault.Fault.{Fault}
 use Rattle.object_keys.specs.declared.fault.Fault.TheVariants as fault

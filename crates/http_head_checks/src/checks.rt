@@ -1,10 +1,10 @@
 //! The checks of a head.
 ghost use Rattle.std.specs.Prelude.{◌≡◌, ℕ, Option, Some, ◌&&◌, not, is_some, map, codes};
 ghost use Rattle.spec_api.specs.Targets.{Route, route, path_of, query_for};
-ghost use Rattle.spec_http_server.specs.Heads as heads;
-ghost use Rattle.spec_http_server.specs.Heads.{values_of, first_type};
-ghost use Rattle.spec_http_server.specs.Checks.{length_or_none, query_checked, path_checked, checked};
-ghost use Rattle.spec_http_server.specs.Checks as words;
+ghost use Rattle.spec_http.specs.Heads as heads;
+ghost use Rattle.spec_http.specs.Heads.{values_of, first_type};
+ghost use Rattle.spec_http.specs.Checks.{length_or_none, query_checked, path_checked, checked};
+ghost use Rattle.spec_http.specs.Checks as words;
 ghost use Rattle.http_request_head.specs.Fields.{field_seen, IsLength};
 ghost use Rattle.http_request_head.specs.RequestHeads.{head_seen};
 ghost use Rattle.request_parts.specs.Collected.{read_seen};

@@ -6,8 +6,8 @@ use Rattle.std.specs.Prelude.{All}
 use Rattle.std.proofs.lemmas.Grind.{flat_map-append}
 use Rattle.httparse.specs.Grammar.{LineEnd, crlf, lf, print_end, Field, IsField, print_field, RequestHead, IsRequestHead, print_request, HasNoRequest, MayBecomeRequest}
 use Rattle.httparse.specs.Spans.{RequestExceeds}
-use Rattle.spec_http_server.specs.Connections.{longest_head, most_fields, IsHeadTooLarge, IsHalfAHead}
-use Rattle.spec_http_server.proofs.Fields.{started, lines_of, started_append, written_as, many_exceed, exceeding_start}
+use Rattle.spec_http.specs.Connections.{longest_head, most_fields, IsHeadTooLarge, IsHalfAHead}
+use Rattle.spec_http.proofs.Fields.{started, lines_of, started_append, written_as, many_exceed, exceeding_start}
 use Rattle.http_request_head.specs.FieldLines.{line_ends}
 use Rattle.http_request_head.proofs.Ends.{ends_append, ends_more, started_ends, over_fields, in_target}
 

@@ -5,7 +5,7 @@ use Rattle.std.proofs.lemmas.Bool.{ne_eqb}
 use Rattle.std.proofs.lemmas.List.Elements.{All-head, All-tail}
 use Rattle.httparse.specs.Grammar.{AllPass, is_token_byte, is_uri_byte, is_value_byte, LineEnd, crlf, lf, print_end, print_blank, print_version, Field, IsField, print_field, RequestHead, IsRequestHead, EndsInTarget}
 use Rattle.httparse.proofs.PieceLemmas.{print_field-append}
-use Rattle.spec_http_server.proofs.Fields.{started}
+use Rattle.spec_http.proofs.Fields.{started}
 use Rattle.http_request_head.specs.FieldLines.{line_ends}
 
 false-true : false ≡ true → ⊥

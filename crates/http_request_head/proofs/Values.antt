@@ -2,7 +2,7 @@
 use Rattle.std.proofs.Common.{◌≡◌, ◌<◌, ℕ, ◌+◌, List, ◌∷◌, Bool, true, false, cond, length, map, drop, slice_index_or, sym, ap, ◌∙◌, arith}
 use Rattle.std.proofs.lemmas.List.{at_drop_more}
 use Rattle.std.specs.Str.{str_eq_ignore_ascii_case}
-use Rattle.spec_http_server.specs.Heads.{values_of}
+use Rattle.spec_http.specs.Heads.{values_of}
 use Rattle.http_request_head.specs.declared.field.HeaderField.{HeaderField}
 use Rattle.http_request_head.specs.Fields.{field_seen}
 

@@ -7,8 +7,8 @@ use Rattle.httparse.specs.declared.spans.RequestSpans.{RequestSpans}
 use Rattle.httparse.specs.Grammar.{RequestHead, ReadsRequest, NeverHasRequest, HasNoRequest}
 use Rattle.httparse.specs.Spans.{IsRequestAt}
 use Rattle.httparse.proofs.GrammarLemmas.{request_unique, ReadsRequest-append}
-use Rattle.spec_http_server.specs.Connections.{longest_head, IsWithinLimits, IsHeadTooLarge, Asks}
-use Rattle.spec_http_server.proofs.Staying.{never_after, too_large_after}
+use Rattle.spec_http.specs.Connections.{longest_head, IsWithinLimits, IsHeadTooLarge, Asks}
+use Rattle.spec_http.proofs.Staying.{never_after, too_large_after}
 use Rattle.http_request_head.specs.Laws.{FoundHeadsAsk}
 use Rattle.http_request_head.specs.Reading.{Reads}
 use Rattle.http_request_head.specs.declared.found.FoundHead.TheVariants as found

@@ -1,7 +1,7 @@
 -- Fields, and what they state of a body's length, in the words of connections.
 use Rattle.std.specs.Prelude.{◌≡◌, ◌≤◌, ◌<◌, ℕ, Option, Some, None}
 use Rattle.spec_api.specs.Targets.{longest_body}
-use Rattle.spec_http_server.specs.Heads as words
+use Rattle.spec_http.specs.Heads as words
 use Rattle.http_request_head.specs.declared.field.HeaderField.{HeaderField}
 use Rattle.http_request_head.specs.declared.body_length.BodyLength.{BodyLength}
 use Rattle.http_request_head.specs.declared.body_length.BodyLength.TheVariants as kind

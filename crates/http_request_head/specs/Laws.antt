@@ -5,9 +5,9 @@ use Rattle.httparse.specs.Grammar.{RequestHead}
 use Rattle.httparse.specs.Spans.{IsRequestAt}
 use Rattle.spec_api.specs.declared.refusals.Part.TheVariants as part
 use Rattle.spec_api.specs.Refusals.{bad_request, too_large}
-use Rattle.spec_http_server.specs.Heads.{head_of}
-use Rattle.spec_http_server.specs.Checks.{checked}
-use Rattle.spec_http_server.specs.Connections.{asked_after, Asks}
+use Rattle.spec_http.specs.Heads.{head_of}
+use Rattle.spec_http.specs.Checks.{checked}
+use Rattle.spec_http.specs.Connections.{asked_after, Asks}
 use Rattle.http_request_head.specs.Reading.{IsFound}
 use Rattle.http_request_head.specs.declared.found.FoundHead.{FoundHead}
 use Rattle.http_request_head.specs.declared.found.FoundHead.TheVariants as found

@@ -4,7 +4,7 @@ use Rattle.std.specs.Io.KnownBytes.{Consumes}
 use Rattle.httparse.specs.declared.spans.HeaderSpan.{HeaderSpan}
 use Rattle.httparse.specs.Grammar.{RequestHead, NeverHasRequest}
 use Rattle.httparse.specs.Spans.{IsRequestAt, IsRequestWithin}
-use Rattle.spec_http_server.specs.Connections.{IsWithinLimits, IsHeadTooLarge, IsHalfAHead}
+use Rattle.spec_http.specs.Connections.{IsWithinLimits, IsHeadTooLarge, IsHalfAHead}
 use Rattle.http_request_head.specs.declared.fault.ReadFault.{ReadFault}
 use Rattle.http_request_head.specs.declared.fault.ReadFault.TheVariants as fault
 use Rattle.http_request_head.specs.declared.found.FoundHead.{FoundHead}

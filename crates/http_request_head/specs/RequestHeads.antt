@@ -1,6 +1,6 @@
 -- Heads in the words of connections.
 use Rattle.std.specs.Prelude.{map}
-use Rattle.spec_http_server.specs.Heads as words
+use Rattle.spec_http.specs.Heads as words
 use Rattle.http_request_head.specs.Fields.{field_seen}
 use Rattle.http_request_head.specs.declared.request_head.RequestHead.{RequestHead}
 

@@ -2,7 +2,7 @@
 ghost use Rattle.std.specs.Prelude.{◌≡◌, ◌≤◌, ◌<◌, ◌^◌, IfSome, map, true, None, IsTrue, codes};
 ghost use Rattle.std.specs.Str.Parse.{digits_value};
 ghost use Rattle.spec_api.specs.Targets.{longest_body};
-ghost use Rattle.spec_http_server.specs.Heads.{values_of, is_number, one_number, length_in};
+ghost use Rattle.spec_http.specs.Heads.{values_of, is_number, one_number, length_in};
 ghost use Rattle.http_request_head.specs.Fields.{field_seen, IsLength};
 
 use crate::field::{HeaderField, count, first_value};

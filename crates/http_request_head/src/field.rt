@@ -1,7 +1,7 @@
 //! The fields of a head.
 ghost use Rattle.std.specs.Prelude.{◌≡◌, ◌∷◌, [], ℕ, List, MatchOption, map, length, nat_lt, codes};
 ghost use Rattle.std.specs.Str.{str_eq_ignore_ascii_case};
-ghost use Rattle.spec_http_server.specs.Heads.{values_of};
+ghost use Rattle.spec_http.specs.Heads.{values_of};
 ghost use Rattle.http_request_head.specs.Fields.{field_seen};
 
 /// A field: a name, and a value without the white space around it (RFC 9112, HeaderField Syntax).

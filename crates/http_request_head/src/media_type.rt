@@ -3,7 +3,7 @@ ghost use Rattle.std.specs.Prelude.{◌≡◌, MatchOption, Some, None, map, rev
 ghost use Rattle.std.specs.List.{before_first};
 ghost use Rattle.std.specs.Str.{str_eq_ignore_ascii_case};
 ghost use Rattle.httparse.specs.Grammar.{is_ows, skip_ows, trim_ows};
-ghost use Rattle.spec_http_server.specs.Heads.{values_of, without_parameters, first_type};
+ghost use Rattle.spec_http.specs.Heads.{values_of, without_parameters, first_type};
 ghost use Rattle.http_request_head.specs.Fields.{field_seen};
 
 use crate::field::{HeaderField, first_value};

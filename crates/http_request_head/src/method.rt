@@ -1,6 +1,6 @@
 //! Methods by their names.
 ghost use Rattle.std.specs.Prelude.{◌≡◌};
-ghost use Rattle.spec_http_server.specs.Heads.{method_named};
+ghost use Rattle.spec_http.specs.Heads.{method_named};
 
 use spec_api::methods::Method;
 

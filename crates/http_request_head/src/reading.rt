@@ -3,7 +3,7 @@ ghost use Rattle.std.specs.Prelude.{◌≡◌, ◌≤◌, ◌<◌, ◌++◌, ℕ
 ghost use Rattle.std.specs.Io.KnownBytes.{Consumes, Keeps, IsAtEnd};
 ghost use Rattle.httparse.specs.Grammar.{HasNoRequest, MayBecomeRequest};
 ghost use Rattle.chunked.specs.Devices.{device_of, has_failed};
-ghost use Rattle.spec_http_server.specs.Connections.{longest_head, most_fields};
+ghost use Rattle.spec_http.specs.Connections.{longest_head, most_fields};
 ghost use Rattle.http_request_head.specs.Reading.{IsFound, Reads, IsWatched};
 ghost use Rattle.http_request_head.specs.declared.fault.ReadFault.TheVariants as fault;
 ghost use Rattle.http_request_head.specs.declared.found.FoundHead.TheVariants as found;

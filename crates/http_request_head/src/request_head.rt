@@ -2,7 +2,7 @@
 ghost use Rattle.std.specs.Prelude.{◌≡◌, IfOk, map, length, All};
 ghost use Rattle.httparse.specs.Spans.{IsRequestWithin, IsRequestAt, IsRequestOf, span_bytes, header_bytes, IsHeaderWithin};
 ghost use Rattle.httparse.specs.Grammar as grammar;
-ghost use Rattle.spec_http_server.specs.Heads.{head_of};
+ghost use Rattle.spec_http.specs.Heads.{head_of};
 ghost use Rattle.http_request_head.specs.Fields.{field_seen};
 ghost use Rattle.http_request_head.specs.RequestHeads.{head_seen};
 

@@ -9,9 +9,9 @@ use Rattle.httparse.specs.Grammar.{RequestHead, ReadsRequest, HasNoRequest, prin
 use Rattle.httparse.proofs.GrammarLemmas.{request_unique, ReadsRequest-append, print_request-append}
 use Rattle.spec_api.specs.Refusals.{Refusal}
 use Rattle.spec_api.specs.Targets.{Asked}
-use Rattle.spec_http_server.specs.Heads.{head_of}
-use Rattle.spec_http_server.specs.Checks.{Opening, checked}
-use Rattle.spec_http_server.specs.Connections.{longest_head, asked_with_body, asked_after}
+use Rattle.spec_http.specs.Heads.{head_of}
+use Rattle.spec_http.specs.Checks.{Opening, checked}
+use Rattle.spec_http.specs.Connections.{longest_head, asked_with_body, asked_after}
 use Rattle.http_request_head.specs.Reading.{IsFound, Reads}
 use Rattle.http_request_head.specs.declared.fault.ReadFault.{ReadFault}
 use Rattle.http_request_head.specs.declared.fault.ReadFault.TheVariants as fault

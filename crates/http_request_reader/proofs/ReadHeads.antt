@@ -5,8 +5,8 @@ use Rattle.std.specs.Io.KnownBytes.{Consumes}
 use Rattle.std.proofs.KnownBytes.{Consumes-nil}
 use Rattle.spec_api.specs.Refusals.{Refusal}
 use Rattle.spec_api.specs.Targets as targets
-use Rattle.spec_http_server.specs.Checks.{Opening}
-use Rattle.spec_http_server.specs.Connections.{asked_with_body}
+use Rattle.spec_http.specs.Checks.{Opening}
+use Rattle.spec_http.specs.Connections.{asked_with_body}
 use Rattle.object_keys.specs.Faults.{refusal_of}
 use Rattle.object_keys.specs.declared.fault.Fault.{Fault}
 use Rattle.object_keys.specs.declared.fault.Fault.TheVariants as fault

@@ -8,9 +8,9 @@ use Rattle.httparse.specs.Spans.{IsRequestAt}
 use Rattle.httparse.specs.Grammar.{RequestHead}
 use Rattle.spec_api.specs.declared.refusals.Part.TheVariants as part
 use Rattle.spec_api.specs.Refusals.{bad_request, too_large}
-use Rattle.spec_http_server.specs.Heads.{head_of}
-use Rattle.spec_http_server.specs.Checks.{checked}
-use Rattle.spec_http_server.specs.Connections.{longest_head, asked_after, Asks}
+use Rattle.spec_http.specs.Heads.{head_of}
+use Rattle.spec_http.specs.Checks.{checked}
+use Rattle.spec_http.specs.Connections.{longest_head, asked_after, Asks}
 use Rattle.http_request_head.proofs.Wholes.{found_asks}
 use Rattle.http_request_head.specs.Reading.{IsFound}
 use Rattle.http_request_head.specs.declared.fault.ReadFault.{ReadFault}

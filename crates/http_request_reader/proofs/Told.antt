@@ -9,10 +9,10 @@ use Rattle.httparse.specs.Spans.{IsRequestAt}
 use Rattle.httparse.specs.Grammar.{RequestHead}
 use Rattle.spec_api.specs.Refusals.{Refusal}
 use Rattle.spec_api.specs.Targets.{Asked, asked}
-use Rattle.spec_http_server.specs.Heads.{head_of}
-use Rattle.spec_http_server.specs.Checks.{Opening, checked}
-use Rattle.spec_http_server.specs.Connections.{asked_with_body, asked_after, Asks}
-use Rattle.spec_http_server.proofs.Staying.{whole_stays}
+use Rattle.spec_http.specs.Heads.{head_of}
+use Rattle.spec_http.specs.Checks.{Opening, checked}
+use Rattle.spec_http.specs.Connections.{asked_with_body, asked_after, Asks}
+use Rattle.spec_http.proofs.Staying.{whole_stays}
 use Rattle.http_request_head.proofs.Wholes.{found_asks}
 use Rattle.http_request_head.specs.Reading.{IsFound, Reads}
 use Rattle.http_request_head.specs.declared.fault.ReadFault.{ReadFault}

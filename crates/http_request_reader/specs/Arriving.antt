@@ -1,8 +1,8 @@
 -- What is asked by bytes that have come so far.
 use Rattle.std.specs.Prelude.{◌≡◌, ◌<◌, ◌+◌, ℕ, List, ◌++◌, drop, length, None, Result, Ok, Err, ⊤}
 use Rattle.spec_api.specs.Refusals.{Refusal}
-use Rattle.spec_http_server.specs.Checks.{Opening}
-use Rattle.spec_http_server.specs.Connections.{asked_after, Asks}
+use Rattle.spec_http.specs.Checks.{Opening}
+use Rattle.spec_http.specs.Connections.{asked_after, Asks}
 use Rattle.object_keys.specs.declared.fault.Fault.TheVariants.{NoMemory}
 use Rattle.http_request_head.specs.declared.fault.ReadFault.{ReadFault}
 use Rattle.http_request_head.specs.declared.fault.ReadFault.TheVariants as fault

@@ -4,9 +4,9 @@ use Rattle.std.specs.Io.KnownBytes.{Consumes, IsAtEnd}
 use Rattle.httparse.specs.Grammar.{RequestHead, ReadsRequest}
 use Rattle.spec_api.specs.Refusals.{Refusal}
 use Rattle.spec_api.specs.Targets as targets
-use Rattle.spec_http_server.specs.Heads.{head_of}
-use Rattle.spec_http_server.specs.Checks.{Opening, checked}
-use Rattle.spec_http_server.specs.Connections.{longest_head, asked_with_body, asked_after, Asks}
+use Rattle.spec_http.specs.Heads.{head_of}
+use Rattle.spec_http.specs.Checks.{Opening, checked}
+use Rattle.spec_http.specs.Connections.{longest_head, asked_with_body, asked_after, Asks}
 use Rattle.object_keys.specs.Faults.{refusal_of}
 use Rattle.request_decoding.specs.Asked.{asked_seen}
 use Rattle.http_request_head.specs.declared.fault.ReadFault.{ReadFault}

@@ -2,9 +2,9 @@
 ghost use Rattle.std.specs.Prelude.{◌≡◌, ◌≤◌, IfOk, length, take, Ok};
 ghost use Rattle.httparse.specs.Grammar as grammar;
 ghost use Rattle.httparse.specs.Spans.{IsRequestAt};
-ghost use Rattle.spec_http_server.specs.Heads.{head_of};
-ghost use Rattle.spec_http_server.specs.Checks.{checked};
-ghost use Rattle.spec_http_server.specs.Connections.{longest_head};
+ghost use Rattle.spec_http.specs.Heads.{head_of};
+ghost use Rattle.spec_http.specs.Checks.{checked};
+ghost use Rattle.spec_http.specs.Connections.{longest_head};
 ghost use Rattle.http_request_head.specs.Reading.{IsFound};
 ghost use Rattle.http_request_head.specs.declared.found.FoundHead.TheVariants.{Whole};
 ghost use Rattle.http_head_checks.specs.Openings.{opening_seen};

@@ -2,8 +2,8 @@
 ghost use Rattle.std.specs.Prelude.{◌≡◌, ◌≤◌, IfOk, length, drop, true, false, Ok, Err};
 ghost use Rattle.httparse.specs.Grammar as grammar;
 ghost use Rattle.httparse.specs.Spans.{IsRequestAt};
-ghost use Rattle.spec_http_server.specs.Heads.{head_of};
-ghost use Rattle.spec_http_server.specs.Checks.{checked};
+ghost use Rattle.spec_http.specs.Heads.{head_of};
+ghost use Rattle.spec_http.specs.Checks.{checked};
 ghost use Rattle.chunked.specs.Devices.{device_of, has_failed};
 ghost use Rattle.object_keys.specs.declared.fault.Fault.TheVariants.{NoMemory};
 ghost use Rattle.http_request_head.specs.Reading.{IsFound, IsWatched};

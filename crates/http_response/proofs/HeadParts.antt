@@ -1,8 +1,8 @@
 -- The head of a reply, part by part.
 use Rattle.std.proofs.Common.{◌≡◌, ℕ, List, ◌++◌, codes, decimal, ◌∙◌, append_assoc}
 use Rattle.chunked.specs.Bodies.{crlf}
-use Rattle.spec_http_server.proofs.OnLiterals.{http_on_literals}
-use Rattle.spec_http_server.specs.Replies.{phrase, head_text}
+use Rattle.spec_http.proofs.OnLiterals.{http_on_literals}
+use Rattle.spec_http.specs.Replies.{phrase, head_text}
 
 -- the first line up to the code, up to the blank after it, and up to its end
 abbrev pub numbered : ℕ → List ℕ

@@ -1,7 +1,7 @@
 //! What is always the same, and takes no memory.
 ghost use Rattle.std.specs.Prelude.{◌≡◌};
 ghost use Rattle.chunked.specs.Bodies.{last_chunk};
-ghost use Rattle.spec_http_server.specs.Replies.{watch_head, reply_text};
+ghost use Rattle.spec_http.specs.Replies.{watch_head, reply_text};
 ghost use Rattle.spec_api.specs.Replies.{outcome};
 ghost use Rattle.spec_api.specs.Refusals.{no_memory};
 ghost use Rattle.spec_api.specs.Verbs.{refused};

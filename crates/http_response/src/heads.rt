@@ -1,6 +1,6 @@
 //! Heads of replies.
 ghost use Rattle.std.specs.Prelude.{◌≡◌, ◌++◌, ◌∷◌, OnOk, codes, decimal};
-ghost use Rattle.spec_http_server.specs.Replies.{line, phrase, head_text};
+ghost use Rattle.spec_http.specs.Replies.{line, phrase, head_text};
 
 use std::alloc::{AllocError, Global};
 

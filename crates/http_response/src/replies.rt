@@ -1,6 +1,6 @@
 //! Replies whose body is known.
 ghost use Rattle.std.specs.Prelude.{◌≡◌, IfOk};
-ghost use Rattle.spec_http_server.specs.Replies.{response_text, reply_text};
+ghost use Rattle.spec_http.specs.Replies.{response_text, reply_text};
 ghost use Rattle.spec_api.specs.Replies.{outcome};
 ghost use Rattle.spec_api.specs.Verbs.{refused};
 ghost use Rattle.object_keys.specs.Faults.{refusal_of};

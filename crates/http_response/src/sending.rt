@@ -1,7 +1,7 @@
 //! Replies, sent.
 ghost use Rattle.std.specs.Prelude.{◌++◌, codes, decimal, length};
 ghost use Rattle.chunked.specs.Writing.{WritesInPlace};
-ghost use Rattle.spec_http_server.specs.Replies.{head_text, phrase, response_text};
+ghost use Rattle.spec_http.specs.Replies.{head_text, phrase, response_text};
 
 use crate::heads::phrase;
 use crate::replies::response;

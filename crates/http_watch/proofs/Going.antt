@@ -8,7 +8,7 @@ use Rattle.spec_api.specs.WatchReplies.{told_lines}
 use Rattle.chunked.specs.Bodies.{last_chunk}
 use Rattle.chunked.specs.Devices.{AppendsBeginning, device_of, has_failed}
 use Rattle.chunked.specs.declared.watched.Watched as device
-use Rattle.spec_http_server.specs.Replies.{frames_text}
+use Rattle.spec_http.specs.Replies.{frames_text}
 use Rattle.http_watch.specs.declared.fault.Cut.{Cut}
 use Rattle.http_watch.specs.declared.fault.Cut.TheVariants as cut
 use Rattle.http_watch.specs.declared.standing.WatchStanding.{WatchStanding}

@@ -8,7 +8,7 @@ use Rattle.spec_api.specs.History.{Entries}
 use Rattle.spec_api.specs.Streams.{Line, event, frame_of, added_lines}
 use Rattle.spec_api.specs.WatchReplies.{opening_lines, closing_lines}
 use Rattle.chunked.specs.Bodies.{chunk_text}
-use Rattle.spec_http_server.specs.Replies.{frames_text}
+use Rattle.spec_http.specs.Replies.{frames_text}
 use Rattle.http_response.specs.Frames.{change_frames, object_frames}
 use Rattle.revisions.specs.Watches.{last_bookmark}
 use Rattle.http_watch.specs.FirstFrames.{first_frames, member_frames}

@@ -5,7 +5,7 @@ use Rattle.spec_api.specs.declared.kinds.Kind.{Kind}
 use Rattle.spec_api.specs.History.{Entries}
 use Rattle.spec_api.specs.Keys.{Key}
 use Rattle.spec_api.specs.WatchReplies.{closing_lines}
-use Rattle.spec_http_server.specs.Replies.{frames_text}
+use Rattle.spec_http.specs.Replies.{frames_text}
 use Rattle.http_response.specs.Frames.{object_frames}
 
 -- those of members

@@ -11,7 +11,7 @@ use Rattle.spec_api.specs.Streams.{Line, added_lines}
 use Rattle.spec_api.specs.Versions.{Listed, Watched}
 use Rattle.spec_api.specs.WatchReplies.{told_lines, opening_lines}
 use Rattle.chunked.specs.Bodies.{chunk_text, last_chunk}
-use Rattle.spec_http_server.specs.Replies.{watch_head, frames_text}
+use Rattle.spec_http.specs.Replies.{watch_head, frames_text}
 
 -- a look gives changes, or is refused
 abbrev pub Look : Type 0

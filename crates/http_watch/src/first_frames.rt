@@ -1,7 +1,7 @@
 //! The frames of what is there as a watch begins, made as they are written.
 ghost use Rattle.std.specs.Prelude.{◌≡◌, ◌++◌, [], IfErr, IfNone, IfOk, IfSome, OnOk, length, nat_lt};
 ghost use Rattle.chunked.specs.Bodies.{chunk_text};
-ghost use Rattle.spec_http_server.specs.Replies.{frames_text};
+ghost use Rattle.spec_http.specs.Replies.{frames_text};
 ghost use Rattle.spec_api.specs.Frames.{frame_text};
 ghost use Rattle.spec_api.specs.WatchReplies.{closing_lines};
 ghost use Rattle.spec_api.specs.declared.frames.FrameKind.TheVariants.{Added};

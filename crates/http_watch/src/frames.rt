@@ -1,7 +1,7 @@
 //! The frames of what a watch is given, written.
 ghost use Rattle.std.specs.Prelude.{◌≡◌, ◌<◌, ◌++◌, IfOk, IfErr, OnOk, None, map, true};
 ghost use Rattle.chunked.specs.Bodies.{chunk_text};
-ghost use Rattle.spec_http_server.specs.Replies.{frames_text};
+ghost use Rattle.spec_http.specs.Replies.{frames_text};
 ghost use Rattle.spec_api.specs.Frames.{frame_text, error_frame};
 ghost use Rattle.spec_api.specs.Streams.{event};
 ghost use Rattle.spec_api.specs.WatchReplies.{told_lines};

@@ -1,6 +1,6 @@
 //! How a watch opens.
 ghost use Rattle.std.specs.Prelude.{◌≡◌, ◌++◌, IfOk, false, map};
-ghost use Rattle.spec_http_server.specs.Replies.{watch_head, frames_text};
+ghost use Rattle.spec_http.specs.Replies.{watch_head, frames_text};
 ghost use Rattle.spec_api.specs.Streams.{event};
 ghost use Rattle.revisions.specs.Watches.{watched_of, last_bookmark};
 ghost use Rattle.selector.specs.Views.{view_of};

@@ -13,20 +13,20 @@ use Rattle.spec_api.specs.declared.methods.Method.TheVariants.{Get, Post, Put, P
 use Rattle.spec_api.specs.Refusals.{Refusal, too_large}
 use Rattle.spec_api.specs.Targets.{Asked, read_request}
 use Rattle.chunked.specs.Bodies as bodies
-use Rattle.spec_http_server.specs.Replies.{line}
-use Rattle.spec_http_server.specs.Heads.{head_of, values_of, stated_length, length_in, media_type, has_transfer_coding, needs_length, takes_type, without_parameters, method_named}
-use Rattle.spec_http_server.specs.Checks.{Opening, checked}
-use Rattle.spec_http_server.specs.Connections.{longest_head, IsWithinLimits, asked_after, AsksOnly}
-use Rattle.spec_http_server.specs.Laws.{IsProper}
-use Rattle.spec_http_server.proofs.OnLiterals.{http_on_literals}
-use Rattle.spec_http_server.proofs.Fields.{started, lines_of, written_as}
-use Rattle.spec_http_server.proofs.Halves.{heads_ask, half_a_head, half_a_body, large_heads}
-use Rattle.spec_http_server.proofs.Proper.{proper_read}
-use Rattle.spec_http_client.specs.Requests as words
-use Rattle.spec_http_client.specs.RequestLaws.{IsWritable, WrittenRequestsAreRead, LongRequestsAreRefused, CutRequestsAskNothing}
-use Rattle.spec_http_client.proofs.Checked.{body_stated}
-use Rattle.spec_http_client.proofs.Numerals.{trimmed, stated, in_value}
-use Rattle.spec_http_client.proofs.Printed.{field, length_field, field_from}
+use Rattle.spec_http.specs.Replies.{line}
+use Rattle.spec_http.specs.Heads.{head_of, values_of, stated_length, length_in, media_type, has_transfer_coding, needs_length, takes_type, without_parameters, method_named}
+use Rattle.spec_http.specs.Checks.{Opening, checked}
+use Rattle.spec_http.specs.Connections.{longest_head, IsWithinLimits, asked_after, AsksOnly}
+use Rattle.spec_http.specs.Laws.{IsProper}
+use Rattle.spec_http.proofs.OnLiterals.{http_on_literals}
+use Rattle.spec_http.proofs.Fields.{started, lines_of, written_as}
+use Rattle.spec_http.proofs.Halves.{heads_ask, half_a_head, half_a_body, large_heads}
+use Rattle.spec_http.proofs.Proper.{proper_read}
+use Rattle.spec_http.specs.Requests as words
+use Rattle.spec_http.specs.RequestLaws.{IsWritable, WrittenRequestsAreRead, LongRequestsAreRefused, CutRequestsAskNothing}
+use Rattle.spec_http.proofs.Checked.{body_stated}
+use Rattle.spec_http.proofs.Numerals.{trimmed, stated, in_value}
+use Rattle.spec_http.proofs.Printed.{field, length_field, field_from}
 
 -- the head that is written, in the words of the grammar
 abbrev head_with : List ℕ → List ℕ → List ℕ → List ℕ → List ℕ → RequestHead

@@ -5,8 +5,8 @@ use Rattle.spec_api.specs.declared.refusals.Part.{Part}
 use Rattle.spec_api.specs.declared.refusals.Part.TheVariants as part
 use Rattle.spec_api.specs.Refusals.{Refusal, bad_request, method_not_allowed, length_required, too_large, unsupported_media_type}
 use Rattle.spec_api.specs.Targets.{Query, Route, route, path_of, names_namespace, is_allowed, query_for}
-use Rattle.spec_http_server.specs.Heads.{Head, stated_length, method_named}
-use Rattle.spec_http_server.specs.Checks.{Opening, length_or_none, body_checked, query_checked, method_checked, path_checked, length_checked, checked}
+use Rattle.spec_http.specs.Heads.{Head, stated_length, method_named}
+use Rattle.spec_http.specs.Checks.{Opening, length_or_none, body_checked, query_checked, method_checked, path_checked, length_checked, checked}
 
 unless : (b : Bool) (f : Refusal) (r : Result Opening Refusal) (o : Opening) → cond b (Err f) r ≡ Ok o → r ≡ Ok o
 unless true f r o e = absurd (cc)

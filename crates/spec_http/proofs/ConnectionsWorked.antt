@@ -3,14 +3,14 @@ use Rattle.std.proofs.Common.{◌≡◌, ◌≤◌, ◌<◌, ℕ, List, [], ◌�
 use Rattle.httparse.specs.Grammar.{RequestHead, print_request}
 use Rattle.spec_api.specs.Refusals.{Refusal}
 use Rattle.spec_api.specs.Targets.{Asked}
-use Rattle.spec_http_server.specs.Heads.{head_of}
-use Rattle.spec_http_server.specs.Checks.{checked}
-use Rattle.spec_http_server.specs.Connections.{IsWithinLimits, asked_after, AsksOnly}
-use Rattle.spec_http_server.specs.HeadExamples.{head, all}
-use Rattle.spec_http_server.specs.ConnectionExamples.{pods, HeadsEnd, BodiesAreWaitedFor}
-use Rattle.spec_http_server.proofs.OnLiterals.{http_on_literals}
-use Rattle.spec_http_server.proofs.WellFormed.{is_well_formed, well_formed}
-use Rattle.spec_http_server.proofs.Halves.{heads_ask, half_a_head}
+use Rattle.spec_http.specs.Heads.{head_of}
+use Rattle.spec_http.specs.Checks.{checked}
+use Rattle.spec_http.specs.Connections.{IsWithinLimits, asked_after, AsksOnly}
+use Rattle.spec_http.specs.HeadExamples.{head, all}
+use Rattle.spec_http.specs.ConnectionExamples.{pods, HeadsEnd, BodiesAreWaitedFor}
+use Rattle.spec_http.proofs.OnLiterals.{http_on_literals}
+use Rattle.spec_http.proofs.WellFormed.{is_well_formed, well_formed}
+use Rattle.spec_http.proofs.Halves.{heads_ask, half_a_head}
 
 -- what is asked by bytes that are a head and what follows it
 pub asked_by : (h : RequestHead) (rest bytes : List ℕ) (said : Option (Result Asked Refusal)) → is_well_formed h ≡ true → IsWithinLimits h → bytes ≡ print_request h ++ rest

@@ -7,12 +7,12 @@ use Rattle.httparse.specs.Spans.{RequestExceeds}
 use Rattle.httparse.proofs.GrammarLemmas.{request_prefix_free}
 use Rattle.spec_api.specs.Refusals.{Refusal, bad_request, too_large}
 use Rattle.spec_api.specs.declared.refusals.Part.TheVariants as part
-use Rattle.spec_http_server.specs.Heads.{head_of}
-use Rattle.spec_http_server.specs.Checks.{Opening, checked}
-use Rattle.spec_http_server.specs.Connections.{longest_head, most_fields, IsHeadTooLarge, IsHalfAHead, asked_with_body, asked_after, AsksOnly}
-use Rattle.spec_http_server.specs.Laws.{HeadsAsk, HalfAHeadAsksNothing, HalfABodyAsksNothing, LargeHeadsAreRefused, ManyFieldsAreRefused, IllFormedHeadsAreRefused}
-use Rattle.spec_http_server.proofs.Fields.{started, lines_of, started_append, written_as, many_exceed, exceeds_overflows}
-use Rattle.spec_http_server.proofs.Meanings.{only, only_some}
+use Rattle.spec_http.specs.Heads.{head_of}
+use Rattle.spec_http.specs.Checks.{Opening, checked}
+use Rattle.spec_http.specs.Connections.{longest_head, most_fields, IsHeadTooLarge, IsHalfAHead, asked_with_body, asked_after, AsksOnly}
+use Rattle.spec_http.specs.Laws.{HeadsAsk, HalfAHeadAsksNothing, HalfABodyAsksNothing, LargeHeadsAreRefused, ManyFieldsAreRefused, IllFormedHeadsAreRefused}
+use Rattle.spec_http.proofs.Fields.{started, lines_of, started_append, written_as, many_exceed, exceeds_overflows}
+use Rattle.spec_http.proofs.Meanings.{only, only_some}
 
 -- what is whole stays whole with nothing after it
 alone : (h : RequestHead) (rest : List ℕ) → IsRequestHead h → ReadsRequest ((print_request h ++ rest) ++ []) h rest

@@ -8,3 +8,9 @@ pub mod Proper
 pub mod WellFormed
 pub mod ConnectionsWorked
 pub mod LimitsWorked
+pub mod Numerals
+pub mod Printed
+pub mod Read
+pub mod Checked
+pub mod Asked
+pub mod Pieces

@@ -2,12 +2,12 @@
 use Rattle.std.proofs.Common.{◌≡◌, ◌<◌, [], length, Some, Err, true, ◌⊎◌, inl, inr, refl, sym, subst, arith, append-nil}
 use Rattle.httparse.specs.Grammar.{RequestHead, print_request}
 use Rattle.spec_api.specs.Refusals.{too_large}
-use Rattle.spec_http_server.specs.Connections.{longest_head, most_fields, AsksOnly}
-use Rattle.spec_http_server.specs.ConnectionExamples.{long, many, LimitsAreExact}
-use Rattle.spec_http_server.proofs.OnLiterals.{http_on_literals}
-use Rattle.spec_http_server.proofs.WellFormed.{is_well_formed, well_formed}
-use Rattle.spec_http_server.proofs.ConnectionsWorked.{asked_by}
-use Rattle.spec_http_server.proofs.Halves.{large_heads}
+use Rattle.spec_http.specs.Connections.{longest_head, most_fields, AsksOnly}
+use Rattle.spec_http.specs.ConnectionExamples.{long, many, LimitsAreExact}
+use Rattle.spec_http.proofs.OnLiterals.{http_on_literals}
+use Rattle.spec_http.proofs.WellFormed.{is_well_formed, well_formed}
+use Rattle.spec_http.proofs.ConnectionsWorked.{asked_by}
+use Rattle.spec_http.proofs.Halves.{large_heads}
 
 too_large_by : (h : RequestHead) → is_well_formed h ≡ true → ((longest_head < length (print_request h)) ⊎ (most_fields < length h.fields)) → AsksOnly (print_request h) (Some (Err too_large))
 too_large_by h ok over = subst (λ b. AsksOnly b (Some (Err too_large))) (append-nil (print_request h)) (large_heads h [] (well_formed h ok) over)

@@ -5,10 +5,10 @@ use Rattle.httparse.specs.Grammar.{RequestHead, print_request, ReadsRequest, Nev
 use Rattle.httparse.proofs.GrammarLemmas.{request_unique}
 use Rattle.spec_api.specs.Refusals.{Refusal}
 use Rattle.spec_api.specs.Targets.{Asked}
-use Rattle.spec_http_server.specs.Heads.{head_of}
-use Rattle.spec_http_server.specs.Checks.{checked}
-use Rattle.spec_http_server.specs.Connections.{longest_head, most_fields, IsWithinLimits, IsHeadTooLarge, IsHalfAHead, AsksByHead, asked_after, Asks, AsksOnly}
-use Rattle.spec_http_server.proofs.Fields.{exceeds_overflows}
+use Rattle.spec_http.specs.Heads.{head_of}
+use Rattle.spec_http.specs.Checks.{checked}
+use Rattle.spec_http.specs.Connections.{longest_head, most_fields, IsWithinLimits, IsHeadTooLarge, IsHalfAHead, AsksByHead, asked_after, Asks, AsksOnly}
+use Rattle.spec_http.proofs.Fields.{exceeds_overflows}
 
 abbrev pub Said : Type 0
 Said = Option (Result Asked Refusal)

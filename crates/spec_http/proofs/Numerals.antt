@@ -11,7 +11,7 @@ use Rattle.std.proofs.lemmas.List.Sums.{AllPass-from_list_all}
 use Rattle.std.proofs.lemmas.Str.Parse.{digit_from_value}
 use Rattle.httparse.specs.Grammar.{AllPass, is_value_byte, is_ows, skip_ows, trim_ows}
 use Rattle.httparse.proofs.TrimLemmas.{AllPass-reverse, trim_ows_space}
-use Rattle.spec_http_server.specs.Heads.{is_number, one_number}
+use Rattle.spec_http.specs.Heads.{is_number, one_number}
 
 digit_passes : (c : ℕ) → IsInRange 48 57 c → is_ascii_digit c ≡ true
 digit_passes c r = search rules

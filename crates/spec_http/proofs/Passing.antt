@@ -10,10 +10,10 @@ use Rattle.spec_api.specs.declared.refusals.Part.{Part}
 use Rattle.spec_api.specs.Refusals.{Refusal, bad_request, method_not_allowed, length_required, too_large, unsupported_media_type}
 use Rattle.spec_api.specs.declared.refusals.Part.TheVariants as part
 use Rattle.spec_api.specs.Targets.{Query, Route, route, path_of, names_namespace, is_allowed, query_for, longest_body, is_too_long, asked, asked_at, decoded, read_request}
-use Rattle.spec_http_server.specs.Heads.{Head, head_of, stated_length, method_named}
-use Rattle.spec_http_server.specs.Checks.{Opening, length_or_none, body_checked, query_checked, method_checked, path_checked, length_checked}
-use Rattle.spec_http_server.specs.Connections.{asked_with_body}
-use Rattle.spec_http_server.specs.Laws.{RequestsAreRead}
+use Rattle.spec_http.specs.Heads.{Head, head_of, stated_length, method_named}
+use Rattle.spec_http.specs.Checks.{Opening, length_or_none, body_checked, query_checked, method_checked, path_checked, length_checked}
+use Rattle.spec_http.specs.Connections.{asked_with_body}
+use Rattle.spec_http.specs.Laws.{RequestsAreRead}
 
 -- a text is read as it is
 pub text_decoded : (t : List ℕ) → IsUtf8 t → decoded t ≡ t

@@ -9,9 +9,9 @@ use Rattle.chunked.specs.declared.place.BodyPlace.{BodyPlace}
 use Rattle.chunked.specs.declared.place.BodyPlace.TheVariants as place
 use Rattle.chunked.proofs.Bodies.{written}
 use Rattle.chunked.proofs.Runs.{read_as}
-use Rattle.spec_http_client.specs.Answers.{OpensWatch}
-use Rattle.spec_http_client.specs.Laws.{chunks_written, WatchesAreReadInPieces}
-use Rattle.spec_http_client.proofs.Read.{opens}
+use Rattle.spec_http.specs.Answers.{OpensWatch}
+use Rattle.spec_http.specs.ClientLaws.{chunks_written, WatchesAreReadInPieces}
+use Rattle.spec_http.proofs.Read.{opens}
 
 -- what follows the input stays
 followed : (more : List ℕ) (pieces : List (List ℕ)) (p q : BodyPlace) (input left : List ℕ) → ReadsPieces p input pieces q left → ReadsPieces p (input ++ more) pieces q (left ++ more)

@@ -5,11 +5,11 @@ use Rattle.std.proofs.lemmas.Bool.{ltb-true}
 use Rattle.std.proofs.lemmas.List.{length-append}
 use Rattle.std.proofs.lemmas.List.Sums.{AllPass-from_list_all}
 use Rattle.httparse.specs.Grammar.{crlf, AllPass, is_value_byte, is_token_byte, Field, IsField, ResponseHead, print_response, trim_ows}
-use Rattle.spec_http_server.specs.Heads.{values_of}
-use Rattle.spec_http_server.specs.Replies.{line, phrases, phrase_in, phrase}
+use Rattle.spec_http.specs.Heads.{values_of}
+use Rattle.spec_http.specs.Replies.{line, phrases, phrase_in, phrase}
 use Rattle.chunked.specs.Bodies as bodies
-use Rattle.spec_http_server.proofs.OnLiterals.{http_on_literals}
-use Rattle.spec_http_client.specs.Answers.{fields_of, transfer_codings}
+use Rattle.spec_http.proofs.OnLiterals.{http_on_literals}
+use Rattle.spec_http.specs.Answers.{fields_of, transfer_codings}
 
 abbrev pub field : List ℕ → List ℕ → Field
 field name raw = record { name = name; raw = raw; end = crlf }

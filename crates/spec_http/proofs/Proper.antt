@@ -6,11 +6,11 @@ use Rattle.spec_api.specs.declared.refusals.Part.{Part}
 use Rattle.spec_api.specs.declared.refusals.Part.TheVariants as part
 use Rattle.spec_api.specs.Refusals.{Refusal, bad_request, method_not_allowed, too_large}
 use Rattle.spec_api.specs.Targets.{Query, Route, Asked, route, path_of, names_namespace, is_allowed, query_for, longest_body, is_too_long, asked, asked_with, asked_at}
-use Rattle.spec_http_server.specs.Heads.{Head, head_of, stated_length, has_transfer_coding, media_type, needs_length, takes_type, method_named}
-use Rattle.spec_http_server.specs.Checks.{Opening, is_watch, length_or_none, body_checked, query_checked, method_checked, path_checked, length_checked, checked}
-use Rattle.spec_http_server.specs.Connections.{asked_after}
-use Rattle.spec_http_server.specs.Laws.{ProperRequestsAreRead}
-use Rattle.spec_http_server.proofs.Passing.{text_decoded, with_body}
+use Rattle.spec_http.specs.Heads.{Head, head_of, stated_length, has_transfer_coding, media_type, needs_length, takes_type, method_named}
+use Rattle.spec_http.specs.Checks.{Opening, is_watch, length_or_none, body_checked, query_checked, method_checked, path_checked, length_checked, checked}
+use Rattle.spec_http.specs.Connections.{asked_after}
+use Rattle.spec_http.specs.Laws.{ProperRequestsAreRead}
+use Rattle.spec_http.proofs.Passing.{text_decoded, with_body}
 
 -- a test that both make
 both : (b : Bool) (f : Refusal) (r : Result Opening Refusal) (a : Result Asked Refusal) (rest : List ℕ) → asked_after r rest ≡ Some a

@@ -11,14 +11,14 @@ use Rattle.httparse.specs.Grammar.{AllPass, is_token_byte, is_value_byte, Field,
 use Rattle.httparse.proofs.GrammarLemmas.{response_unique, ReadsResponse-append}
 use Rattle.chunked.specs.Reading.{longest_line}
 use Rattle.chunked.proofs.Bodies.{written}
-use Rattle.spec_http_server.specs.Heads.{length_in}
-use Rattle.spec_http_server.specs.Replies.{phrase, head_text, response_text, watch_head, frames_text}
+use Rattle.spec_http.specs.Heads.{length_in}
+use Rattle.spec_http.specs.Replies.{phrase, head_text, response_text, watch_head, frames_text}
 use Rattle.chunked.specs.Bodies.{last_chunk}
-use Rattle.spec_http_server.proofs.OnLiterals.{http_on_literals}
-use Rattle.spec_http_client.specs.Answers.{Replied, HasLength, IsWithinLimits, OpensWatch}
-use Rattle.spec_http_client.specs.Laws.{IsReply, OneReplyIsSaid, RepliesOpenNoWatch, WholeRepliesStay, WrittenRepliesAreRead, CutRepliesAreLost, WrittenWatchesAreRead}
-use Rattle.spec_http_client.proofs.Numerals.{trimmed, stated, in_value, are_digits, three_digits}
-use Rattle.spec_http_client.proofs.Printed.{field, head_with, length_field, printed, sizes, no_codings, lengths, phrase_passes, phrase_short, field_from}
+use Rattle.spec_http.proofs.OnLiterals.{http_on_literals}
+use Rattle.spec_http.specs.Answers.{Replied, HasLength, IsWithinLimits, OpensWatch}
+use Rattle.spec_http.specs.ClientLaws.{IsReply, OneReplyIsSaid, RepliesOpenNoWatch, WholeRepliesStay, WrittenRepliesAreRead, CutRepliesAreLost, WrittenWatchesAreRead}
+use Rattle.spec_http.proofs.Numerals.{trimmed, stated, in_value, are_digits, three_digits}
+use Rattle.spec_http.proofs.Printed.{field, head_with, length_field, printed, sizes, no_codings, lengths, phrase_passes, phrase_short, field_from}
 
 abbrev reply : ℕ → List ℕ → Replied
 reply c b = record { code = c; body = b }

@@ -6,10 +6,10 @@ use Rattle.httparse.specs.Grammar.{RequestHead, ReadsRequest, NeverHasRequest, H
 use Rattle.httparse.proofs.GrammarLemmas.{ReadsRequest-append}
 use Rattle.spec_api.specs.Refusals.{Refusal}
 use Rattle.spec_api.specs.Targets.{Asked, asked}
-use Rattle.spec_http_server.specs.Heads.{head_of}
-use Rattle.spec_http_server.specs.Checks.{Opening, checked}
-use Rattle.spec_http_server.specs.Connections.{longest_head, IsHeadTooLarge, asked_with_body, asked_after, Asks}
-use Rattle.spec_http_server.specs.Laws.{AskedStaysAsked}
+use Rattle.spec_http.specs.Heads.{head_of}
+use Rattle.spec_http.specs.Checks.{Opening, checked}
+use Rattle.spec_http.specs.Connections.{longest_head, IsHeadTooLarge, asked_with_body, asked_after, Asks}
+use Rattle.spec_http.specs.Laws.{AskedStaysAsked}
 
 -- ---- of a head
 

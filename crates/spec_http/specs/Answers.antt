@@ -4,8 +4,8 @@ use Rattle.std.specs.Str.{str_eq_ignore_ascii_case}
 use Rattle.httparse.specs.Grammar.{ResponseHead, print_response, ReadsResponse, status_code}
 use Rattle.httparse.specs.Spans.{name_and_value}
 use Rattle.chunked.specs.Bodies.{IsBody}
-use Rattle.spec_http_server.specs.Heads.{Field, values_of, length_in}
-use Rattle.spec_http_server.specs.Connections.{longest_head, most_fields}
+use Rattle.spec_http.specs.Heads.{Field, values_of, length_in}
+use Rattle.spec_http.specs.Connections.{longest_head, most_fields}
 
 -- a reply: its status code and its body
 pub record Replied : Type 0 where

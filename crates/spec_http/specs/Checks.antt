@@ -6,7 +6,7 @@ use Rattle.spec_api.specs.declared.refusals.Part.TheVariants as part
 use Rattle.spec_api.specs.ListQueries as collections
 use Rattle.spec_api.specs.Refusals.{Refusal, bad_request, no_such_path, method_not_allowed, length_required, too_large, unsupported_media_type}
 use Rattle.spec_api.specs.Targets.{Query, Route, route, path_of, names_namespace, is_allowed, query_for, longest_body}
-use Rattle.spec_http_server.specs.Heads.{Head, stated_length, has_transfer_coding, media_type, needs_length, takes_type, method_named}
+use Rattle.spec_http.specs.Heads.{Head, stated_length, has_transfer_coding, media_type, needs_length, takes_type, method_named}
 
 -- a method, a route, a query, and how many bytes the body has
 pub record Opening : Type 0 where

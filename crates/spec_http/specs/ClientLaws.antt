@@ -10,8 +10,8 @@ use Rattle.chunked.specs.declared.fault.ChunkFault.{ChunkFault}
 use Rattle.chunked.specs.declared.fault.ChunkFault.TheVariants as fault
 use Rattle.chunked.specs.declared.place.BodyPlace.{BodyPlace}
 use Rattle.chunked.specs.declared.place.BodyPlace.TheVariants as place
-use Rattle.spec_http_server.specs.Replies.{response_text, watch_head, watch_text}
-use Rattle.spec_http_client.specs.Answers.{Replied, Says, OpensWatch, IsWatchOf}
+use Rattle.spec_http.specs.Replies.{response_text, watch_head, watch_text}
+use Rattle.spec_http.specs.Answers.{Replied, Says, OpensWatch, IsWatchOf}
 
 -- a reply that a server can write: a status code of three digits (RFC 9110, Status Codes), and a body whose length is a number of 64 bits
 abbrev pub IsReply : Replied → Type 0

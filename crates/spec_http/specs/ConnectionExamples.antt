@@ -4,8 +4,8 @@ use Rattle.httparse.specs.Grammar.{RequestHead, print_request}
 use Rattle.spec_api.specs.declared.methods.Method.TheVariants.{Get, Post}
 use Rattle.spec_api.specs.Refusals.{too_large, length_required}
 use Rattle.spec_api.specs.Targets.{read_request}
-use Rattle.spec_http_server.specs.Connections.{AsksOnly}
-use Rattle.spec_http_server.specs.HeadExamples.{head, all}
+use Rattle.spec_http.specs.Connections.{AsksOnly}
+use Rattle.spec_http.specs.HeadExamples.{head, all}
 
 -- the path of a list
 abbrev pub pods : List ℕ

@@ -5,8 +5,8 @@ use Rattle.httparse.specs.Spans.{RequestExceeds}
 use Rattle.spec_api.specs.declared.refusals.Part.TheVariants as part
 use Rattle.spec_api.specs.Refusals.{Refusal, bad_request, too_large}
 use Rattle.spec_api.specs.Targets.{Asked, asked}
-use Rattle.spec_http_server.specs.Heads.{head_of}
-use Rattle.spec_http_server.specs.Checks.{Opening, checked}
+use Rattle.spec_http.specs.Heads.{head_of}
+use Rattle.spec_http.specs.Checks.{Opening, checked}
 
 -- the greatest length of a head, its empty line counted
 abbrev pub longest_head : ℕ

@@ -6,8 +6,8 @@ use Rattle.spec_api.specs.declared.kinds.Kind.TheVariants.{ConfigMap}
 use Rattle.spec_api.specs.declared.refusals.Part.TheVariants as part
 use Rattle.spec_api.specs.Refusals.{Refusal, bad_request, no_such_path, method_not_allowed, length_required, too_large, unsupported_media_type}
 use Rattle.spec_api.specs.Targets.{object_at}
-use Rattle.spec_http_server.specs.Heads.{head_of}
-use Rattle.spec_http_server.specs.Checks.{Opening, checked}
+use Rattle.spec_http.specs.Heads.{head_of}
+use Rattle.spec_http.specs.Checks.{Opening, checked}
 
 -- a head of HTTP/1.1 or 1.0 with these fields
 abbrev pub field : List ℕ × List ℕ → Field

@@ -5,9 +5,9 @@ use Rattle.spec_api.specs.declared.methods.Method.{Method}
 use Rattle.spec_api.specs.declared.refusals.Part.TheVariants as part
 use Rattle.spec_api.specs.Refusals.{Refusal, bad_request, too_large}
 use Rattle.spec_api.specs.Targets.{Asked, read_request}
-use Rattle.spec_http_server.specs.Heads.{head_of, stated_length, has_transfer_coding, media_type, needs_length, takes_type, method_named}
-use Rattle.spec_http_server.specs.Checks.{Opening, checked, length_or_none}
-use Rattle.spec_http_server.specs.Connections.{longest_head, most_fields, IsWithinLimits, IsHeadTooLarge, asked_with_body, asked_after, Asks, AsksOnly}
+use Rattle.spec_http.specs.Heads.{head_of, stated_length, has_transfer_coding, media_type, needs_length, takes_type, method_named}
+use Rattle.spec_http.specs.Checks.{Opening, checked, length_or_none}
+use Rattle.spec_http.specs.Connections.{longest_head, most_fields, IsWithinLimits, IsHeadTooLarge, asked_with_body, asked_after, Asks, AsksOnly}
 
 -- bytes ask one thing, but where no head can come of them and either a limit is passed too, or they end in a target
 abbrev pub OneThingIsAsked : Type 0

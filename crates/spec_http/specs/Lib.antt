@@ -7,3 +7,7 @@ pub mod Laws
 pub mod HeadExamples
 pub mod ReplyExamples
 pub mod ConnectionExamples
+pub mod Requests
+pub mod Answers
+pub mod ClientLaws
+pub mod RequestLaws

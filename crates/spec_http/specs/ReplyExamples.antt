@@ -6,11 +6,11 @@ use Rattle.spec_api.specs.declared.kinds.Kind.TheVariants.{ConfigMap}
 use Rattle.spec_api.specs.Replies.{Session, start, reply_for}
 use Rattle.spec_line_protocol.specs.Lines.{after_lines}
 use Rattle.spec_api.specs.Streams.{bookmark, initial_end}
-use Rattle.spec_http_server.specs.Heads.{head_of}
-use Rattle.spec_http_server.specs.Checks.{checked}
-use Rattle.spec_http_server.specs.Connections.{asked_after}
-use Rattle.spec_http_server.specs.HeadExamples.{head, all, one}
-use Rattle.spec_http_server.specs.Replies.{text_for, frames_text, phrases}
+use Rattle.spec_http.specs.Heads.{head_of}
+use Rattle.spec_http.specs.Checks.{checked}
+use Rattle.spec_http.specs.Connections.{asked_after}
+use Rattle.spec_http.specs.HeadExamples.{head, all, one}
+use Rattle.spec_http.specs.Replies.{text_for, frames_text, phrases}
 
 -- what is written in a session for a head and what follows it
 abbrev pub written_in : Session → RequestHead → List ℕ → List ℕ

@@ -5,9 +5,9 @@ use Rattle.httparse.specs.Grammar.{is_uri_byte, is_value_byte, trim_ows}
 use Rattle.spec_api.specs.declared.methods.Method.{Method}
 use Rattle.spec_api.specs.Refusals.{too_large}
 use Rattle.spec_api.specs.Targets.{Asked, read_request}
-use Rattle.spec_http_server.specs.Heads.{method_named, takes_type, without_parameters}
-use Rattle.spec_http_server.specs.Connections.{longest_head, AsksOnly}
-use Rattle.spec_http_client.specs.Requests.{request_head, request_text}
+use Rattle.spec_http.specs.Heads.{method_named, takes_type, without_parameters}
+use Rattle.spec_http.specs.Connections.{longest_head, AsksOnly}
+use Rattle.spec_http.specs.Requests.{request_head, request_text}
 
 -- a text that the first line of a request can hold as its target: not empty, with no blank and no control character (RFC 9112, Request Target)
 abbrev pub IsTarget : List ℕ → Type 0

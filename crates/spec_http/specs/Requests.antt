@@ -1,7 +1,7 @@
 -- What a client writes for a request (RFC 9112, Message Format).
 use Rattle.std.specs.Prelude.{ℕ, List, ◌∷◌, ◌++◌, length, codes, decimal}
 use Rattle.chunked.specs.Bodies.{crlf}
-use Rattle.spec_http_server.specs.Replies.{line}
+use Rattle.spec_http.specs.Replies.{line}
 
 -- the head of a request of a method for a target of a host, with a body of this media type and length; the connection serves this request only
 -- (RFC 9112, Tear-down)

@@ -1,5 +1,5 @@
 //! What whole connections ask, from their first byte to their last.
-ghost use Rattle.spec_http_server.specs.ConnectionExamples.{HeadsEnd, BodiesAreWaitedFor, LimitsAreExact};
+ghost use Rattle.spec_http.specs.ConnectionExamples.{HeadsEnd, BodiesAreWaitedFor, LimitsAreExact};
 
 /// Connections and what each asks, which is one thing.
 pub fn connections_ask()

@@ -1,5 +1,5 @@
 //! What follows for whoever speaks over a connection.
-ghost use Rattle.spec_http_server.specs.Laws.{OneThingIsAsked, AskedStaysAsked, HeadsAsk, HalfAHeadAsksNothing, HalfABodyAsksNothing, LargeHeadsAreRefused, ManyFieldsAreRefused, IllFormedHeadsAreRefused, RequestsAreRead, ProperRequestsAreRead};
+ghost use Rattle.spec_http.specs.Laws.{OneThingIsAsked, AskedStaysAsked, HeadsAsk, HalfAHeadAsksNothing, HalfABodyAsksNothing, LargeHeadsAreRefused, ManyFieldsAreRefused, IllFormedHeadsAreRefused, RequestsAreRead, ProperRequestsAreRead};
 
 /// The bytes of a connection ask one thing, but where two are allowed: of bytes that nothing makes a head, if a limit is passed
 /// too, or if they end in a target.

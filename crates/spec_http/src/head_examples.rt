@@ -1,5 +1,5 @@
 //! Heads of requests: by which check each is refused, computed by the checker.
-ghost use Rattle.spec_http_server.specs.HeadExamples.{HeadsAreWritten, LengthsComeFirst, PathsComeBeforeMethods, QueriesComeBeforeLengths, LengthsAreRequired, LongBodiesComeBeforeTypes, TypesAreChecked, PatchesAreTaken};
+ghost use Rattle.spec_http.specs.HeadExamples.{HeadsAreWritten, LengthsComeFirst, PathsComeBeforeMethods, QueriesComeBeforeLengths, LengthsAreRequired, LongBodiesComeBeforeTypes, TypesAreChecked, PatchesAreTaken};
 
 /// Each check of a head refuses, in this order.
 pub fn checks_come_in_order()

@@ -1,5 +1,5 @@
 //! What is written over connections, byte for byte, computed by the checker.
-ghost use Rattle.spec_http_server.specs.ReplyExamples.{EmptyListIsWritten, RefusalIsWritten, WatchIsWritten, SizesAreHexadecimal, BodiesEnd, PatchIsRead, PhrasesAreCanonical};
+ghost use Rattle.spec_http.specs.ReplyExamples.{EmptyListIsWritten, RefusalIsWritten, WatchIsWritten, SizesAreHexadecimal, BodiesEnd, PatchIsRead, PhrasesAreCanonical};
 
 /// Requests and what is written for them.
 pub fn replies_are_written()

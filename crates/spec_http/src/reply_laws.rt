@@ -1,5 +1,5 @@
 //! What follows for a client and a server that speak with one another.
-ghost use Rattle.spec_http_client.specs.Laws.{OneReplyIsSaid, RepliesOpenNoWatch, WholeRepliesStay, WrittenRepliesAreRead, CutRepliesAreLost, WrittenWatchesAreRead, WatchesAreReadInPieces};
+ghost use Rattle.spec_http.specs.ClientLaws.{OneReplyIsSaid, RepliesOpenNoWatch, WholeRepliesStay, WrittenRepliesAreRead, CutRepliesAreLost, WrittenWatchesAreRead, WatchesAreReadInPieces};
 
 /// The bytes of an answer say at most one reply.
 pub fn one_reply_is_said()

@@ -1,8 +1,8 @@
 //! Requests, written.
 ghost use Rattle.std.specs.Prelude.{◌≡◌, ◌++◌, ◌∷◌, OnOk, IfOk, codes};
-ghost use Rattle.spec_http_client.specs.Requests as words;
+ghost use Rattle.spec_http.specs.Requests as words;
 ghost use Rattle.chunked.specs.Bodies.{crlf};
-ghost use Rattle.spec_http_server.specs.Replies.{line};
+ghost use Rattle.spec_http.specs.Replies.{line};
 
 use std::alloc::{AllocError, Global};
 

@@ -1,5 +1,5 @@
 //! What follows for a server that is asked by what a client writes.
-ghost use Rattle.spec_http_client.specs.RequestLaws.{CutRequestsAskNothing, LongRequestsAreRefused, WrittenRequestsAreRead};
+ghost use Rattle.spec_http.specs.RequestLaws.{CutRequestsAskNothing, LongRequestsAreRefused, WrittenRequestsAreRead};
 
 /// What a client writes for a request asks a server for that method, target and body, and for nothing else, whatever follows it.
 pub fn written_requests_are_read()

@@ -1,5 +1,5 @@
 use Rattle.std.proofs.Common.{◌≡◌, Ok, ap, sym, subst, ◌∙◌}
-use Rattle.spec_http_server.specs.Replies.{response_text}
+use Rattle.spec_http.specs.Replies.{response_text}
 use Rattle.api.proofs.Written.{sent}
 use Rattle.api.specs.Replying.{Sends}
 use Rattle.api.specs.Responding.{text_of}

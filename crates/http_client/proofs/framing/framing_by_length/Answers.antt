@@ -1,6 +1,6 @@
 use Rattle.std.proofs.Common.{rules, ◌≡◌, ◌<◌, true, refl, Some}
 use Rattle.std.specs.Str.Parse.{digits_value}
-use Rattle.spec_http_server.specs.Heads.{is_number, one_number}
+use Rattle.spec_http.specs.Heads.{is_number, one_number}
 use Rattle.http_client.proofs.framing.framing_by_length.Goals as goal
 
 pub returns-in-None : goal.returns-in-None

@@ -4,7 +4,7 @@ use Rattle.std.proofs.KnownBytes.{Consumes-nil}
 use Rattle.httparse.specs.Grammar.{HasNoResponse}
 use Rattle.httparse.specs.Spans.{ResponseOverflows}
 use Rattle.chunked.specs.Devices.{device_of}
-use Rattle.spec_http_server.specs.Connections.{longest_head, most_fields}
+use Rattle.spec_http.specs.Connections.{longest_head, most_fields}
 use Rattle.http_client.specs.Reading.{HasFound}
 use Rattle.http_client.proofs.Heads.{nothing_is_no_head, goes_on, found_whole, overflow_none, long_none, one_more}
 use Rattle.http_client.proofs.reading.find_head.Goals as goal

@@ -2,7 +2,7 @@ use Rattle.std.proofs.Common.{◌≡◌, ◌≤◌, ◌-◌, length, false}
 use Rattle.std.specs.Io.KnownBytes.{Consumes}
 use Rattle.httparse.specs.Grammar.{HasNoResponse}
 use Rattle.chunked.specs.Devices.{device_of, has_failed}
-use Rattle.spec_http_server.specs.Connections.{longest_head, most_fields}
+use Rattle.spec_http.specs.Connections.{longest_head, most_fields}
 use Rattle.http_client.proofs.reading.find_head.Given as goal
 
 -- what was read so far is no head, and is within the limit

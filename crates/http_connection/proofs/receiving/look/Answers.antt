@@ -1,5 +1,5 @@
 use Rattle.std.proofs.Common.{Some, Err, inl, inr, refl, ap, sym, subst, ◌∙◌}
-use Rattle.spec_http_server.specs.Connections.{Asks}
+use Rattle.spec_http.specs.Connections.{Asks}
 use Rattle.object_keys.specs.Faults.{refusal_of}
 use Rattle.http_request_reader.specs.Arriving.{AsksSoFar, WaitsFor}
 use Rattle.http_request_reader.specs.declared.arrived.Arrived.TheVariants as arrived

@@ -1,5 +1,5 @@
 use Rattle.std.proofs.Common.{rules, ◌≡◌}
-use Rattle.spec_http_server.specs.Heads.{stated_length}
+use Rattle.spec_http.specs.Heads.{stated_length}
 use Rattle.http_request_head.specs.Fields.{IsLength}
 use Rattle.http_request_head.specs.RequestHeads.{head_seen}
 use Rattle.http_request_head.specs.declared.body_length.BodyLength.TheVariants as kind

@@ -2,7 +2,7 @@ use Rattle.std.proofs.Common.{rules, ◌≡◌, ◌∙◌, Some, None, Ok, Err, 
 use Rattle.std.specs.Prelude.{unwrap_or}
 use Rattle.spec_api.specs.declared.methods.Method.TheVariants.{Get}
 use Rattle.spec_api.specs.Targets.{route, path_of}
-use Rattle.spec_http_server.specs.Heads.{method_named}
+use Rattle.spec_http.specs.Heads.{method_named}
 use Rattle.http_request_head.specs.RequestHeads.{head_seen}
 use Rattle.request_parts.specs.Checked.{checked_at}
 use Rattle.request_parts.specs.Seen.{check_refusal}

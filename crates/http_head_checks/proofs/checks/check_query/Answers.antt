@@ -1,6 +1,6 @@
 use Rattle.std.proofs.Common.{◌∙◌, ap, refl, inr}
 use Rattle.spec_api.specs.Targets.{query_for}
-use Rattle.spec_http_server.specs.Checks.{query_checked}
+use Rattle.spec_http.specs.Checks.{query_checked}
 use Rattle.http_request_head.specs.RequestHeads.{head_seen}
 use Rattle.request_parts.specs.RoutesSeen.{route_seen}
 use Rattle.http_head_checks.proofs.Checked.{body_opens}

@@ -1,7 +1,7 @@
 use Rattle.std.proofs.Common.{rules, ◌≡◌, ◌<◌, true, refl, Some}
 use Rattle.std.specs.Str.Parse.{digits_value}
 use Rattle.spec_api.specs.Targets.{longest_body}
-use Rattle.spec_http_server.specs.Heads.{is_number, one_number}
+use Rattle.spec_http.specs.Heads.{is_number, one_number}
 use Rattle.http_request_head.proofs.body_length.length_of.Goals as goal
 
 pub returns-in-None : goal.returns-in-None

@@ -1,5 +1,5 @@
 use Rattle.std.proofs.Common.{◌≡◌, drop, map}
-use Rattle.spec_http_server.specs.Heads.{values_of}
+use Rattle.spec_http.specs.Heads.{values_of}
 use Rattle.http_request_head.specs.Fields.{field_seen}
 use Rattle.http_request_head.proofs.field.first_value.Given as goal
 

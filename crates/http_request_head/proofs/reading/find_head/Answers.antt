@@ -1,5 +1,5 @@
 use Rattle.std.proofs.Common.{rules, ◌≤◌, length}
-use Rattle.spec_http_server.specs.Connections.{longest_head}
+use Rattle.spec_http.specs.Connections.{longest_head}
 use Rattle.http_request_head.proofs.Wholes.{too_long}
 use Rattle.http_request_head.proofs.reading.find_head.Goals as goal
 

@@ -1,5 +1,5 @@
 use Rattle.std.proofs.Common.{rules, ◌≤◌, ◌<◌, ◌+◌, false}
-use Rattle.spec_http_server.specs.Connections.{most_fields}
+use Rattle.spec_http.specs.Connections.{most_fields}
 use Rattle.http_request_head.specs.FieldLines.{line_ends}
 use Rattle.http_request_head.proofs.Cuts.{is_too_large, is_half}
 use Rattle.http_request_head.proofs.reading.look_at_end.Goals as goal

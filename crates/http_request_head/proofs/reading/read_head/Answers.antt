@@ -1,6 +1,6 @@
 use Rattle.std.proofs.Common.{rules, ◌≡◌, ◌≤◌, length, false, sym, ◌∙◌, subst}
 use Rattle.httparse.specs.Grammar.{MayBecomeRequest, HasNoRequest}
-use Rattle.spec_http_server.specs.Connections.{longest_head}
+use Rattle.spec_http.specs.Connections.{longest_head}
 use Rattle.http_request_head.specs.Reading.{IsFound}
 use Rattle.http_request_head.proofs.Wholes.{too_long, reads_on}
 use Rattle.http_request_head.proofs.reading.read_head.Goals as goal

@@ -1,5 +1,5 @@
 use Rattle.std.proofs.Common.{◌≡◌, ◌≤◌, ◌-◌, length, false}
-use Rattle.spec_http_server.specs.Connections.{longest_head, most_fields}
+use Rattle.spec_http.specs.Connections.{longest_head, most_fields}
 use Rattle.http_request_head.specs.Reading.{Reads}
 use Rattle.http_request_head.proofs.reading.read_head.Given as goal
 

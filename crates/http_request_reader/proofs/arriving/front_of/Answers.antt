@@ -1,5 +1,5 @@
 use Rattle.std.proofs.Common.{rules, ◌≤◌, length, sym, take_all}
-use Rattle.spec_http_server.specs.Connections.{longest_head}
+use Rattle.spec_http.specs.Connections.{longest_head}
 use Rattle.http_request_reader.proofs.arriving.front_of.Goals as goal
 
 pub returns-else-bytes-gt-LONGEST_HEAD : goal.returns-else-bytes-gt-LONGEST_HEAD

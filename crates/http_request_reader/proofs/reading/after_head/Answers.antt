@@ -1,7 +1,7 @@
 use Rattle.std.proofs.Common.{◌≡◌, ◌-◌, length, take, drop, Ok, Err, arith, length-drop, take_all, sym, ap, ◌∙◌, subst}
 use Rattle.chunked.specs.Devices.{device_of}
-use Rattle.spec_http_server.specs.Heads.{head_of}
-use Rattle.spec_http_server.specs.Checks.{checked}
+use Rattle.spec_http.specs.Heads.{head_of}
+use Rattle.spec_http.specs.Checks.{checked}
 use Rattle.http_head_checks.specs.Openings.{Opens, opening_seen}
 use Rattle.http_request_reader.specs.Receiving.{Tells}
 use Rattle.http_request_reader.proofs.ReadHeads.{refused_tells, result_tells}

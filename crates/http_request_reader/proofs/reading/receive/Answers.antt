@@ -1,6 +1,6 @@
 use Rattle.std.proofs.Common.{◌≡◌, ◌≤◌, length, [], ap, sym, ◌∙◌, subst, arith}
 use Rattle.chunked.specs.Devices.{device_of, has_failed}
-use Rattle.spec_http_server.specs.Connections.{longest_head}
+use Rattle.spec_http.specs.Connections.{longest_head}
 use Rattle.spec_api.specs.declared.refusals.Part.TheVariants as part
 use Rattle.object_keys.specs.declared.fault.Fault.TheVariants as refusal
 use Rattle.http_request_head.proofs.Wholes.{found_asks}

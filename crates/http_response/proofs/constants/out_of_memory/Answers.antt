@@ -1,5 +1,5 @@
 use Rattle.std.proofs.Common.{refl}
-use Rattle.spec_http_server.proofs.OnLiterals.{http_on_literals}
+use Rattle.spec_http.proofs.OnLiterals.{http_on_literals}
 use Rattle.http_response.proofs.constants.out_of_memory.Goals as goal
 
 pub returns : goal.returns

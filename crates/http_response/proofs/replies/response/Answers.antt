@@ -1,5 +1,5 @@
 use Rattle.std.proofs.Common.{◌++◌, ap₂, ◌∙◌}
-use Rattle.spec_http_server.specs.Replies.{head_text}
+use Rattle.spec_http.specs.Replies.{head_text}
 use Rattle.http_response.proofs.replies.response.Goals as goal
 
 pub returns : goal.returns

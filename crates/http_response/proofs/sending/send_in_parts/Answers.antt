@@ -1,5 +1,5 @@
 use Rattle.std.proofs.Common.{◌++◌, codes, decimal, length, Err, refl, sym, ap}
-use Rattle.spec_http_server.specs.Replies.{head_text, response_text}
+use Rattle.spec_http.specs.Replies.{head_text, response_text}
 use Rattle.http_response.proofs.InTurn.{in_turn, at_first}
 use Rattle.http_response.proofs.sending.send_in_parts.Goals as goal
 

@@ -1,5 +1,5 @@
 use Rattle.std.proofs.Common.{◌++◌, codes, Ok, Err, refl, sym, ap, ◌∙◌}
-use Rattle.spec_http_server.specs.Replies.{phrase}
+use Rattle.spec_http.specs.Replies.{phrase}
 use Rattle.http_response.proofs.HeadParts.{numbered, blanked, status, status_parts, status_ends}
 use Rattle.http_response.proofs.InTurn.{in_turn, at_first}
 use Rattle.http_response.proofs.sending.send_status.Goals as goal

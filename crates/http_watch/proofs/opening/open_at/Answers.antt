@@ -1,5 +1,5 @@
 use Rattle.std.proofs.Common.{◌++◌, Ok, inr, refl, sym, ap, ◌∙◌}
-use Rattle.spec_http_server.specs.Replies.{watch_head, frames_text}
+use Rattle.spec_http.specs.Replies.{watch_head, frames_text}
 use Rattle.revisions.specs.Watches.{watched_of}
 use Rattle.http_watch.proofs.LineFrames.{made_is}
 use Rattle.http_watch.specs.Watches.{opening_at, idle_after}

@@ -1,5 +1,5 @@
 use Rattle.std.proofs.Common.{Ok, inr, refl}
-use Rattle.spec_http_server.specs.Replies.{watch_head}
+use Rattle.spec_http.specs.Replies.{watch_head}
 use Rattle.http_watch.proofs.LineFrames.{listing_is}
 use Rattle.http_watch.specs.Given.{begun_as}
 use Rattle.http_watch.specs.Opened.{opening_of}

@@ -1,5 +1,5 @@
-use Rattle.spec_http_server.proofs.ConnectionsWorked.{heads_end, bodies_waited}
-use Rattle.spec_http_server.proofs.connection_examples.connections_ask.Goals as goal
+use Rattle.spec_http.proofs.ConnectionsWorked.{heads_end, bodies_waited}
+use Rattle.spec_http.proofs.connection_examples.connections_ask.Goals as goal
 
 pub returns : goal.returns
 returns c = record { heads_end = heads_end; bodies_are_waited_for = bodies_waited }

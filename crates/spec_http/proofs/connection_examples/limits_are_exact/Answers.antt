@@ -1,5 +1,5 @@
-use Rattle.spec_http_server.proofs.LimitsWorked.{limits}
-use Rattle.spec_http_server.proofs.connection_examples.limits_are_exact.Goals as goal
+use Rattle.spec_http.proofs.LimitsWorked.{limits}
+use Rattle.spec_http.proofs.connection_examples.limits_are_exact.Goals as goal
 
 pub returns : goal.returns
 returns c = limits

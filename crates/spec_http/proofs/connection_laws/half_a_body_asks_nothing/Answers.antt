@@ -1,5 +1,5 @@
-use Rattle.spec_http_server.proofs.Halves.{half_a_body}
-use Rattle.spec_http_server.proofs.connection_laws.half_a_body_asks_nothing.Goals as goal
+use Rattle.spec_http.proofs.Halves.{half_a_body}
+use Rattle.spec_http.proofs.connection_laws.half_a_body_asks_nothing.Goals as goal
 
 pub returns : goal.returns
 returns c = half_a_body

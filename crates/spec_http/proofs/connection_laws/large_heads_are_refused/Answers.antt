@@ -1,5 +1,5 @@
-use Rattle.spec_http_server.proofs.Halves.{large_heads}
-use Rattle.spec_http_server.proofs.connection_laws.large_heads_are_refused.Goals as goal
+use Rattle.spec_http.proofs.Halves.{large_heads}
+use Rattle.spec_http.proofs.connection_laws.large_heads_are_refused.Goals as goal
 
 pub returns : goal.returns
 returns c = large_heads

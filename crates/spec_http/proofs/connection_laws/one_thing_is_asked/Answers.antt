@@ -1,5 +1,5 @@
-use Rattle.spec_http_server.proofs.Meanings.{one_thing}
-use Rattle.spec_http_server.proofs.connection_laws.one_thing_is_asked.Goals as goal
+use Rattle.spec_http.proofs.Meanings.{one_thing}
+use Rattle.spec_http.proofs.connection_laws.one_thing_is_asked.Goals as goal
 
 pub returns : goal.returns
 returns c = one_thing

@@ -1,5 +1,5 @@
-use Rattle.spec_http_server.proofs.Proper.{proper_read}
-use Rattle.spec_http_server.proofs.connection_laws.proper_requests_are_read.Goals as goal
+use Rattle.spec_http.proofs.Proper.{proper_read}
+use Rattle.spec_http.proofs.connection_laws.proper_requests_are_read.Goals as goal
 
 pub returns : goal.returns
 returns c = proper_read

@@ -1,6 +1,6 @@
 use Rattle.std.proofs.Common.{refl}
-use Rattle.spec_http_server.proofs.OnLiterals.{http_on_literals}
-use Rattle.spec_http_server.proofs.head_examples.checks_come_in_order.Goals as goal
+use Rattle.spec_http.proofs.OnLiterals.{http_on_literals}
+use Rattle.spec_http.proofs.head_examples.checks_come_in_order.Goals as goal
 
 pub returns : goal.returns
 unfolding http_on_literals

@@ -1,6 +1,6 @@
 use Rattle.std.proofs.Common.{refl}
-use Rattle.spec_http_server.proofs.OnLiterals.{http_on_literals}
-use Rattle.spec_http_server.proofs.reply_examples.watches_are_written.Goals as goal
+use Rattle.spec_http.proofs.OnLiterals.{http_on_literals}
+use Rattle.spec_http.proofs.reply_examples.watches_are_written.Goals as goal
 
 pub returns : goal.returns
 unfolding http_on_literals

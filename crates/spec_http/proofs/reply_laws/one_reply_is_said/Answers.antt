@@ -1,5 +1,5 @@
-use Rattle.spec_http_client.proofs.Read.{one_reply}
-use Rattle.spec_http_client.proofs.reply_laws.one_reply_is_said.Goals as goal
+use Rattle.spec_http.proofs.Read.{one_reply}
+use Rattle.spec_http.proofs.reply_laws.one_reply_is_said.Goals as goal
 
 pub returns : goal.returns
 returns c = one_reply

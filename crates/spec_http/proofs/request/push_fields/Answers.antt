@@ -1,8 +1,8 @@
 use Rattle.std.proofs.Common.{◌++◌, ◌∙◌, ap, codes, List, ℕ}
 use Rattle.chunked.specs.Bodies.{crlf}
-use Rattle.spec_http_server.specs.Replies.{line}
-use Rattle.spec_http_client.proofs.Printed.{grown}
-use Rattle.spec_http_client.proofs.request.push_fields.Goals as goal
+use Rattle.spec_http.specs.Replies.{line}
+use Rattle.spec_http.proofs.Printed.{grown}
+use Rattle.spec_http.proofs.request.push_fields.Goals as goal
 
 pub returns : goal.returns
 returns c =

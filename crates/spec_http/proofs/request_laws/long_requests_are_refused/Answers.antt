@@ -1,5 +1,5 @@
-use Rattle.spec_http_client.proofs.Asked.{long_refused}
-use Rattle.spec_http_client.proofs.request_laws.long_requests_are_refused.Goals as goal
+use Rattle.spec_http.proofs.Asked.{long_refused}
+use Rattle.spec_http.proofs.request_laws.long_requests_are_refused.Goals as goal
 
 pub returns : goal.returns
 returns c = long_refused
