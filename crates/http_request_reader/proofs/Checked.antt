@@ -22,8 +22,8 @@ use Rattle.request_parts.specs.Faults.{query_fault}
 use Rattle.request_parts.specs.Queried.{query_seen}
 use Rattle.request_parts.specs.declared.faults.QueryFault.{QueryFault}
 use Rattle.request_parts.specs.declared.faults.QueryFault.TheVariants as query
-use Rattle.http_head_checks.specs.declared.opening.CheckedHead.{CheckedHead}
-use Rattle.http_head_checks.specs.Openings.{Opens, ChecksBody, opening_seen}
+use Rattle.http_request_reader.specs.declared.opening.CheckedHead.{CheckedHead}
+use Rattle.http_request_reader.specs.Openings.{Opens, ChecksBody, opening_seen}
 
 -- what is no bad length is none, or one
 stated_is : (s : Option (Option ℕ)) (length : BodyLength) → IsLength s length → (length ≡ kind.Bad → ⊥) → (stated : Option ℕ) × (s ≡ Some stated)

@@ -3,3 +3,4 @@ pub mod Told
 pub mod Needed
 pub mod ReadHeads
 pub mod SoFar
+pub mod Checked

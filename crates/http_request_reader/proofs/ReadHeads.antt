@@ -14,7 +14,7 @@ use Rattle.request_decoding.specs.Asked.{Asks, asked_seen}
 use Rattle.request_decoding.specs.declared.meaning.Asked.{Asked}
 use Rattle.http_request_head.specs.declared.fault.ReadFault.{ReadFault}
 use Rattle.http_request_head.specs.declared.fault.ReadFault.TheVariants as read
-use Rattle.http_head_checks.specs.Openings.{Opens}
+use Rattle.http_request_reader.specs.Openings.{Opens}
 use Rattle.http_request_reader.specs.declared.received.Received.{Received}
 use Rattle.http_request_reader.specs.declared.received.Received.TheVariants as received
 use Rattle.http_request_reader.specs.Answered.{Answers, Refuses}

@@ -9,7 +9,7 @@ use Rattle.object_keys.specs.declared.fault.Fault.{Fault}
 use Rattle.object_keys.specs.declared.fault.Fault.TheVariants as fault
 use Rattle.request_parts.specs.Queried.{query_seen}
 use Rattle.request_parts.specs.RoutesSeen.{route_seen}
-use Rattle.http_head_checks.specs.declared.opening.CheckedHead.{CheckedHead}
+use Rattle.http_request_reader.specs.declared.opening.CheckedHead.{CheckedHead}
 
 -- what a head asks, in the words of connections
 abbrev pub opening_seen : CheckedHead → words.Opening

@@ -7,14 +7,15 @@ ghost use Rattle.spec_http.specs.Checks.{checked};
 ghost use Rattle.spec_http.specs.Connections.{longest_head};
 ghost use Rattle.http_request_head.specs.Reading.{IsFound};
 ghost use Rattle.http_request_head.specs.declared.found.FoundHead.TheVariants.{Whole};
-ghost use Rattle.http_head_checks.specs.Openings.{opening_seen};
+ghost use Rattle.http_request_reader.specs.Openings.{opening_seen};
 ghost use Rattle.http_request_reader.specs.Arriving.{AsksSoFar, IsRefusal, ArrivesAfter};
 
 use crate::answered::refused;
 use crate::arrived::Arrived;
+use crate::checks::check_head;
+use crate::opening::CheckedHead;
 use crate::reading::with_body;
 use crate::received::Received;
-use http_head_checks::{CheckedHead, check_head};
 use http_request_head::reading::{LONGEST_HEAD, MOST_FIELDS, find_head};
 use http_request_head::{FoundHead, ReadFault, RequestHead};
 use httparse::spans::{EMPTY_HEADER_SPAN, HeaderSpan, RequestSpans};

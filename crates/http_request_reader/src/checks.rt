@@ -10,7 +10,7 @@ ghost use Rattle.http_request_head.specs.RequestHeads.{head_seen};
 ghost use Rattle.request_parts.specs.Collected.{read_seen};
 ghost use Rattle.request_parts.specs.Queried.{query_seen};
 ghost use Rattle.request_parts.specs.RoutesSeen.{route_seen};
-ghost use Rattle.http_head_checks.specs.Openings.{Opens, ChecksBody};
+ghost use Rattle.http_request_reader.specs.Openings.{Opens, ChecksBody};
 
 use crate::opening::CheckedHead;
 use http_request_head::body_length::content_length;

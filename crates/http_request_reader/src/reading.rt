@@ -9,15 +9,16 @@ ghost use Rattle.object_keys.specs.declared.fault.Fault.TheVariants.{NoMemory};
 ghost use Rattle.http_request_head.specs.Reading.{IsFound, IsWatched};
 ghost use Rattle.http_request_head.specs.declared.fault.ReadFault.TheVariants as fault;
 ghost use Rattle.http_request_head.specs.declared.found.FoundHead.TheVariants.{Whole};
-ghost use Rattle.http_head_checks.specs.Openings.{opening_seen};
+ghost use Rattle.http_request_reader.specs.Openings.{opening_seen};
 ghost use Rattle.http_request_reader.specs.declared.received.Received.TheVariants as received;
 ghost use Rattle.http_request_reader.specs.Receiving.{AsksKnown, Needs, Tells, Says};
 
 use crate::answered::{answered, refused};
 use crate::body::read_body;
+use crate::checks::check_head;
+use crate::opening::CheckedHead;
 use crate::received::Received;
 use chunked::Watched;
-use http_head_checks::{CheckedHead, check_head};
 use http_request_head::reading::{MOST_FIELDS, read_head};
 use http_request_head::{FoundHead, ReadFault, RequestHead};
 use httparse::spans::{EMPTY_HEADER_SPAN, HeaderSpan, RequestSpans};

@@ -3,8 +3,8 @@ use Rattle.spec_http.specs.Heads.{stated_length}
 use Rattle.http_request_head.specs.Fields.{IsLength}
 use Rattle.http_request_head.specs.RequestHeads.{head_seen}
 use Rattle.http_request_head.specs.declared.body_length.BodyLength.TheVariants as kind
-use Rattle.http_head_checks.proofs.Checked.{from_path}
-use Rattle.http_head_checks.proofs.checks.check_head.Goals as goal
+use Rattle.http_request_reader.proofs.Checked.{from_path}
+use Rattle.http_request_reader.proofs.checks.check_head.Goals as goal
 
 pub returns-in_default : goal.returns-in_default
 returns-in_default c =

@@ -7,9 +7,9 @@ use Rattle.http_request_head.specs.RequestHeads.{head_seen}
 use Rattle.request_parts.specs.Checked.{checked_at}
 use Rattle.request_parts.specs.Seen.{check_refusal}
 use Rattle.request_parts.specs.RoutesSeen.{route_seen}
-use Rattle.http_head_checks.specs.Openings.{Opens}
-use Rattle.http_head_checks.proofs.Checked.{path_refused, no_method, path_passed}
-use Rattle.http_head_checks.proofs.checks.check_path.Goals as goal
+use Rattle.http_request_reader.specs.Openings.{Opens}
+use Rattle.http_request_reader.proofs.Checked.{path_refused, no_method, path_passed}
+use Rattle.http_request_reader.proofs.checks.check_path.Goals as goal
 
 pub returns-in-Err : goal.returns-in-Err
 returns-in-Err c =

@@ -3,8 +3,8 @@ use Rattle.spec_api.specs.Targets.{query_for}
 use Rattle.spec_http.specs.Checks.{query_checked}
 use Rattle.http_request_head.specs.RequestHeads.{head_seen}
 use Rattle.request_parts.specs.RoutesSeen.{route_seen}
-use Rattle.http_head_checks.proofs.Checked.{body_opens}
-use Rattle.http_head_checks.proofs.checks.check_query.Goals as goal
+use Rattle.http_request_reader.proofs.Checked.{body_opens}
+use Rattle.http_request_reader.proofs.checks.check_query.Goals as goal
 
 pub returns-in-Ok-check_body : goal.returns-in-Ok-check_body
 returns-in-Ok-check_body c =

@@ -2,7 +2,7 @@ use Rattle.std.proofs.Common.{◌≡◌, ◌-◌, length, take, drop, Ok, Err, a
 use Rattle.chunked.specs.Devices.{device_of}
 use Rattle.spec_http.specs.Heads.{head_of}
 use Rattle.spec_http.specs.Checks.{checked}
-use Rattle.http_head_checks.specs.Openings.{Opens, opening_seen}
+use Rattle.http_request_reader.specs.Openings.{Opens, opening_seen}
 use Rattle.http_request_reader.specs.Receiving.{Tells}
 use Rattle.http_request_reader.proofs.ReadHeads.{refused_tells, result_tells}
 use Rattle.http_request_reader.proofs.reading.after_head.Goals as goal

@@ -1,5 +1,5 @@
 use Rattle.chunked.specs.Devices.{device_of}
-use Rattle.http_head_checks.specs.Openings.{opening_seen}
+use Rattle.http_request_reader.specs.Openings.{opening_seen}
 use Rattle.http_request_reader.proofs.ReadHeads.{body_tells}
 use Rattle.http_request_reader.proofs.reading.after_opening.Goals as goal
 
