@@ -1,3 +1,4 @@
 pub mod Written
 pub mod Done
 pub mod Delivered
+pub mod Owned

@@ -17,8 +17,8 @@ use Rattle.watch_cache.specs.Served.{Serves}
 use Rattle.reply.specs.declared.reply.Reply.{Reply}
 use Rattle.spec_server.specs.Servers.{Server, after_writing, initial_by}
 use Rattle.http_watch.specs.Given.{GivesBegun, there_from}
-use Rattle.http_backend.specs.Alone.{CallsAlone, BeginsAlone}
-use Rattle.http_backend.specs.Told.{Tells}
+use Rattle.api.specs.Alone.{CallsAlone, BeginsAlone}
+use Rattle.api.specs.Told.{Tells}
 
 -- ---- requests
 

@@ -12,7 +12,7 @@ use Rattle.spec_http.specs.Replies.{response_text, reply_text}
 use Rattle.object_keys.specs.Faults.{refusal_of}
 use Rattle.object_keys.specs.declared.fault.Fault.{Fault}
 use Rattle.reply.specs.declared.reply.Reply as replies
-use Rattle.http_backend.specs.Told.{Tells}
+use Rattle.api.specs.Told.{Tells}
 use Rattle.api.specs.Replying.{Sends, Replies}
 use Rattle.api.specs.Responding.{IsReplyTo, IsReplyOf}
 use Rattle.api.specs.Serving.{has_reader_failed}

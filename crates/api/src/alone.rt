@@ -2,8 +2,8 @@
 ghost use Rattle.request_parts.specs.Collected.{list_seen};
 ghost use Rattle.revisions.specs.Watches.{watched_of};
 ghost use Rattle.selector.specs.Views.{view_of};
-ghost use Rattle.http_backend.specs.Alone.{CallsAlone, ListsAlone, WatchesAlone, BeginsAlone};
-ghost use Rattle.http_backend.specs.Told.{Tells};
+ghost use Rattle.api.specs.Alone.{CallsAlone, ListsAlone, WatchesAlone, BeginsAlone};
+ghost use Rattle.api.specs.Told.{Tells};
 ghost use Rattle.request_parts.specs.Requests.{request_of};
 ghost use Rattle.http_watch.specs.Given.{Gives, GivesBegun};
 

@@ -10,7 +10,7 @@ ghost use Rattle.request_parts.specs.Requests.{request_of};
 
 use crate::replying::{answer_text, refusal_text};
 use crate::response::{OpenWatch, Response};
-use http_backend::Site;
+use crate::site::Site;
 use http_request_reader::Received;
 use http_watch::open;
 use metadata_values::moments::Moment;

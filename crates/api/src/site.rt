@@ -6,7 +6,7 @@ ghost use Rattle.spec_api.specs.ObjectRequests as requests;
 ghost use Rattle.spec_api.specs.Verbs.{Outcome};
 ghost use Rattle.request_parts.specs.Collected.{list_seen};
 ghost use Rattle.selector.specs.Views.{view_of};
-ghost use Rattle.http_backend.specs.Told.{Tells};
+ghost use Rattle.api.specs.Told.{Tells};
 ghost use Rattle.request_parts.specs.Requests.{request_of};
 
 use http_watch::WatchSource;

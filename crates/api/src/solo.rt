@@ -42,7 +42,7 @@ impl Solo {
 }
 
 impl WatchSource for Solo {
-    ghost use Rattle.http_backend.specs.Alone.{WatchesAlone, BeginsAlone};
+    ghost use Rattle.api.specs.Alone.{WatchesAlone, BeginsAlone};
 
     ghost Watches = { WatchesAlone };
 
@@ -70,7 +70,7 @@ impl WatchSource for Solo {
 }
 
 impl Site for Solo {
-    ghost use Rattle.http_backend.specs.Alone.{CallsAlone, ListsAlone};
+    ghost use Rattle.api.specs.Alone.{CallsAlone, ListsAlone};
 
     ghost Calls = { CallsAlone };
 

@@ -11,7 +11,7 @@ use Rattle.object_keys.specs.declared.fault.Fault.{Fault}
 use Rattle.spec_laws.proofs.ServerAnswers.{pages_held, watches_held}
 use Rattle.spec_laws.proofs.ServerHistories.{opened_holds, entries_hold, accepted_holds}
 use Rattle.spec_server.specs.Servers.{Server, opened_server, after_entries, list_served, watch_by, IsServerAfter}
-use Rattle.http_backend.specs.Alone.{BeginsAlone}
+use Rattle.api.specs.Alone.{BeginsAlone}
 use Rattle.http_watch.specs.Given.{GivesBegun, there_from}
 use Rattle.http_watch.specs.declared.begun.Begun.{Begun}
 use Rattle.desk.specs.Told.{IsThere}

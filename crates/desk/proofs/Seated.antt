@@ -19,7 +19,7 @@ use Rattle.reply.specs.declared.reply.Reply.{Reply}
 use Rattle.revisions.specs.Watches.{watched_of}
 use Rattle.revisions.specs.declared.watched.WatchedEvents.{WatchedEvents}
 use Rattle.spec_server.specs.Servers.{Server, opened_server}
-use Rattle.http_backend.specs.Told.{Tells}
+use Rattle.api.specs.Told.{Tells}
 use Rattle.watch_cache.specs.Served.{Serves}
 use Rattle.http_watch.specs.Given.{Gives, GivesBegun}
 use Rattle.http_watch.specs.declared.begun.Begun.{Begun}

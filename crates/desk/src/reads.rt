@@ -15,7 +15,7 @@ ghost use Rattle.desk.specs.Told.{IsThere};
 use crate::askings::Asking;
 use crate::desks::{Desk, StorePass};
 use crate::steps;
-use http_backend::alone;
+use api::alone;
 use http_watch::Begun;
 use object_keys::Fault;
 use reply::Reply;

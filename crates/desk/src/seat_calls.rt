@@ -1,7 +1,7 @@
 //! What is asked at a seat.
 ghost use Rattle.std.specs.Prelude.{◌≡◌};
 ghost use Rattle.request_parts.specs.Requests.{request_of};
-ghost use Rattle.http_backend.specs.Told.{Tells};
+ghost use Rattle.api.specs.Told.{Tells};
 ghost use Rattle.desk.specs.Desks.{known, IsPassAt};
 ghost use Rattle.desk.specs.Seats.{desk_at, known_at, listener_at, Calls};
 
@@ -10,7 +10,7 @@ use crate::desks::{Desk, StorePass};
 use crate::kinds::kind_of;
 use crate::listeners::Listener;
 use crate::seats::Seat;
-use http_backend::Site;
+use api::Site;
 use http_watch::{Begun, WatchSource};
 use metadata_values::moments::Moment;
 use object_keys::Fault;

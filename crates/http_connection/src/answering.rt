@@ -8,8 +8,7 @@ ghost use Rattle.http_connection.specs.declared.phase.ConnectionPhase.TheVariant
 use crate::phase::ConnectionPhase;
 use crate::replying::Replying;
 use crate::watching::Watching;
-use api::{OpenWatch, Response, Served, Text, respond_to};
-use http_backend::Site;
+use api::{OpenWatch, Response, Served, Site, Text, respond_to};
 use metadata_values::moments::Moment;
 use request_decoding::Asked;
 use std::alloc::Global;

@@ -7,7 +7,7 @@ ghost use Rattle.http_connection.specs.declared.phase.ConnectionPhase.TheVariant
 use crate::looking::with_end;
 use crate::phase::ConnectionPhase;
 use crate::watching::Watching;
-use http_backend::Site;
+use api::Site;
 use std::alloc::Global;
 
 /// Ends a watch, as who holds it does at a stop, and returns where its connection then stands: after the frames of its looks its end is to

@@ -7,8 +7,7 @@ ghost use Rattle.http_connection.specs.declared.phase.ConnectionPhase.TheVariant
 
 use crate::phase::ConnectionPhase;
 use crate::watching::Watching;
-use api::Served;
-use http_backend::Site;
+use api::{Served, Site};
 use http_response::last_chunk;
 use http_watch::{MOST_IDLE, WatchStanding, take_look};
 use std::alloc::Global;

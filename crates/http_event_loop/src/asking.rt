@@ -8,8 +8,7 @@ ghost use Rattle.http_event_loop.specs.Asked.{HasAsked, IsNewAsker};
 
 use crate::asker::Asker;
 use crate::turns::Turns;
-use api::Served;
-use http_backend::Site;
+use api::{Served, Site};
 use http_connection::{ConnectionPhase, Watching, answer, look_on};
 use metadata_values::moments::Moment;
 use request_decoding::Asked;

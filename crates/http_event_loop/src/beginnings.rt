@@ -7,7 +7,7 @@ use crate::given::Given;
 use crate::held::Held;
 use crate::open_connections::Connections;
 use crate::ticks::Tick;
-use http_backend::Site;
+use api::Site;
 use mio::{Interest, Registry, Token};
 use std::sync::Wait;
 use std::sync::ledger::Ledger;

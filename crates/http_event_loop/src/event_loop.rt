@@ -9,7 +9,7 @@ use crate::open_connections::Connections;
 use crate::place::LoopPlace;
 use crate::rounds::Rounds;
 use crate::turns::Turns;
-use http_backend::Site;
+use api::Site;
 use mio::{Events, Poll};
 use request_parts::table::Routes;
 use std::alloc::Global;

@@ -7,7 +7,7 @@ use crate::loops::Loops;
 use crate::rota::Rota;
 use crate::ticks::Tick;
 use crate::wakes::Wakes;
-use http_backend::Site;
+use api::Site;
 use mio::event::Event;
 use request_parts::table::Routes;
 use slab::Slab;

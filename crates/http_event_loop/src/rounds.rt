@@ -8,7 +8,7 @@ use crate::loops::Loops;
 use crate::open_connections::Connections;
 use crate::ticks::Tick;
 use crate::wakes::{INBOX, WAKER, Wakes};
-use http_backend::Site;
+use api::Site;
 use mio::event::Event;
 use mio::{Events, Poll, Registry};
 use std::io;

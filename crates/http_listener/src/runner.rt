@@ -1,6 +1,6 @@
 //! What runs on a thread of its own.
 use crate::fault::{ListenFault, not_listening};
-use http_backend::Site;
+use api::Site;
 use http_event_loop::EventLoop;
 use std::sync::Wait;
 use std::sync::ledger::Ledger;

@@ -1,5 +1,5 @@
 //! Initial streams of watches that are longer than what is made of them at once.
-use http_backend::Solo;
+use api::Solo;
 use http_connection::{Arriving, ConnectionPhase, answer, look_on, turn};
 use metadata_values::moments::Moment;
 use request_parts::table::Routes;

@@ -1,7 +1,6 @@
 //! Connections whose reader or writer fails at each of its calls in turn, and requests whose growths are refused.
-use api::{ServeFault, Served, serve_one};
+use api::{ServeFault, Served, Solo, serve_one};
 use chunked::Watched;
-use http_backend::Solo;
 use http_watch::LookPace;
 use metadata_values::moments::Moment;
 use request_parts::table::Routes;

@@ -1,7 +1,6 @@
 //! Connections that go on in steps, a byte read and four written at a time: they are written what `serve_one` writes.
-use api::serve_one;
+use api::{Solo, serve_one};
 use chunked::Watched;
-use http_backend::Solo;
 use http_connection::{Arriving, ConnectionPhase, answer, look_on, turn};
 use http_watch::LookPace;
 use metadata_values::moments::Moment;

@@ -6,7 +6,7 @@ use Rattle.spec_api.specs.Verbs.{Outcome, answered, refused}
 use Rattle.object_keys.specs.Faults.{refusal_of}
 use Rattle.object_keys.specs.declared.fault.Fault.{Fault}
 use Rattle.reply.specs.declared.reply.Reply.{Reply}
-use Rattle.http_backend.specs.Told as sites
+use Rattle.api.specs.Told as sites
 use Rattle.kcp_loopback.specs.Told.{Tells, TellsResult}
 
 -- a client that is told of what a site answers is told of an outcome that is so

@@ -7,9 +7,9 @@ ghost use Rattle.desk.specs.Desks.{IsPassAt, known};
 ghost use Rattle.desk.specs.Seats.{desk_at, known_at};
 
 use crate::ringing::Ringer;
+use api::Site;
 use api_client::{Api, Connect, Opened, Remote};
 use desk::{Anything, Desk, Seat, StorePass};
-use http_backend::Site;
 use http_client::{Answer, More};
 use http_event_loop::Loops;
 use metadata_values::moment;

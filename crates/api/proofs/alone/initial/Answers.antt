@@ -1,6 +1,6 @@
 use Rattle.selector.specs.Views.{view_of}
-use Rattle.http_backend.proofs.Owned.{begun, not_begun}
-use Rattle.http_backend.proofs.alone.initial.Goals as goal
+use Rattle.api.proofs.Owned.{begun, not_begun}
+use Rattle.api.proofs.alone.initial.Goals as goal
 
 pub returns-in-Ok : goal.returns-in-Ok
 returns-in-Ok c =
