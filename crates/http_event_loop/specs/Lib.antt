@@ -3,3 +3,5 @@ pub mod Asked
 pub mod Counted
 pub mod Deadlines
 pub mod Rotas
+pub mod Serving
+pub mod Rows

@@ -1,7 +1,7 @@
 //! Listening.
 ghost use Rattle.std.specs.Prelude.{◌≡◌, IfErr, IfOk, OnOk};
 ghost use Rattle.std.specs.Io.KnownBytes.{Appends};
-ghost use Rattle.http_listener.specs.Serving.{listening};
+ghost use Rattle.http_event_loop.specs.Serving.{listening};
 
 use crate::fault::{ListenFault, not_listening};
 use std::io::Write;

@@ -1,6 +1,6 @@
 //! Rows, of which each runs on a thread of its own.
 ghost use Rattle.std.specs.Thread.{IsSend, IsSync};
-ghost use Rattle.http_listener.specs.Rows.{RunsEach};
+ghost use Rattle.http_event_loop.specs.Rows.{RunsEach};
 
 use crate::fault::ListenFault;
 use crate::runner::Runner;

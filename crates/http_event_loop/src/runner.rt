@@ -1,7 +1,7 @@
 //! What runs on a thread of its own.
+use crate::event_loop::EventLoop;
 use crate::fault::{ListenFault, not_listening};
 use api::Site;
-use http_event_loop::EventLoop;
 use std::sync::Wait;
 use std::sync::ledger::Ledger;
 use std::time::Clock;

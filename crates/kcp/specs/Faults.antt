@@ -2,8 +2,8 @@
 use Rattle.std.specs.Prelude.{ℕ, List, codes}
 use Rattle.line_service.specs.declared.fault.RunFault.{RunFault}
 use Rattle.line_service.specs.declared.fault.RunFault.TheVariants as fault
-use Rattle.http_listener.specs.declared.fault.ListenFault.{ListenFault}
-use Rattle.http_listener.specs.declared.fault.ListenFault.TheVariants as serve
+use Rattle.http_event_loop.specs.declared.fault.ListenFault.{ListenFault}
+use Rattle.http_event_loop.specs.declared.fault.ListenFault.TheVariants as serve
 
 -- what a fault of a replay, and of serving, is called
 abbrev pub fault_text : RunFault → List ℕ

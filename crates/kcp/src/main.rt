@@ -9,7 +9,7 @@ ghost use Rattle.kcp.specs.Faults.{fault_text, serve_fault_text};
 ghost use Rattle.sim_service.specs.Laws as simulated;
 
 use chunked::Watched;
-use http_listener::ListenFault;
+use http_event_loop::ListenFault;
 use kcp_commands::{AllFault, all, control, serve};
 use kcp_options::{Subcommand, Usage};
 use kcp_replay::replay;

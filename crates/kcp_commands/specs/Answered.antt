@@ -1,7 +1,7 @@
 -- What new loops have answered.
 use Rattle.std.specs.Prelude.{ℕ, List, All, Option, map}
 use Rattle.http_event_loop.specs.declared.event_loop.EventLoop.{EventLoop}
-use Rattle.http_listener.specs.Rows.{ServesEach, ServesEachSome}
+use Rattle.http_event_loop.specs.Rows.{ServesEach, ServesEachSome}
 use Rattle.desk.specs.declared.askings.Anything.{Anything}
 use Rattle.desk.specs.declared.desks.Desk.{Desk}
 use Rattle.desk.specs.declared.seats.Seat.{Seat}

@@ -1,6 +1,6 @@
 //! What `kcp all` runs in threads beside its lines.
 use crate::controlling::MOST_WORKERS;
-use http_listener::{ListenFault, run_row};
+use http_event_loop::{ListenFault, run_row};
 use kcp_loopback::{LoopbackConnector, OwnServer, SeatedLoop};
 use manager::{Apis, Open, Signals};
 use std::alloc::{AllocError, Global};

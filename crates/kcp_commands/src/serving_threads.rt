@@ -4,11 +4,12 @@ ghost use Rattle.kcp_commands.specs.Answered.{AreNew, HaveAnswered, HaveAnswered
 ghost use Rattle.std.specs.Io.KnownBytes.{Appends};
 ghost use Rattle.std.specs.Option.{is_some};
 ghost use Rattle.kcp_loopback.specs.Threads.{HaveServed, HaveServedSome};
-ghost use Rattle.http_listener.specs.Serving.{listening};
+ghost use Rattle.http_event_loop.specs.Serving.{listening};
 
 use desk::{Anything, Desk};
-use http_event_loop::{Listening, Loops, Turns, count_taken};
-use http_listener::{ListenFault, announce, bind, not_listening, run_row};
+use http_event_loop::{
+    ListenFault, Listening, Loops, Turns, announce, bind, count_taken, not_listening, run_row,
+};
 use kcp_loopback::{SeatedLoop, Shared};
 use kcp_options::ServeOptions;
 use std::alloc::Global;

@@ -7,7 +7,7 @@ use Rattle.std.proofs.lemmas.Simd.{map-map}
 use Rattle.http_event_loop.specs.Asked.{HasAsked}
 use Rattle.http_event_loop.specs.Counted.{taken_over}
 use Rattle.http_event_loop.specs.declared.event_loop.EventLoop.{EventLoop}
-use Rattle.http_listener.specs.Rows.{RunsEach, ServesEach}
+use Rattle.http_event_loop.specs.Rows.{RunsEach, ServesEach}
 use Rattle.desk.specs.Askings.{IsAny}
 use Rattle.desk.specs.Desks.{window_size}
 use Rattle.desk.specs.Seats.{Begins, Calls, Lists, Stays, Watches}

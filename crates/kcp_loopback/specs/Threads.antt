@@ -1,7 +1,7 @@
 -- What the loops of a server have done.
 use Rattle.std.specs.Prelude.{◌≡◌, ℕ, List, All, Option, length, map, reverse}
 use Rattle.std.specs.List.{range_with_len}
-use Rattle.http_listener.specs.Rows.{ServesEach, ServesEachSome}
+use Rattle.http_event_loop.specs.Rows.{ServesEach, ServesEachSome}
 use Rattle.desk.specs.Desks.{window_size}
 use Rattle.desk.specs.declared.askings.Anything.{Anything}
 use Rattle.desk.specs.declared.desks.Desk.{Desk}

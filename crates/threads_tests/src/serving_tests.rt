@@ -1,5 +1,5 @@
 //! Loops that answer connections side by side, as `kcp serve` runs them.
-use http_listener::ListenFault;
+use http_event_loop::ListenFault;
 use kcp_commands::serve;
 use kcp_options::ServeOptions;
 use std::alloc::Global;

@@ -1,5 +1,5 @@
 use Rattle.std.proofs.Common.{◌+◌, ◌*◌, length}
-use Rattle.http_listener.proofs.rows.+row.Given as goal
+use Rattle.http_event_loop.proofs.rows.+row.Given as goal
 
 abbrev pub decreases-run_row : goal.decreases-run_row
 decreases-run_row g l = 3 * length l.row.now

@@ -3,7 +3,7 @@ use denote.Param.{param}
 use denote.Param.Send.{IsSync, sendable, param_send, arg_send}
 use Rattle.std.proofs.Common.{◌≡◌, Some, ap, length, ◌++◌, drop, rules, ◌∙◌, sym}
 use Rattle.http_event_loop.specs.Counted.{taken_over}
-use Rattle.http_listener.specs.Rows.{RunsEach}
+use Rattle.http_event_loop.specs.Rows.{RunsEach}
 use Rattle.kcp_commands.proofs.Sent.{looping}
 use Rattle.kcp_commands.proofs.Answered.{Ran, all_taken, answered_limit, answered_some, as_many, nobody_yet, on_err}
 use Rattle.kcp_commands.proofs.serving_threads.run_loops.Goals as goal
