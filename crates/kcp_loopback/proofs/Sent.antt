@@ -28,8 +28,8 @@ use Rattle.kcp_loopback.specs.contracts.other_server.OtherServer as OtherServer
 use Rattle.kcp_loopback.specs.contracts.own_server.OwnServer as OwnServer
 use Rattle.kcp_loopback.proofs.reach.Reach.TheSendSync as reach_of
 use Rattle.kcp_loopback.specs.contracts.reach.Reach as Reach
-use Rattle.cancellable_reader.proofs.patient.Patient.TheSendSync as patient
-use Rattle.cancellable_reader.specs.contracts.patient.Patient as Patient
+use Rattle.tcp_client.proofs.patient.Patient.TheSendSync as patient
+use Rattle.tcp_client.specs.contracts.patient.Patient as Patient
 use Rattle.api_client.proofs.asking.Remote.TheSendSync as remote_of
 use Rattle.api_client.specs.contracts.asking.Remote as Remote
 use Rattle.std.proofs.io.buffered.BufReader.TheSendSync as buffered

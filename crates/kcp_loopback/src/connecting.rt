@@ -4,13 +4,13 @@ use crate::reach::Reach;
 use crate::telling::Teller;
 use crate::trouble::Trouble;
 use api_client::Connect;
-use cancellable_reader::Patient;
-use cancellable_reader::patient::PIECE_MILLISECONDS;
 use std::alloc::Global;
 use std::io;
 use std::io::{BufReader, ErrorKind};
 use std::net::{Ipv4Addr, Net, TcpStream};
 use std::time::Duration;
+use tcp_client::Patient;
+use tcp_client::patient::PIECE_MILLISECONDS;
 use wakeups::Stop;
 
 /// After how many seconds without a byte a connection is given up.

@@ -5,7 +5,6 @@ ghost use Rattle.manager.specs.Followed.{reflector_of};
 
 use crate::handling::Handler;
 use api_client::Api;
-use cancellable_reader::StoppableClock;
 use informer::SharedInformer;
 use list_and_watch::{Follower, follow};
 use manager_worker::Signals;
@@ -13,6 +12,7 @@ use spec_api::kinds::Kind;
 use std::alloc::Global;
 use std::sync::Wait;
 use std::time::Clock;
+use tcp_client::StoppableClock;
 
 /// What follows a kind at the server: a reflector and an informer, and what handles each change once it is published.
 #[derive(Drop)]

@@ -3,12 +3,12 @@ ghost use Rattle.std.specs.Prelude.{◌≤◌};
 ghost use Rattle.control_desk.specs.Desks.{known, IsPassAt};
 ghost use Rattle.manager.specs.Passed.{passed_in};
 
-use cancellable_reader::StoppableClock;
 use control_desk::{ControlDesk, WorkPass};
 use manager_worker::Signals;
 use std::alloc::AllocError;
 use std::sync::Wait;
 use std::time::Clock;
+use tcp_client::StoppableClock;
 
 /// How many milliseconds lie between two ticks.
 const TICK_MILLISECONDS: u64 = 5;

@@ -1,3 +1,4 @@
 -- The definitions, in reading order.
 pub mod Connections
 pub mod Clocks
+pub mod StoppedClocks

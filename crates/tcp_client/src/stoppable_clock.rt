@@ -1,8 +1,8 @@
 //! The clock of the machine, with pauses that a stop ends.
+use crate::wall_clock::WallClock;
 use list_and_watch::{Onward, Timer};
 use std::sync::Wait;
 use std::time::Clock;
-use tcp_client::WallClock;
 use wakeups::Stop;
 
 /// The clock of the machine, and how long it went on since this was made. Who pauses by it wakes when all is to stop.
@@ -16,7 +16,7 @@ pub struct StoppableClock<'a, R> {
 impl<'a, R: Clock> StoppableClock<'a, R> {
     ghost use Rattle.std.specs.Prelude.{◌≡◌, ◌-◌, ◌/◌, ◌^◌, min};
     ghost use Rattle.metadata_values.specs.Stopwatches.{passed_in};
-    ghost use Rattle.cancellable_reader.specs.Clocks.{stopwatch_at};
+    ghost use Rattle.tcp_client.specs.StoppedClocks.{stopwatch_at};
     ghost use Rattle.tcp_client.specs.Clocks.{LooksAgain};
 
     /// Returns a clock that begins now.
