@@ -1,1 +1,3 @@
 pub mod Replays
+-- The definitions, in reading order.
+pub mod Replies

@@ -3,7 +3,7 @@ ghost use Rattle.std.specs.Prelude.{◌≡◌, ◌==◌, IfOk, count_by};
 ghost use Rattle.object_keys.specs.Faults.{refusal_of};
 ghost use Rattle.spec_api.specs.Refusals.{code, status_body};
 ghost use Rattle.serde_json.specs.Written.{compact_text};
-ghost use Rattle.line_relay.specs.Replies.{line_text, is_of_lines, watch_text, reply_text};
+ghost use Rattle.kcp_lines.specs.Replies.{line_text, is_of_lines, watch_text, reply_text};
 
 use http_client::HttpReply;
 use object_keys::Fault;

@@ -2,7 +2,7 @@
 ghost use Rattle.std.specs.Prelude.{◌≡◌, OnOk, IfErr, IfSome, true};
 ghost use Rattle.chunked.specs.Devices.{device_of, has_failed};
 ghost use Rattle.spec_api.specs.Replies.{default_window};
-ghost use Rattle.kcp_replay.specs.Replays.{AnswersAll, AnswersSome};
+ghost use Rattle.kcp_lines.specs.Replays.{AnswersAll, AnswersSome};
 
 use chunked::Watched;
 use line_service::RunFault;

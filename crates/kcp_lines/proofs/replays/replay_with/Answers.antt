@@ -1,6 +1,6 @@
 use Rattle.chunked.specs.Devices.{device_of}
-use Rattle.kcp_replay.proofs.Runs.{all-replayed, some-replayed, none-answered}
-use Rattle.kcp_replay.proofs.replays.replay_with.Goals as goal
+use Rattle.kcp_lines.proofs.Runs.{all-replayed, some-replayed, none-answered}
+use Rattle.kcp_lines.proofs.replays.replay_with.Goals as goal
 
 pub returns-in-Ok-clause-ok : goal.returns-in-Ok-clause-ok
 returns-in-Ok-clause-ok g c =

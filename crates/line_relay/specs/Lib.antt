@@ -1,2 +1,0 @@
--- The definitions, in reading order.
-pub mod Replies
