@@ -20,6 +20,7 @@ sys.dont_write_bytecode = True
 ROOT = pathlib.Path(__file__).resolve().parent.parent
 PROGRAM = "crates/kcp/out/kcp"
 FOLLOWER = "crates/watch_example/out/watch_example"
+BENCHMARKS = "crates/benchmarks/out/benchmarks"
 SECONDS_FOR_NEGATIVE_TESTS = 900
 RANDOM_HEADS = 5000
 RANDOM_BYTES = 100_000
@@ -145,6 +146,7 @@ def asked_of_program(log):
     }
     ran = {name: Run([sys.executable, "-B", f"conformance/{script}", "--program", PROGRAM, *rest], log) for name, (script, *rest) in words.items()}
     ran["pictures"] = Run([sys.executable, "-B", "conformance/simulate/pictures.py"], log)
+    ran["benchmarks"] = Run([sys.executable, "-B", "conformance/benchmarks.py", "--program", BENCHMARKS], log)
     ran["recorded bytes"] = Run([sys.executable, "-B", "conformance/recorded/run.py", "--follower", FOLLOWER], log)
     return ran
 

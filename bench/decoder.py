@@ -29,7 +29,7 @@ MOST_MEBIBYTES = 1024
 
 def run(program, piece, mebibytes, frame, limit):
     """Returns the seconds that one run took."""
-    command = [program, str(piece), str(mebibytes), str(frame)]
+    command = [program, "decoder", str(piece), str(mebibytes), str(frame)]
     began = time.perf_counter()
     try:
         found = subprocess.run(command, stdin=subprocess.DEVNULL, stdout=subprocess.PIPE, timeout=limit)
@@ -64,7 +64,7 @@ def measure(program, asked):
 
 def main():
     asked = shared.arguments(__doc__, "mebibytes", most=MOST_MEBIBYTES // 2, default=16, runs=5)
-    rows = measure(shared.built(asked.program, "decoder_bench", ["64", "1", str(FRAME)]), asked)
+    rows = measure(shared.built(asked.program, "benchmarks", ["decoder", "64", "1", str(FRAME)]), asked)
     print(f"best of {asked.runs} runs, {os.cpu_count()} processors")
     print("| Frames | Bytes of a piece | MiB | Seconds | Seconds for twice as many | Bytes a second |")
     print("|---|---|---|---|---|---|")

@@ -6,7 +6,7 @@ and publishes of one delta. Each run is a process of its own, and each figure th
 in the Pods and does nothing more. The time is the processor's.
 
 Usage: informer.py [--program PATH] [--thousands N] [--runs N] [--seconds N]
-  --program PATH   an executable that is built; without it `rt run -- owner 1` in crates/benchmarks proves and builds one first
+  --program PATH   an executable that is built; without it `rt run -- informer owner 1` in crates/benchmarks proves and builds one first
   --thousands N    how many thousand times each is done; 10 if left out
   --runs N         runs of each kind, of which the best counts, 5 if left out
   --seconds N      the longest that one run may take, 120 if left out
@@ -38,7 +38,7 @@ def run(program, part, times, limit):
     """Returns the seconds of the processor that one run took."""
     began = spent()
     try:
-        done = subprocess.run([program, part, str(times)], stdin=subprocess.DEVNULL, capture_output=True, text=True, timeout=limit)
+        done = subprocess.run([program, "informer", part, str(times)], stdin=subprocess.DEVNULL, capture_output=True, text=True, timeout=limit)
     except subprocess.TimeoutExpired:
         sys.exit(f"{program} {part} {times} took more than {limit} seconds")
     seconds = spent() - began
@@ -49,7 +49,7 @@ def run(program, part, times, limit):
 
 def main():
     asked = shared.arguments(__doc__, "thousands", most=4_000_000, default=10, runs=5)
-    program = shared.built(asked.program, "informer_bench", ["owner", "1"])
+    program = shared.built(asked.program, "benchmarks", ["informer", "owner", "1"])
     print(f"10000 Pods of 100 ReplicaSets, best of {asked.runs} runs, {os.cpu_count()} processors")
     print("| What | So many | Microseconds each |")
     print("|---|---|---|")

@@ -7,7 +7,7 @@ another thread publishes a delta each millisecond, or as often as it can, for tw
 beside it stand the least and the greatest. What a run writes is checked.
 
 Usage: listers.py [--program PATH] [--thousands N] [--runs N] [--seconds N]
-  --program PATH   an executable that is built; without it `rt run -- publish 1` in crates/benchmarks proves and builds one first
+  --program PATH   an executable that is built; without it `rt run -- lister publish 1` in crates/benchmarks proves and builds one first
   --thousands N    how many thousand deltas are published, 20 if left out
   --runs N         runs of each kind, 5 if left out
   --seconds N      the longest that one run may take, 120 if left out
@@ -41,7 +41,7 @@ def run(program, part, number, limit):
     """Returns what one run wrote, and the seconds of the processor that it took."""
     began = spent()
     try:
-        done = subprocess.run([program, part, str(number)], stdin=subprocess.DEVNULL, capture_output=True, text=True, timeout=limit)
+        done = subprocess.run([program, "lister", part, str(number)], stdin=subprocess.DEVNULL, capture_output=True, text=True, timeout=limit)
     except subprocess.TimeoutExpired:
         sys.exit(f"{program} {part} {number} took more than {limit} seconds")
     if done.returncode != 0:
@@ -68,7 +68,7 @@ def looks(program, part, threads, limit):
 
 def main():
     asked = shared.arguments(__doc__, "thousands", most=4_000_000, default=20, runs=5)
-    program = shared.built(asked.program, "lister_bench", ["publish", "1"])
+    program = shared.built(asked.program, "benchmarks", ["lister", "publish", "1"])
     times = asked.thousands * 1000
     print(f"{PODS:,} Pods, {asked.runs} runs of each kind, {os.cpu_count()} processors, load {os.getloadavg()[0]:.1f}")
     taken_in = statistics.median(publishes(program, 0, asked.seconds) for _ in range(asked.runs))

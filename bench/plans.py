@@ -10,7 +10,7 @@ that sets beyond the history are deleted. Each run is a process of its own, and 
 processor's time, less that of a run that makes the objects and plans nothing. How many commands were planned is checked.
 
 Usage: plans.py [--program PATH] [--plans N] [--runs N] [--seconds N]
-  --program PATH   an executable that is built; without it `rt run -- half 500 2` in crates/benchmarks proves and builds one first
+  --program PATH   an executable that is built; without it `rt run -- plan half 500 2` in crates/benchmarks proves and builds one first
   --plans N        how many plans are made for 500 pods, and fewer for more; 1000 if left out
   --runs N         runs of each kind, of which the best counts, 5 if left out
   --seconds N      the longest that one run may take, 120 if left out
@@ -55,7 +55,7 @@ def run(program, way, pods, plans, commands, limit):
     words = [way, str(pods), str(plans)]
     before = processor_seconds()
     try:
-        done = subprocess.run([program, *words], stdin=subprocess.DEVNULL, capture_output=True, text=True, timeout=limit)
+        done = subprocess.run([program, "plan", *words], stdin=subprocess.DEVNULL, capture_output=True, text=True, timeout=limit)
     except subprocess.TimeoutExpired:
         sys.exit(f"{program} {' '.join(words)} took more than {limit} seconds")
     seconds = processor_seconds() - before
@@ -84,7 +84,7 @@ def measure(program, asked):
 
 def main():
     asked = shared.arguments(__doc__, "plans", most=10**6, default=1000, runs=5)
-    program = shared.built(asked.program, "plan_bench", ["half", str(FEW), "2"])
+    program = shared.built(asked.program, "benchmarks", ["plan", "half", str(FEW), "2"])
     seconds = measure(program, asked)
     load = ", ".join(f"{number:.2f}" for number in os.getloadavg())
     print(f"best of {asked.runs} runs, {os.cpu_count()} processors, load average {load}")

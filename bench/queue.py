@@ -8,7 +8,7 @@ its own, and each figure the best of several, less the time of a run that makes 
 writes is checked.
 
 Usage: queue.py [--program PATH] [--thousands N] [--runs N] [--seconds N]
-  --program PATH   an executable that is built; without it `rt run -- queue 1` in crates/benchmarks proves and builds one first
+  --program PATH   an executable that is built; without it `rt run -- queue queue 1` in crates/benchmarks proves and builds one first
   --thousands N    how many thousand keys are added, 1000 if left out
   --runs N         runs of each kind, of which the best counts, 5 if left out
   --seconds N      the longest that one run may take, 120 if left out
@@ -32,7 +32,7 @@ def run(program, way, thousands, limit):
     began = time.perf_counter()
     try:
         done = subprocess.run(
-            [program, way, str(thousands)], stdin=subprocess.DEVNULL, capture_output=True, text=True, timeout=limit
+            [program, "queue", way, str(thousands)], stdin=subprocess.DEVNULL, capture_output=True, text=True, timeout=limit
         )
     except subprocess.TimeoutExpired:
         sys.exit(f"{program} {way} {thousands} took more than {limit} seconds")
@@ -55,7 +55,7 @@ def measure(program, asked):
 
 def main():
     asked = shared.arguments(__doc__, "thousands", most=2**32 - 1, default=1000, runs=5)
-    seconds = measure(shared.built(asked.program, "queue_bench", ["queue", "1"]), asked)
+    seconds = measure(shared.built(asked.program, "benchmarks", ["queue", "queue", "1"]), asked)
     count = asked.thousands * 1000
     print(f"{count} adds, gets and dones over 100000 keys, best of {asked.runs} runs, {os.cpu_count()} processors")
     print("| Through | Operations a second | Seconds |")

@@ -1,4 +1,4 @@
-//! Feeds the decoder of frames for a benchmark: `decoder_bench PIECE MEBIBYTES FRAME` makes as many frames of FRAME bytes
+//! Feeds the decoder of frames for a benchmark: `benchmarks decoder PIECE MEBIBYTES FRAME` makes as many frames of FRAME bytes
 //! as go into so many MiB, feeds them in pieces of PIECE bytes, and writes how many frames came out.
 
 use crate::decoder_feeding::FeedFault;
@@ -8,14 +8,12 @@ use std::process::ExitCode;
 use std::{env, io};
 
 /// Returns what the program is asked by its arguments.
-fn read_arguments(rt: &HostRuntime) -> io::Result<Option<Sizes>> {
-    let mut words = env::args(rt)?;
-    let _program = words.next();
+fn read_arguments(words: &mut env::Args) -> Option<Sizes> {
     match (words.next(), words.next(), words.next(), words.next()) {
         (Some(piece), Some(mebibytes), Some(frame), None) => {
-            Ok(Sizes::read(piece.as_str(), mebibytes.as_str(), frame.as_str()))
+            Sizes::read(piece.as_str(), mebibytes.as_str(), frame.as_str())
         }
-        _ => Ok(None),
+        _ => None,
     }
 }
 
@@ -33,9 +31,10 @@ fn fault_name(fault: FeedFault) -> &'static str {
     }
 }
 
-fn main(rt: HostRuntime) -> io::Result<ExitCode> {
-    let Some(asked) = read_arguments(&rt)? else {
-        eprintln!(rt; "decoder_bench: bad arguments")?;
+/// Measures what the words ask for, writes what came of it, and returns the status of the program.
+pub fn run(rt: &HostRuntime, words: &mut env::Args) -> io::Result<ExitCode> {
+    let Some(asked) = read_arguments(words) else {
+        eprintln!(rt; "benchmarks: bad arguments")?;
         return Ok(ExitCode::from(2));
     };
     match frames(rt.alloc(), asked) {
@@ -44,7 +43,7 @@ fn main(rt: HostRuntime) -> io::Result<ExitCode> {
             Ok(ExitCode::SUCCESS)
         }
         Err(fault) => {
-            eprintln!(rt; "decoder_bench: {}", fault_name(fault))?;
+            eprintln!(rt; "benchmarks: {}", fault_name(fault))?;
             Ok(ExitCode::from(1))
         }
     }

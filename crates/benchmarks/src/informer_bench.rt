@@ -1,4 +1,4 @@
-//! Measures an indexed copy of Pods: `informer_bench WHAT TIMES` takes in 10,000 Pods of 100 ReplicaSets, and then does WHAT so
+//! Measures an indexed copy of Pods: `benchmarks informer WHAT TIMES` takes in 10,000 Pods of 100 ReplicaSets, and then does WHAT so
 //! many times: `put` applies a delta that puts a Pod, `copy` copies the copy, `owner` looks up the Pods of a ReplicaSet,
 //! `owed` asks which keys a change of a Pod owes, and `publish` publishes a delta.
 
@@ -28,21 +28,20 @@ fn named(word: &str) -> Option<What> {
 }
 
 /// Returns what the arguments ask for, and how many times.
-fn asked(rt: &HostRuntime) -> io::Result<Option<(What, u32)>> {
-    let mut words = env::args(rt)?;
-    let _program = words.next();
+fn asked(words: &mut env::Args) -> Option<(What, u32)> {
     let (Some(what), Some(times), None) = (words.next(), words.next(), words.next()) else {
-        return Ok(None);
+        return None;
     };
     let (Some(what), Ok(times)) = (named(what.as_str()), times.as_str().parse::<u32>()) else {
-        return Ok(None);
+        return None;
     };
-    Ok(Some((what, times)))
+    Some((what, times))
 }
 
-fn main(rt: HostRuntime) -> io::Result<ExitCode> {
-    let Some((what, times)) = asked(&rt)? else {
-        eprintln!(rt; "informer_bench: bad arguments")?;
+/// Measures what the words ask for, writes what came of it, and returns the status of the program.
+pub fn run(rt: &HostRuntime, words: &mut env::Args) -> io::Result<ExitCode> {
+    let Some((what, times)) = asked(words) else {
+        eprintln!(rt; "benchmarks: bad arguments")?;
         return Ok(ExitCode::from(2));
     };
     match crate::informer_rounds::run(rt.alloc(), what, times) {
@@ -51,7 +50,7 @@ fn main(rt: HostRuntime) -> io::Result<ExitCode> {
             Ok(ExitCode::SUCCESS)
         }
         Err(_) => {
-            eprintln!(rt; "informer_bench: no memory")?;
+            eprintln!(rt; "benchmarks: no memory")?;
             Ok(ExitCode::from(1))
         }
     }

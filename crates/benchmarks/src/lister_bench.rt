@@ -1,4 +1,4 @@
-//! Measures an informer whose map is read without waiting: `lister_bench WHAT NUMBER` takes in 10,000 Pods, and then does WHAT:
+//! Measures an informer whose map is read without waiting: `benchmarks lister WHAT NUMBER` takes in 10,000 Pods, and then does WHAT:
 //! `publish` publishes a delta so many times; `looks` has so many threads look for two seconds, while another publishes a thousand
 //! deltas a second, or as many as it can, and each look reads the revision; with `gets` each gets a Pod. It prints how many shifts
 //! the publishes had, or how many looks and publishes there were a second.
@@ -31,16 +31,14 @@ fn named(word: &str) -> Option<Measurement> {
 }
 
 /// Returns what the arguments ask for, and the number.
-fn asked(rt: &HostRuntime) -> io::Result<Option<(Measurement, u32)>> {
-    let mut words = env::args(rt)?;
-    let _program = words.next();
+fn asked(words: &mut env::Args) -> Option<(Measurement, u32)> {
     let (Some(what), Some(number), None) = (words.next(), words.next(), words.next()) else {
-        return Ok(None);
+        return None;
     };
     let (Some(what), Ok(number)) = (named(what.as_str()), number.as_str().parse::<u32>()) else {
-        return Ok(None);
+        return None;
     };
-    Ok(Some((what, number)))
+    Some((what, number))
 }
 
 /// Returns how many looks and publishes there were a second, as a text.
@@ -77,18 +75,19 @@ fn measured<R: Threads + Wait + Clock + Sync>(
     }
 }
 
-fn main(rt: HostRuntime) -> io::Result<ExitCode> {
-    let Some((what, number)) = asked(&rt)? else {
-        eprintln!(rt; "lister_bench: bad arguments")?;
+/// Measures what the words ask for, writes what came of it, and returns the status of the program.
+pub fn run(rt: &HostRuntime, words: &mut env::Args) -> io::Result<ExitCode> {
+    let Some((what, number)) = asked(words) else {
+        eprintln!(rt; "benchmarks: bad arguments")?;
         return Ok(ExitCode::from(2));
     };
-    match measured(&rt, rt.alloc(), what, number) {
+    match measured(rt, rt.alloc(), what, number) {
         Ok(text) => {
             println!(rt; "{text}")?;
             Ok(ExitCode::SUCCESS)
         }
         Err(_) => {
-            eprintln!(rt; "lister_bench: no memory")?;
+            eprintln!(rt; "benchmarks: no memory")?;
             Ok(ExitCode::from(1))
         }
     }

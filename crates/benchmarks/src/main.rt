@@ -19,3 +19,28 @@ mod queue_bench;
 mod queue_rounds;
 mod sizes;
 mod waiting_line;
+
+use std::process::ExitCode;
+use std::{env, io};
+
+fn main(rt: HostRuntime) -> io::Result<ExitCode> {
+    let mut words = env::args(&rt)?;
+    let _program = words.next();
+    let Some(what) = words.next() else {
+        return bad_arguments(&rt);
+    };
+    match what.as_str() {
+        "queue" => queue_bench::run(&rt, &mut words),
+        "decoder" => decoder_bench::run(&rt, &mut words),
+        "informer" => informer_bench::run(&rt, &mut words),
+        "lister" => lister_bench::run(&rt, &mut words),
+        "plan" => plan_bench::run(&rt, &mut words),
+        _ => bad_arguments(&rt),
+    }
+}
+
+/// Says that the arguments ask for nothing.
+fn bad_arguments(rt: &HostRuntime) -> io::Result<ExitCode> {
+    eprintln!(rt; "benchmarks: bad arguments")?;
+    Ok(ExitCode::from(2))
+}

@@ -1,4 +1,4 @@
-//! Measures plans: `plan_bench WAY COUNT PLANS` makes a ReplicaSet with so many pods, or a Deployment with so many sets, and
+//! Measures plans: `benchmarks plan WAY COUNT PLANS` makes a ReplicaSet with so many pods, or a Deployment with so many sets, and
 //! plans so often of what is then there. The ways are `status`, where only the status of the set is to be updated, `half`, where
 //! half of the pods are too many, for the collector `foreground` and `orphan`, where the set is being deleted and waits for its
 //! pods, or leaves them, and for the Deployment `rollout`, where its new set grows, and `history`, where sets that nobody needs
@@ -46,25 +46,23 @@ fn way_named(name: &str) -> Option<Way> {
 }
 
 /// Returns what the arguments ask for.
-fn asked(rt: &HostRuntime) -> io::Result<Option<Task>> {
-    let mut words = env::args(rt)?;
-    let _program = words.next();
+fn asked(words: &mut env::Args) -> Option<Task> {
     let (Some(way), Some(count), Some(plans), None) = (
         words.next(),
         words.next(),
         words.next(),
         words.next(),
     ) else {
-        return Ok(None);
+        return None;
     };
     let (Some(way), Ok(count), Ok(plans)) = (
         way_named(way.as_str()),
         count.as_str().parse::<u32>(),
         plans.as_str().parse::<u32>(),
     ) else {
-        return Ok(None);
+        return None;
     };
-    Ok(Some(Task { way, count, plans }))
+    Some(Task { way, count, plans })
 }
 
 /// Returns the plan of a hand.
@@ -90,9 +88,10 @@ fn commands(alloc: Global, task: Task) -> Result<u64, Fault> {
     Ok(commands)
 }
 
-fn main(rt: HostRuntime) -> io::Result<ExitCode> {
-    let Some(task) = asked(&rt)? else {
-        eprintln!(rt; "plan_bench: bad arguments")?;
+/// Measures what the words ask for, writes what came of it, and returns the status of the program.
+pub fn run(rt: &HostRuntime, words: &mut env::Args) -> io::Result<ExitCode> {
+    let Some(task) = asked(words) else {
+        eprintln!(rt; "benchmarks: bad arguments")?;
         return Ok(ExitCode::from(2));
     };
     match commands(rt.alloc(), task) {
@@ -101,7 +100,7 @@ fn main(rt: HostRuntime) -> io::Result<ExitCode> {
             Ok(ExitCode::SUCCESS)
         }
         Err(fault) => {
-            eprintln!(rt; "plan_bench: {fault:?}")?;
+            eprintln!(rt; "benchmarks: {fault:?}")?;
             Ok(ExitCode::from(1))
         }
     }

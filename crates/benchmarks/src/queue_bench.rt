@@ -1,5 +1,5 @@
-//! Measures the work queue: `queue_bench queue` adds, hands out and takes back keys through the queue that controllers
-//! use, `queue_bench plain` does the same with a set and a deque that keep none of its rules.
+//! Measures the work queue: `benchmarks queue queue` adds, hands out and takes back keys through the queue that controllers
+//! use, `benchmarks queue plain` does the same with a set and a deque that keep none of its rules.
 //!
 //! A second word is how many thousand keys are added, 1,000 where it is left out.
 
@@ -20,22 +20,20 @@ enum Way {
 }
 
 /// Returns what the arguments ask for: what is measured, and how many thousand keys are added.
-fn asked(rt: &HostRuntime) -> io::Result<Option<(Way, u32)>> {
-    let mut words = env::args(rt)?;
-    let _program = words.next();
+fn asked(words: &mut env::Args) -> Option<(Way, u32)> {
     let (Some(way), thousands, None) = (words.next(), words.next(), words.next()) else {
-        return Ok(None);
+        return None;
     };
     let way = match way.as_str() {
         "queue" => Way::Queue,
         "plain" => Way::Plain,
-        _ => return Ok(None),
+        _ => return None,
     };
     let thousands = match thousands {
         Some(word) => word.as_str().parse::<u32>().ok(),
         None => Some(THOUSANDS),
     };
-    Ok(thousands.map(|count| (way, count)))
+    thousands.map(|count| (way, count))
 }
 
 /// Returns how many keys were handed out.
@@ -46,18 +44,19 @@ fn handed_out(rt: &HostRuntime, way: Way, thousands: u32) -> Result<u64, AllocEr
     }
 }
 
-fn main(rt: HostRuntime) -> io::Result<ExitCode> {
-    let Some((way, thousands)) = asked(&rt)? else {
-        eprintln!(rt; "queue_bench: bad arguments")?;
+/// Measures what the words ask for, writes what came of it, and returns the status of the program.
+pub fn run(rt: &HostRuntime, words: &mut env::Args) -> io::Result<ExitCode> {
+    let Some((way, thousands)) = asked(words) else {
+        eprintln!(rt; "benchmarks: bad arguments")?;
         return Ok(ExitCode::from(2));
     };
-    match handed_out(&rt, way, thousands) {
+    match handed_out(rt, way, thousands) {
         Ok(count) => {
             println!(rt; "{count} keys handed out")?;
             Ok(ExitCode::SUCCESS)
         }
         Err(_) => {
-            eprintln!(rt; "queue_bench: no memory")?;
+            eprintln!(rt; "benchmarks: no memory")?;
             Ok(ExitCode::from(1))
         }
     }

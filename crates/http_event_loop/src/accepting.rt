@@ -1,4 +1,5 @@
 //! Connections that are accepted.
+use crate::given::Given;
 use crate::loops::Loops;
 use mio::net::{TcpListener, TcpStream};
 use mio::{Interest, Poll, Token};
@@ -27,6 +28,8 @@ pub(crate) struct Accepting {
     left: Option<u64>,
     /// The loop whose turn it was last.
     turn: usize,
+    /// Whether the own loop was given what takes long when last none was free.
+    is_own_turn: bool,
     /// The loop that is given the next connection of the round, if its share has some left.
     place: usize,
     /// How many more that one is given.
@@ -56,6 +59,7 @@ impl Accepting {
             listener,
             left: limit,
             turn: 0,
+            is_own_turn: false,
             place: 0,
             share: 0,
             is_held_up: false,
@@ -119,6 +123,29 @@ impl Accepting {
         self.turn
     }
 
+    /// Returns the number of a loop that has nothing to do; where there is none, of the own one and of another by turns.
+    pub(crate) fn take_free(&mut self, own: usize, loops: &Loops) -> usize {
+        if let Some(number) = loops.free() {
+            return number;
+        }
+        self.is_own_turn = !self.is_own_turn;
+        if self.is_own_turn {
+            own
+        } else {
+            self.take_turn(own, loops.at_work())
+        }
+    }
+
+    /// Returns the number of the loop that is given a connection for another than the own. One that asks for a list goes to one that can begin
+    /// at once, and is left to the own if there is none; others are spread, since a watch stays where it is.
+    pub(crate) fn place_of(&mut self, own: usize, loops: &Loops, given: &Given) -> usize {
+        if given.is_list() {
+            self.take_free(own, loops)
+        } else {
+            self.take_turn(own, loops.at_work())
+        }
+    }
+
     /// Begins a round with the share of the own loop.
     pub(crate) fn begin_round(&mut self, own: usize) {
         self.place = own;
@@ -131,7 +158,7 @@ impl Accepting {
         if self.share == 0 {
             self.place = match loops.free() {
                 Some(number) => number,
-                None => self.take_turn(own, loops.count()),
+                None => self.take_turn(own, loops.at_work()),
             };
             self.share = SHARE;
         }

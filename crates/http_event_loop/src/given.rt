@@ -22,4 +22,9 @@ impl Given {
             since: now,
         }
     }
+
+    /// Returns whether the connection is to ask for a list.
+    pub(crate) fn is_list(&self) -> bool {
+        matches!(self.begun, Begun::List { .. })
+    }
 }

@@ -10,6 +10,7 @@ use std::alloc::Global;
 use std::io;
 use std::net::Net;
 use std::sync::atomic::{AtomicU64, Ordering};
+use std::thread::{Threads, available_parallelism};
 
 /// What some loops share, each on a thread of its own: how each is reached, how many connections are open over all, and whether all are to
 /// stop.
@@ -18,13 +19,28 @@ use std::sync::atomic::{AtomicU64, Ordering};
 #[derive(Drop)]
 pub struct Loops {
     wakes: Vec<Wakes>,
+    /// How many of them, from the first on, are given connections by the loop that accepts.
+    at_work: usize,
     open: Open,
     is_stopped: AtomicU64,
 }
 
+/// Returns how many of so many loops are given connections by one that accepts: no more than there are processors besides its own, since more
+/// would only take these from one another.
+fn at_work<R: Threads>(rt: &R, count: usize) -> usize {
+    match available_parallelism(rt) {
+        Ok(processors) => count.min(processors.get().saturating_sub(1).max(1)),
+        Err(_) => count,
+    }
+}
+
 impl Loops {
-    /// Returns what so many loops share, and where each waits.
-    pub fn open<R: Net>(rt: &R, alloc: Global, count: usize) -> io::Result<(Loops, Vec<LoopPlace>)>
+    /// Returns what so many loops share, and where each waits. Of those beyond the number of processors some are given nothing.
+    pub fn open<R: Net + Threads>(
+        rt: &R,
+        alloc: Global,
+        count: usize,
+    ) -> io::Result<(Loops, Vec<LoopPlace>)>
         ensures { IfOk result (λ opened. length opened.1.items ≡ count) }
     {
         let mut wakes = Vec::with_capacity(alloc, count)?;
@@ -36,6 +52,7 @@ impl Loops {
         }
         let loops = Loops {
             wakes,
+            at_work: at_work(rt, count),
             open: Open::new(),
             is_stopped: AtomicU64::new(0),
         };
@@ -80,9 +97,14 @@ impl Loops {
         self.wakes.get(number)
     }
 
-    /// Returns the number of a loop that has nothing to do: the first one, so that no more are woken than are needed.
+    /// Returns how many loops are given connections by the one that accepts, from the first on.
+    pub(crate) fn at_work(&self) -> usize {
+        self.at_work
+    }
+
+    /// Returns the number of a loop at work that has nothing to do: the first one, so that no more are woken than are needed.
     pub(crate) fn free(&self) -> Option<usize> {
-        self.wakes.iter().position(Wakes::is_free)
+        self.wakes.iter().take(self.at_work).position(Wakes::is_free)
     }
 
     /// Returns whether one more connection may be open.

@@ -145,7 +145,27 @@ impl<'a> Rounds<'a> {
         }
     }
 
-    /// Lets a connection begin that the loop accepted. One that is for another loop is given to the one whose turn it is.
+    /// Gives a connection to the loop of this number, or lets it begin if that is this loop.
+    #[tactic(auto, using(crate::proofs::Chains::asks_on, crate::proofs::Chains::asks_nothing))]
+    fn pass_on<S: Site, L: Ledger, R: Wait>(
+        &mut self,
+        rt: &R,
+        registry: &Registry,
+        number: usize,
+        given: Given,
+        asker: &mut Asker<'_, S, L>,
+    )
+        ensures { HasAsked S.Calls S.Lists S.Begins S.Watches asker.old asker.new }
+    {
+        if number == self.number {
+            self.connections
+                .begin(rt, registry, given, asker, &self.tick);
+        } else {
+            self.give(rt, registry, number, given, asker);
+        }
+    }
+
+    /// Lets a connection begin that the loop accepted, or passes it on.
     #[tactic(auto, using(crate::proofs::Chains::asks_on, crate::proofs::Chains::asks_nothing))]
     fn begin_accepted<S: Site, L: Ledger, R: Wait>(
         &mut self,
@@ -161,8 +181,8 @@ impl<'a> Rounds<'a> {
             .connections
             .begin_here(rt, registry, given, asker, &self.tick);
         if let Some(given) = returned {
-            let number = accepting.take_turn(self.number, self.loops.count());
-            self.give(rt, registry, number, given, asker);
+            let number = accepting.place_of(self.number, self.loops, &given);
+            self.pass_on(rt, registry, number, given, asker);
         }
     }
 
