@@ -23,9 +23,9 @@ BESIDE = {
     "spec_server": ["Snapshots", "Recorded", "Servers"],
     "spec_client_go": ["ReadFrames", "Reflectors", "WorkQueues", "Delays", "Expectations", "Informers", "Shifts", "OwnerReferences", "OwedKeys", "Hands", "Commands", "Boards"],
     "keyed_queues": ["Queues", "Delays", "Failures"],
-    "spec_sim": ["Followers", "Moves", "Clusters", "OutcomeTexts", "StepLines", "Turns", "NextSteps", "PodObservations", "Managers", "Outcomes", "ControlPlanes", "ControlPlaneOutcomeTexts", "ControlPlaneStepLines"],
     "spec_reconcile": ["Pods", "PodClaims", "PodRanks", "NewPods", "ReplicaSets", "Rollouts", "Templates", "Revisions", "Deployments", "Standings", "GarbageCollection", "MetadataEdits",
               "Counts", "Statuses", "Orders"],
+    "spec_sim": ["Followers", "Moves", "Clusters", "OutcomeTexts", "StepLines", "Turns", "NextSteps", "PodObservations", "Managers", "Outcomes", "ControlPlanes", "ControlPlaneOutcomeTexts", "ControlPlaneStepLines"],
 }
 
 # The crates of laws, whose words stand in the index of words.
@@ -45,8 +45,8 @@ LAWS_HEAD = """# Laws
 
 What follows from the [definitions](DEFINITIONS.md), whatever code meets them, and what crates of code say of their own words. Each law is
 the contract of a public function with an empty body, and proved; a heading has its crate and its file, in the order of `crates.txt`.
-Single cases, computed, are in `crates/spec_examples`. `docs/definitions.py` makes
-this page.
+Single cases, computed, are in `crates/spec_examples`, and those of other crates here too, in files named `*examples.rt`. `docs/definitions.py`
+makes this page.
 """
 
 
