@@ -6,6 +6,7 @@
 use crate::lister_looks::Wanted;
 use crate::lister_pods::{PODS, key};
 use std::alloc::{AllocError, Global};
+use std::io::{Eprint, Print};
 use std::process::ExitCode;
 use std::sync::Wait;
 use std::thread::Threads;
@@ -76,12 +77,15 @@ fn measured<R: Threads + Wait + Clock + Sync>(
 }
 
 /// Measures what the words ask for, writes what came of it, and returns the status of the program.
-pub fn run(rt: &HostRuntime, words: &mut env::Args) -> io::Result<ExitCode> {
+pub fn run<R>(rt: &R, alloc: Global, words: &mut env::Args) -> io::Result<ExitCode>
+where
+    R: Threads + Wait + Clock + Sync + Print + Eprint,
+{
     let Some((what, number)) = asked(words) else {
         eprintln!(rt; "benchmarks: bad arguments")?;
         return Ok(ExitCode::from(2));
     };
-    match measured(rt, rt.alloc(), what, number) {
+    match measured(rt, alloc, what, number) {
         Ok(text) => {
             println!(rt; "{text}")?;
             Ok(ExitCode::SUCCESS)

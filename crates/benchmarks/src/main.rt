@@ -33,7 +33,7 @@ fn main(rt: HostRuntime) -> io::Result<ExitCode> {
         "queue" => queue_bench::run(&rt, &mut words),
         "decoder" => decoder_bench::run(&rt, &mut words),
         "informer" => informer_bench::run(&rt, &mut words),
-        "lister" => lister_bench::run(&rt, &mut words),
+        "lister" => lister_bench::run(&rt, rt.alloc(), &mut words),
         "plan" => plan_bench::run(&rt, &mut words),
         _ => bad_arguments(&rt),
     }
