@@ -103,7 +103,7 @@ impl<C: Connect + Drop> Remote<C> {
         };
         let mut reader = Watched::new(reader);
         let mut writer = Watched::new(writer);
-        let opened = begin_watch(alloc, text, &mut reader, &mut writer, self.limits.object);
+        let opened = begin_watch(alloc, text, &mut reader, &mut writer);
         if opened == Opened::Open {
             self.watch = Some(Reader::new(reader));
         }

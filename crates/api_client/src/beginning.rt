@@ -9,14 +9,12 @@ use http_client::{WatchAnswer, open_watch};
 use std::alloc::Global;
 use std::io::{Read, Write};
 
-/// Writes the text of a request for a watch, and reads up to where the watch begins, or the reply that refuses it, with a body of so many
-/// bytes at most.
+/// Writes the text of a request for a watch, and reads up to where the watch begins, or the head of the reply that refuses it.
 pub fn begin_watch<R: Read + Drop, W: Write + Drop>(
     alloc: Global,
     text: &[u8],
     reader: &mut Watched<R>,
     writer: &mut Watched<W>,
-    most: u32,
 ) -> Opened
     requires { has_failed writer.old ≡ false }
     ensures { IsBegun W.contents text.now (R.remaining (device_of reader.old)) (R.remaining (device_of reader.new))
@@ -26,7 +24,7 @@ pub fn begin_watch<R: Read + Drop, W: Write + Drop>(
         Ok(()) => {}
         Err(_) => return Opened::Lost,
     }
-    match open_watch(alloc, reader, most) {
+    match open_watch(alloc, reader) {
         Ok(WatchAnswer::Open) => Opened::Open,
         Ok(WatchAnswer::Expired) => Opened::Expired,
         Ok(WatchAnswer::Refused(code)) => Opened::Refused(code),

@@ -11,7 +11,7 @@ use Rattle.http_client.specs.Heads.{BeginsWithNoHead, SaysNothing, IsFramed, IsH
 use Rattle.http_client.specs.Reading.{IfKnown, IsShorterThan, ReadsHead, ReadsLongerHead}
 use Rattle.http_client.specs.Bodies.{ReadsBody, HasNoBody, HasLongBody, IsStatedWithin}
 use Rattle.http_client.specs.Replies.{ReadsReply, SaysInChunks, SaysWhole, SaysNoReply, IsNoBody, IsLonger}
-use Rattle.http_client.specs.Watches.{OpensNothing}
+use Rattle.http_client.specs.Watches.{HasCode, IsOpen, OpensNothing}
 use Rattle.http_client.proofs.WholeBodies.{body_there}
 use Rattle.http_client.specs.declared.framing.Framing.{Framing}
 use Rattle.http_client.specs.declared.framing.Framing.TheVariants as framing
@@ -65,11 +65,6 @@ not_chunked xs ys rest h reads none (k, others, limits, chunked, code) =
     let same = response_unique xs h k ys rest reads others in
     none (subst (λ g. IsChunked g) (sym same.0) chunked) (ap status_code same.0 ∙ code)
 
-no_opening : (before mid : Option (List ℕ)) (h : ResponseHead) → ReadsHead before mid h → IfKnown before SaysNothing → (IsChunked h → status_code h ≡ 200 → ⊥) → IfKnown before OpensNothing
-no_opening None mid h reads says none = tt
-no_opening (Some xs) None h (well, limits, read) says none = absurd read
-no_opening (Some xs) (Some ys) h (well, limits, read) says none = (says, λ rest opens. not_chunked xs ys rest h (well, read) none opens)
-
 -- ---- by what counts of a head
 
 abbrev pub HeadRead : ℕ → Option (List ℕ) → Option (List ℕ) → ReplyHead → Type 0
@@ -114,23 +109,33 @@ reply_other most before mid head (h, reads, of) is =
     let other = framed_as most h head framing.Other of is in
     unstated_says before mid h reads (λ n long. other.0 n long.0 long.1)
 
-pub opening_short : (most : ℕ) (before mid : Option (List ℕ)) (head : ReplyHead) (n : ℕ) → HeadRead most before mid head → head.framing ≡ framing.Length n → IfKnown mid (IsShorterThan n)
-    → IfKnown before OpensNothing
-opening_short most before mid head n (h, reads, of) is short =
-    let long = stated most h head n of is in
-    no_opening before mid h reads (short_says before mid h n reads long short) (λ chunked code. none_some chunked.0 long.0 chunked.1)
-  where
-    none_some : {vs : List (List ℕ)} → (v : List ℕ) → vs ≡ [] → vs ≡ v ∷ [] → ⊥
-    none_some v none e = absurd (cc)
+-- a body comes in chunks just where its head is framed so
+none_some : {vs : List (List ℕ)} → (v : List ℕ) → vs ≡ [] → vs ≡ v ∷ [] → ⊥
+none_some v none e = absurd (cc)
 
-pub opening_refused : (most : ℕ) (before mid : Option (List ℕ)) (head : ReplyHead) → HeadRead most before mid head → head.framing ≡ framing.Chunked → (head.code ≡ 200 → ⊥) → IfKnown before OpensNothing
-opening_refused most before mid head (h, reads, of) is other =
-    no_opening before mid h reads (reply_in_chunks most before mid head (h, reads, of) is) (λ chunked code. other (sym of.0 ∙ code))
+chunked_framing : (most : ℕ) (h : ResponseHead) (f : Framing) → IsFramed most (fields_of h) f → IsChunked h → f ≡ framing.Chunked
+chunked_framing most h (framing.Length n) is chunked = absurd (none_some chunked.0 is.0 chunked.1)
+chunked_framing most h framing.TooLong is chunked = absurd (none_some chunked.0 is.0 chunked.1)
+chunked_framing most h framing.Chunked is chunked = refl
+chunked_framing most h framing.Other is chunked = absurd (is.1 chunked.0 chunked.1 chunked.2)
 
-pub opening_other : (most : ℕ) (before mid : Option (List ℕ)) (head : ReplyHead) → HeadRead most before mid head → head.framing ≡ framing.Other → IfKnown before OpensNothing
-opening_other most before mid head (h, reads, of) is =
-    let other = framed_as most h head framing.Other of is in
-    no_opening before mid h reads (reply_other most before mid head (h, reads, of) is) (λ chunked code. other.1 chunked.0 chunked.1 chunked.2)
+-- a watch is opened
+pub head_opens : (most : ℕ) (before mid : Option (List ℕ)) (head : ReplyHead) → HeadRead most before mid head → head.framing ≡ framing.Chunked → head.code ≡ 200 → IsOpen before mid
+head_opens most None mid head read is code = tt
+head_opens most (Some xs) None head (h, reads, of) is code = absurd reads.2
+head_opens most (Some xs) (Some ys) head (h, (well, limits, read), of) is code = (h, (well, read), limits, framed_as most h head framing.Chunked of is, of.0 ∙ code)
+
+-- or not
+pub head_opens_nothing : (most : ℕ) (before mid : Option (List ℕ)) (head : ReplyHead) → HeadRead most before mid head → (head.framing ≡ framing.Chunked → head.code ≡ 200 → ⊥) → IfKnown before OpensNothing
+head_opens_nothing most None mid head read none = tt
+head_opens_nothing most (Some xs) None head (h, reads, of) none = absurd reads.2
+head_opens_nothing most (Some xs) (Some ys) head (h, (well, limits, read), of) none = λ rest.
+    not_chunked xs ys rest h (well, read) (λ chunked code. none (chunked_framing most h head.framing of.1 chunked) (sym of.0 ∙ code))
+
+pub head_has_code : (most : ℕ) (before mid : Option (List ℕ)) (head : ReplyHead) (code : ℕ) → HeadRead most before mid head → head.code ≡ code → IfKnown before (HasCode code)
+head_has_code most None mid head code read is = tt
+head_has_code most (Some xs) None head code (h, reads, of) is = absurd reads.2
+head_has_code most (Some xs) (Some ys) head code (h, (well, limits, read), of) is = (h, ys, (well, read), limits, of.0 ∙ is)
 
 -- ---- replies, however their bodies end
 

@@ -1,13 +1,14 @@
 //! Watches, opened.
 ghost use Rattle.std.specs.Prelude.{◌≡◌, IfOk, IfErr, true, Err};
 ghost use Rattle.chunked.specs.Devices.{device_of, has_failed};
-ghost use Rattle.http_client.specs.Reading.{IsWatched, IfKnown, ReadsLongerHead};
-ghost use Rattle.http_client.specs.Watches.{IsOpening, OpensNothing};
+ghost use Rattle.http_client.specs.Heads.{BeginsWithNoHead};
+ghost use Rattle.http_client.specs.Reading.{IsWatched, IfKnown};
+ghost use Rattle.http_client.specs.Watches.{IsOpening};
 ghost use Rattle.http_client.specs.declared.fault.ReplyFault.TheVariants as fault;
 
-use crate::body::read_body;
 use crate::fault::ReplyFault;
 use crate::framing::Framing;
+use crate::limit::LARGEST_BODY;
 use crate::reply_head::read_head;
 use chunked::Watched;
 use std::alloc::Global;
@@ -30,54 +31,38 @@ const OK: u16 = 200;
 /// The status code of what is no longer known (RFC 9110, 410 Gone).
 const GONE: u16 = 410;
 
-/// Returns what a whole reply says to who asked for a watch.
-fn refused_with(code: u16) -> WatchAnswer
-    ensures expired { code ≡ 410 → result ≡ WatchAnswer.Expired }
-    ensures refused { ¬ (code ≡ 410) → result ≡ WatchAnswer.Refused code }
-{
-    if code == GONE {
-        WatchAnswer::Expired
-    } else {
-        WatchAnswer::Refused(code)
-    }
-}
-
-/// Reads what a server says to who asked for a watch: the head of an open watch, and nothing beyond it; or a whole reply, with a body of so
-/// many bytes at most.
+/// Reads what a server says to who asks for a watch, by the head of its answer alone, and nothing beyond that: whatever body follows a refusal,
+/// and however its end is known, it is a refusal. An answer with the status 200 whose body does not come in chunks is one too.
 ///
-/// The error is the reader's, where a call of it fails, or had failed before; or that what the peer sent is neither; or that the reply's body
-/// is longer, of which nothing is read then; or out of memory.
+/// The error is the reader's, where a call of it fails, or had failed before; or that what the peer sent begins with no head; or out of memory.
 pub fn open_watch<R: Read + Drop>(
     alloc: Global,
     reader: &mut Watched<R>,
-    most: u32,
 ) -> Result<WatchAnswer, ReplyFault>
     ensures opening { IfOk result (IsOpening (R.remaining (device_of reader.old)) (R.remaining (device_of reader.new))) }
-    ensures long { IfErr result (λ f. f ≡ fault.TooLong → ReadsLongerHead most (R.remaining (device_of reader.old)) (R.remaining (device_of reader.new))) }
-    ensures none { IfErr result (λ f. f ≡ fault.NotAReply → IfKnown (R.remaining (device_of reader.old)) OpensNothing) }
+    ensures room { IfErr result (λ f. f ≡ fault.TooLong → ⊥) }
+    ensures none { IfErr result (λ f. f ≡ fault.NotAReply → IfKnown (R.remaining (device_of reader.old)) BeginsWithNoHead) }
     ensures watched { IsWatched (has_failed reader.new) result }
     ensures again { has_failed reader.old ≡ true → (result ≡ Err fault.Device) × (reader.new ≡ reader.old) }
 {
     if reader.has_failed() {
         return Err(ReplyFault::Device);
     }
-    let head = match read_head(alloc, reader, most) {
+    let head = match read_head(alloc, reader, LARGEST_BODY) {
         Ok(head) => head,
         Err(fault) => return Err(fault),
     };
+    if head.code == GONE {
+        return Ok(WatchAnswer::Expired);
+    }
     match head.framing {
-        Framing::Length(size) => match read_body(alloc, reader, size) {
-            Ok(_body) => Ok(refused_with(head.code)),
-            Err(fault) => Err(fault),
-        },
-        Framing::TooLong => Err(ReplyFault::TooLong),
         Framing::Chunked => {
             if head.code == OK {
                 Ok(WatchAnswer::Open)
             } else {
-                Err(ReplyFault::NotAReply)
+                Ok(WatchAnswer::Refused(head.code))
             }
         }
-        Framing::Other => Err(ReplyFault::NotAReply),
+        Framing::Length(_) | Framing::TooLong | Framing::Other => Ok(WatchAnswer::Refused(head.code)),
     }
 }

@@ -1,6 +1,6 @@
 //! Watches over readers of whose bytes no contract speaks.
 use chunked::{Reader, Watched};
-use http_client::{LARGEST_BODY, More, ReplyFault, WatchAnswer, open_watch, read_more};
+use http_client::{More, ReplyFault, WatchAnswer, open_watch, read_more};
 use std::alloc::Global;
 use test_fixtures::Source;
 
@@ -19,11 +19,7 @@ const GONE: &[u8] = b"HTTP/1.1 410 Gone\r\nContent-Length: 2\r\n\r\n{}";
 
 /// Opens the watch of a source.
 fn opening(alloc: Global, text: &[u8], most: usize) -> Result<WatchAnswer, ReplyFault> {
-    open_watch(
-        alloc,
-        &mut Watched::new(Source::new(text, most)),
-        LARGEST_BODY,
-    )
+    open_watch(alloc, &mut Watched::new(Source::new(text, most)))
 }
 
 /// Opens the watch of a source, and reads it to its end or cut, or to what is none of its frames. Returns how that ended, and how much of
@@ -31,7 +27,7 @@ fn opening(alloc: Global, text: &[u8], most: usize) -> Result<WatchAnswer, Reply
 fn watched(alloc: Global, source: Source<'_>) -> (More, usize) {
     let mut reader = Watched::new(source);
     let mut left = FRAMES;
-    if open_watch(alloc, &mut reader, LARGEST_BODY) != Ok(WatchAnswer::Open) {
+    if open_watch(alloc, &mut reader) != Ok(WatchAnswer::Open) {
         return (More::Cut, left.len());
     }
     let mut watch = Reader::new(reader);
@@ -77,20 +73,20 @@ fn a_watch_that_is_cut_has_no_end(rt: HostRuntime) {
     assert_eq!(rt; first_ended(rt.alloc()), None);
 }
 
-/// Replies to who asks for a watch, and what they come to.
+/// Answers to who asks for a watch, and what they come to: the head says it, however the body comes, and whether it does.
 const REFUSALS: [(&[u8], Result<WatchAnswer, ReplyFault>); 5] = [
     (GONE, Ok(WatchAnswer::Expired)),
     (
-        b"HTTP/1.1 504 Gateway Timeout\r\nContent-Length: 2\r\n\r\n{}",
+        b"HTTP/1.1 504 Gateway Timeout\r\nTransfer-Encoding: chunked\r\n\r\n2\r\n{}\r\n0\r\n\r\n",
         Ok(WatchAnswer::Refused(504)),
     ),
     (
-        b"HTTP/1.1 410 Gone\r\nContent-Length: 2\r\n\r\n",
-        Err(ReplyFault::NotAReply),
+        b"HTTP/1.1 410 Gone\r\nContent-Length: 67108865\r\n\r\n",
+        Ok(WatchAnswer::Expired),
     ),
     (
-        b"HTTP/1.1 410 Gone\r\nContent-Length: 67108865\r\n\r\n{}",
-        Err(ReplyFault::TooLong),
+        b"HTTP/1.1 200 OK\r\nContent-Length: 2\r\n\r\n{}",
+        Ok(WatchAnswer::Refused(200)),
     ),
     (b"", Err(ReplyFault::NotAReply)),
 ];
