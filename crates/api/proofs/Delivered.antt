@@ -84,7 +84,9 @@ module _ {S D : Type 0} (calls : S → Request → List ℕ → Outcome → S �
       → Delivers watches contents mid t old new x r → Does calls lists begins watches contents moment s t old new said r
   delivered None response.Nothing r same (stays, kept, is) = (stays ∙ same, kept, is)
   delivered None (response.Reply x) r responds delivers = absurd responds
+  delivered None (response.List l) r responds delivers = absurd responds
   delivered None (response.Watch w) r responds delivers = absurd responds
   delivered (Some a) response.Nothing r responds delivers = absurd responds
   delivered (Some a) (response.Reply x) r replies (stays, sends) = answers_reply a (text_of x) r replies stays sends
+  delivered (Some a) (response.List l) r responds delivers = absurd delivers
   delivered (Some a) (response.Watch w) r opens goes = answers_watch a w r opens goes

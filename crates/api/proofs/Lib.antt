@@ -1,4 +1,5 @@
 pub mod Written
 pub mod Done
 pub mod Delivered
+pub mod ListReplies
 pub mod Owned

@@ -1,6 +1,7 @@
 -- What the owner of a server is told.
 use Rattle.std.proofs.Common.{◌≡◌, ◌⊎◌, inl, inr, ℕ, List, Option, Some, None, Result, Ok, Err, refl, sym, ap, ap₂, ◌∙◌}
 use Rattle.spec_api.specs.History.{View, Entries, viewed}
+use Rattle.spec_api.specs.ListQueries.{ListOptions}
 use Rattle.spec_api.specs.ObjectRequests.{Request}
 use Rattle.spec_api.specs.Refusals.{Refusal, no_memory}
 use Rattle.spec_api.specs.Verbs.{Outcome, answered, refused, write_of, accept_at}
@@ -8,17 +9,17 @@ use Rattle.spec_api.specs.Versions.{Listed, listed_as, once_present}
 use Rattle.spec_api.specs.WatchReplies.{initial_from}
 use Rattle.server.proofs.Begun.{served_once, refused_once}
 use Rattle.server.specs.Initials.{initial_of}
-use Rattle.server.specs.Replies.{Replies}
+use Rattle.server.specs.Replies.{Replies, Finds}
 use Rattle.server.specs.declared.initials.InitialEvents.{InitialEvents}
 use Rattle.object_keys.specs.Faults.{refusal_of}
 use Rattle.object_keys.specs.declared.fault.Fault.{Fault}
 use Rattle.object_keys.specs.declared.fault.Fault.TheVariants as fault
 use Rattle.watch_cache.specs.Served.{Serves}
 use Rattle.reply.specs.declared.reply.Reply.{Reply}
-use Rattle.spec_server.specs.Servers.{Server, after_writing, initial_by}
+use Rattle.spec_server.specs.Servers.{Server, after_writing, initial_by, list_served}
 use Rattle.http_watch.specs.Given.{GivesBegun, there_from}
-use Rattle.api.specs.Alone.{CallsAlone, BeginsAlone}
-use Rattle.api.specs.Told.{Tells}
+use Rattle.api.specs.Alone.{CallsAlone, ListsAlone, BeginsAlone}
+use Rattle.api.specs.Told.{Tells, TellsText}
 
 -- ---- requests
 
@@ -32,6 +33,17 @@ pub call_answered : (s t : Server) (q : Request) (moment : List ℕ) (r : Reply)
 call_answered s t q moment r says made =
     let wanted = accept_at q s.snapshot.members s.snapshot.revision moment in
     called s t wanted wanted r refl says made
+
+-- ---- lists
+
+pub found : (s : Server) (v : View) (options : ListOptions) (r : Result (List ℕ) Fault) → Finds (list_served s v options) r → TellsText (λ o. ListsAlone s v options o s) r
+found s v options r finds = by (list_served s v options) refl r finds
+  where
+    by : (wanted : Outcome) → list_served s v options ≡ wanted → (r : Result (List ℕ) Fault) → Finds wanted r → TellsText (λ o. ListsAlone s v options o s) r
+    by (answered a) e (Ok text) is = (a, is, (inl (sym e), refl))
+    by (answered a) e (Err f) is = (inr (ap (λ z. refused (refusal_of z)) is), refl)
+    by (refused f) e (Ok text) never = absurd never
+    by (refused f) e (Err g) is = (inl (sym (ap refused is) ∙ sym e), refl)
 
 -- ---- what is there
 

@@ -12,7 +12,7 @@ use Rattle.spec_http.specs.Replies.{response_text, reply_text}
 use Rattle.object_keys.specs.Faults.{refusal_of}
 use Rattle.object_keys.specs.declared.fault.Fault.{Fault}
 use Rattle.reply.specs.declared.reply.Reply as replies
-use Rattle.api.specs.Told.{Tells}
+use Rattle.api.specs.Told.{Tells, TellsText}
 use Rattle.api.specs.Replying.{Sends, Replies}
 use Rattle.api.specs.Responding.{IsReplyTo, IsReplyOf}
 use Rattle.api.specs.Serving.{has_reader_failed}
@@ -29,6 +29,12 @@ told_then IsSo (Ok reply) bytes (a, says, so) is =
     let text : response_text reply.code (string_bytes reply.text) ≡ reply_text (outcome (answered a)) = cc (says.code, says.text) in
     (answered a, so, is ∙ text)
 told_then IsSo (Err e) bytes so is = (refused (refusal_of e), so, is)
+
+-- the text that a server tells is the body of the reply
+pub text_then : (IsSo : Outcome → Type 0) (text : List ℕ) → TellsText IsSo (Ok text) → (o : Outcome) × IsSo o × IsReplyTo o (response_text 200 text)
+text_then IsSo text (a, (code, is), so) =
+    let bytes : response_text 200 text ≡ reply_text (outcome (answered a)) = cc (code, is) in
+    (answered a, so, bytes)
 
 module _ {D : Type 0} (contents : D → Option (List ℕ)) (old new : Watched D) where
   pub sent : (text : List ℕ) (u : Unit {0}) → WritesInPlace text contents old new (Ok u) → Sends contents old new text (Ok u)

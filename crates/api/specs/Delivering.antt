@@ -30,8 +30,9 @@ module _ {S D : Type 0} (watches : S → View → ℕ → ℕ → Look → S →
       × Follows watches (view_of w.view) w.bookmarks contents s t old new (opening_of w.opened) w.opened.at.revision w.opened.at.idle followed
       × (result ≡ after_watch followed)
 
-  -- a reply was written, or a watch; nothing where nothing is to be
+  -- a reply was written, or a watch; nothing where nothing is to be; no list that is made as it is written
   abbrev pub Delivers : Response → Result (Unit {0}) ServeFault → Type 0
   Delivers response.Nothing result = (t ≡ s) × (new ≡ old) × (result ≡ Ok tt)
   Delivers (response.Reply x) result = (t ≡ s) × Sends contents old new (text_of x) result
+  Delivers (response.List l) result = ⊥
   Delivers (response.Watch w) result = GoesOn w result

@@ -1,4 +1,5 @@
 pub mod Replying
+pub mod ListReplies
 pub mod Responding
 pub mod Delivering
 pub mod Serving

@@ -54,11 +54,27 @@ module _ {S : Type 0} (calls : S → Request → List ℕ → Outcome → S → 
   OpensWatch (Ok (watch v options)) w =
       (view_of w.view ≡ v) × (w.bookmarks ≡ options.bookmarks) × IsOpened begins watches v options.bookmarks options.start s t (Ok w.opened)
 
+  -- a list is asked for, and these bytes are its reply
+  abbrev pub RepliesList : Result Asked Refusal → List ℕ → Type 0
+  RepliesList (Err f) bytes = ⊥
+  RepliesList (Ok (request q)) bytes = ⊥
+  RepliesList (Ok (list v options)) bytes = (o : Outcome) × lists s v options o t × IsReplyTo o bytes
+  RepliesList (Ok (watch v options)) bytes = ⊥
+
   -- nothing is to be written where nothing is asked, else a reply, or what a watch opens with
   abbrev pub Responds : Option (Result Asked Refusal) → Response → Type 0
   Responds None response.Nothing = t ≡ s
   Responds None (response.Reply x) = ⊥
+  Responds None (response.List l) = ⊥
   Responds None (response.Watch w) = ⊥
   Responds (Some a) response.Nothing = ⊥
   Responds (Some a) (response.Reply x) = Replies a (text_of x)
+  Responds (Some a) (response.List l) = RepliesList a l
   Responds (Some a) (response.Watch w) = OpensWatch a w
+
+-- it is no list that is made as it is written
+abbrev pub IsMade : Response → Type 0
+IsMade response.Nothing = Unit {0}
+IsMade (response.Reply x) = Unit {0}
+IsMade (response.List l) = ⊥
+IsMade (response.Watch w) = Unit {0}

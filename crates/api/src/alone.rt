@@ -3,11 +3,12 @@ ghost use Rattle.request_parts.specs.Collected.{list_seen};
 ghost use Rattle.revisions.specs.Watches.{watched_of};
 ghost use Rattle.selector.specs.Views.{view_of};
 ghost use Rattle.api.specs.Alone.{CallsAlone, ListsAlone, WatchesAlone, BeginsAlone};
-ghost use Rattle.api.specs.Told.{Tells};
+ghost use Rattle.api.specs.Told.{Tells, TellsText};
 ghost use Rattle.request_parts.specs.Requests.{request_of};
 ghost use Rattle.http_watch.specs.Given.{Gives, GivesBegun};
 
 use http_watch::Begun;
+use list_pieces::ListText;
 use metadata_values::moments::Moment;
 use object_keys::Fault;
 use reply::Reply;
@@ -15,7 +16,7 @@ use request_parts::Request;
 use request_parts::list_options::ListOptions;
 use revisions::WatchedEvents;
 use selector::View;
-use server::Server;
+use server::{Server, opened};
 use std::alloc::Global;
 
 /// Answers a request at a moment, after which what it writes is written.
@@ -47,6 +48,20 @@ pub(crate) fn list(
         Ok(reply) => Ok(reply),
         Err(fault) => Err(fault),
     }
+}
+
+/// Answers a list of a view with its text, which is still to be made.
+pub(crate) fn page(
+    alloc: Global,
+    server: &Server,
+    view: &View,
+    options: &ListOptions,
+) -> Result<ListText, Fault>
+    ensures { TellsText (λ o. ListsAlone server.now (view_of view.now) (list_seen options.now) o server.now) result }
+{
+    let after = options.after.as_ref();
+    let page = server.page(alloc, view, options.at, options.limit, after);
+    opened(alloc, page)
 }
 
 /// Gives the first changes of a view after a revision, at most so many.

@@ -1,6 +1,7 @@
 //! Responses, written.
 ghost use Rattle.api.specs.Delivering.{Delivers, GoesOn};
 ghost use Rattle.api.specs.Replying.{Sends};
+ghost use Rattle.api.specs.Responding.{IsMade};
 
 use crate::fault::ServeFault;
 use crate::replying::send_reply;
@@ -36,7 +37,7 @@ fn deliver_watch<S: WatchSource, P: LookPace, W: Write + Drop>(
     }
 }
 
-/// Writes a response: a reply at once, a watch up to its end.
+/// Writes a response: a reply at once, a watch up to its end. It is no list that is made as it is written, which would lack memory within.
 pub(crate) fn deliver<S: WatchSource, P: LookPace, W: Write + Drop>(
     alloc: Global,
     response: Response,
@@ -44,6 +45,7 @@ pub(crate) fn deliver<S: WatchSource, P: LookPace, W: Write + Drop>(
     pace: &mut P,
     writer: &mut Watched<W>,
 ) -> Result<(), ServeFault>
+    requires { IsMade response }
     ensures { Delivers S.Watches W.contents site.old site.new writer.old writer.new response result }
 {
     match response {
@@ -52,6 +54,7 @@ pub(crate) fn deliver<S: WatchSource, P: LookPace, W: Write + Drop>(
             Ok(()) => Ok(()),
             Err(fault) => Err(fault),
         },
+        Response::List(_) => Err(ServeFault::NoMemory),
         Response::Watch(watch) => match deliver_watch(alloc, watch, site, pace, writer) {
             Ok(()) => Ok(()),
             Err(fault) => Err(fault),

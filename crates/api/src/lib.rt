@@ -9,6 +9,7 @@
 pub mod alone;
 pub mod delivering;
 pub mod fault;
+pub mod list_replies;
 pub mod replying;
 pub mod responding;
 pub mod response;
@@ -18,6 +19,7 @@ pub mod site;
 pub mod solo;
 
 pub use fault::ServeFault;
+pub use list_replies::ListReply;
 pub use replying::refusal_text;
 pub use responding::{respond, respond_to};
 pub use response::{OpenWatch, Response, Text};

@@ -1,4 +1,5 @@
 //! What is to be written over a connection.
+use crate::list_replies::ListReply;
 use http_watch::WatchStart;
 use reply::Reply;
 use selector::View;
@@ -32,6 +33,8 @@ pub enum Response {
     Nothing,
     /// A reply, and nothing else.
     Reply(Text),
+    /// The reply with a list, which is made as it is written.
+    List(ListReply),
     /// What a watch opens with, and then the frames of its looks.
     Watch(OpenWatch),
 }

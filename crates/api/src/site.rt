@@ -6,10 +6,11 @@ ghost use Rattle.spec_api.specs.ObjectRequests as requests;
 ghost use Rattle.spec_api.specs.Verbs.{Outcome};
 ghost use Rattle.request_parts.specs.Collected.{list_seen};
 ghost use Rattle.selector.specs.Views.{view_of};
-ghost use Rattle.api.specs.Told.{Tells};
+ghost use Rattle.api.specs.Told.{Tells, TellsText};
 ghost use Rattle.request_parts.specs.Requests.{request_of};
 
 use http_watch::WatchSource;
+use list_pieces::ListText;
 use metadata_values::moments::Moment;
 use object_keys::Fault;
 use reply::Reply;
@@ -34,4 +35,8 @@ pub trait Site: WatchSource {
     /// Answers a list of a view.
     fn list(&mut self, alloc: Global, view: &View, options: &ListOptions) -> Result<Reply, Fault>
         ensures lists { Tells (λ o. Lists self.old (view_of view.now) (list_seen options.now) o self.new) result };
+
+    /// Answers a list of a view with its text, which is still to be made: as it is taken, with the site left to others.
+    fn page(&mut self, alloc: Global, view: &View, options: &ListOptions) -> Result<ListText, Fault>
+        ensures pages { TellsText (λ o. Lists self.old (view_of view.now) (list_seen options.now) o self.new) result };
 }

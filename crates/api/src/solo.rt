@@ -2,6 +2,7 @@
 use crate::alone;
 use crate::site::Site;
 use http_watch::{Begun, WatchSource};
+use list_pieces::ListText;
 use metadata_values::moments::Moment;
 use object_keys::Fault;
 use reply::Reply;
@@ -86,6 +87,18 @@ impl Site for Solo {
     fn list(&mut self, alloc: Global, view: &View, options: &ListOptions) -> Result<Reply, Fault> {
         match alone::list(alloc, &self.server, view, options) {
             Ok(reply) => Ok(reply),
+            Err(fault) => Err(fault),
+        }
+    }
+
+    fn page(
+        &mut self,
+        alloc: Global,
+        view: &View,
+        options: &ListOptions,
+    ) -> Result<ListText, Fault> {
+        match alone::page(alloc, &self.server, view, options) {
+            Ok(text) => Ok(text),
             Err(fault) => Err(fault),
         }
     }

@@ -19,7 +19,7 @@ use Rattle.reply.specs.declared.reply.Reply.{Reply}
 use Rattle.revisions.specs.Watches.{watched_of}
 use Rattle.revisions.specs.declared.watched.WatchedEvents.{WatchedEvents}
 use Rattle.spec_server.specs.Servers.{Server, opened_server}
-use Rattle.api.specs.Told.{Tells}
+use Rattle.api.specs.Told.{Tells, TellsText}
 use Rattle.watch_cache.specs.Served.{Serves}
 use Rattle.http_watch.specs.Given.{Gives, GivesBegun}
 use Rattle.http_watch.specs.declared.begun.Begun.{Begun}
@@ -75,6 +75,22 @@ module _ (may_ask : Request → Type 0) (Also : Type 0) (also : Also) where
   listed size v w view options (Err e) opened step = ((size, opened, restated may_ask v w _ _ _ _ step refl (by (list_outcome size (entries step.history) view options) step.says)), also)
     where
       by : (o : Outcome) → replies.Lists o (Err e) → (refused (refusal_of e) ≡ o) ⊎ (refused (refusal_of e) ≡ refused no_memory)
+      by (answered a) none = inr (ap (λ z. refused (refusal_of z)) none)
+      by (refused f) is = inl (sym (ap refused is))
+
+  abbrev Found : ℕ → Known Server Entry → View → ListOptions → Result (List ℕ) Fault → Known Server Entry → Type 0
+  Found size v view options r w = Step may_ask v (λ h. None) (λ h. replies.Finds (list_outcome size h view options) r) w
+
+  pub found : (size : ℕ) (v w : Known Server Entry) (view : View) (options : ListOptions) (r : Result (List ℕ) Fault) → v.opening ≡ Some (opened_server size) → Found size v view options r w
+      → TellsText (λ o. ListsAt may_ask v view options o w × Also) r
+  found size v w view options (Ok text) opened step = by (list_outcome size (entries step.history) view options) refl step.says
+    where
+      by : (o : Outcome) → list_outcome size (entries step.history) view options ≡ o → replies.Finds o (Ok text) → TellsText (λ o. ListsAt may_ask v view options o w × Also) (Ok text)
+      by (answered a) is says = (a, says, ((size, opened, restated may_ask v w _ _ _ _ step refl (inl (sym is))), also))
+      by (refused f) is says = absurd says
+  found size v w view options (Err e) opened step = ((size, opened, restated may_ask v w _ _ _ _ step refl (by (list_outcome size (entries step.history) view options) step.says)), also)
+    where
+      by : (o : Outcome) → replies.Finds o (Err e) → (refused (refusal_of e) ≡ o) ⊎ (refused (refusal_of e) ≡ refused no_memory)
       by (answered a) none = inr (ap (λ z. refused (refusal_of z)) none)
       by (refused f) is = inl (sym (ap refused is))
 

@@ -2,7 +2,7 @@
 ghost use Rattle.std.specs.Prelude.{None};
 ghost use Rattle.spec_api.specs.Lists.{list_outcome};
 ghost use Rattle.spec_api.specs.Versions.{watched_from};
-ghost use Rattle.server.specs.Replies.{Lists};
+ghost use Rattle.server.specs.Replies.{Finds, Lists};
 ghost use Rattle.request_parts.specs.Collected.{list_seen};
 ghost use Rattle.revisions.specs.Watches.{watched_of};
 ghost use Rattle.selector.specs.Views.{view_of};
@@ -17,11 +17,13 @@ use crate::desks::{Desk, StorePass};
 use crate::steps;
 use api::alone;
 use http_watch::Begun;
+use list_pieces::ListText;
 use object_keys::Fault;
 use reply::Reply;
 use request_parts::list_options::ListOptions;
 use revisions::WatchedEvents;
 use selector::View;
+use server::opened;
 use std::alloc::Global;
 use std::sync::Wait;
 
@@ -45,6 +47,28 @@ impl<A: Asking> Desk<A> {
         let reply = steps::list(alloc, held.get(), view, options);
         self.give_back(rt, pass, held);
         reply
+    }
+
+    /// Returns the text of the page of the list of a view that the options ask for, which is still to be made: the server is held while the
+    /// page is found, and given back before anything of its text is looked at. The pass has then seen all that had happened. The errors are a
+    /// revision below the floor, one above the present, and out of memory.
+    pub fn page<R: Wait>(
+        &self,
+        rt: &R,
+        alloc: Global,
+        pass: &mut StorePass,
+        view: &View,
+        options: &ListOptions,
+    ) -> Result<ListText, Fault>
+        requires { IsPassAt self.now pass.old }
+        ensures pass { IsPassAt self.now pass.new }
+        ensures page { Step A.MayAsk (known pass.old) (λ h. None)
+            (λ h. Finds (list_outcome (window_size self.now) h (view_of view.now) (list_seen options.now)) result) (known pass.new) }
+    {
+        let held = self.take(rt, pass);
+        let page = steps::page(alloc, held.get(), view, options);
+        self.give_back(rt, pass, held);
+        opened(alloc, page)
     }
 
     /// Returns the first changes of a view after a revision, at most `max`, and where the watch then stands. The pass has then

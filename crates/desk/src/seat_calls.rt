@@ -12,6 +12,7 @@ use crate::listeners::Listener;
 use crate::seats::Seat;
 use api::Site;
 use http_watch::{Begun, WatchSource};
+use list_pieces::ListText;
 use metadata_values::moments::Moment;
 use object_keys::Fault;
 use reply::Reply;
@@ -129,6 +130,21 @@ impl<'a, L: Listener, R: Wait> Site for Seat<'a, Anything, L, R> {
             .list(self.rt, alloc, &mut self.pass, view, options)
         {
             Ok(reply) => Ok(reply),
+            Err(fault) => Err(fault),
+        }
+    }
+
+    fn page(
+        &mut self,
+        alloc: Global,
+        view: &View,
+        options: &ListOptions,
+    ) -> Result<ListText, Fault> {
+        match self
+            .desk
+            .page(self.rt, alloc, &mut self.pass, view, options)
+        {
+            Ok(text) => Ok(text),
             Err(fault) => Err(fault),
         }
     }

@@ -2,7 +2,7 @@
 ghost use Rattle.std.specs.Prelude.{◌≡◌, Ok, Err, OnOk, OnErr, IfErr};
 ghost use Rattle.spec_api.specs.Verbs.{accept_at};
 ghost use Rattle.spec_api.specs.Verbs as outcomes;
-ghost use Rattle.server.specs.Replies.{Lists};
+ghost use Rattle.server.specs.Replies.{Finds, Lists};
 ghost use Rattle.object_keys.specs.Faults.{refusal_of};
 ghost use Rattle.request_parts.specs.Collected.{list_seen};
 ghost use Rattle.request_parts.specs.Requests.{request_of};
@@ -12,6 +12,7 @@ ghost use Rattle.desk.specs.Told.{Answers};
 
 use crate::served::ServedReply;
 use baton::Held;
+use list_pieces::ListPage;
 use metadata_values::moments::Moment;
 use object_keys::Fault;
 use reply::Reply;
@@ -78,4 +79,17 @@ pub(crate) fn list(
 {
     let after = options.after.as_ref();
     server.list(alloc, view, options.at, options.limit, after)
+}
+
+/// Finds the page of a list that is asked.
+pub(crate) fn page(
+    alloc: Global,
+    server: &Server,
+    view: &View,
+    options: &ListOptions,
+) -> Result<ListPage, Fault>
+    ensures { Finds (list_served server.now (view_of view.now) (list_seen options.now)) result }
+{
+    let after = options.after.as_ref();
+    server.page(alloc, view, options.at, options.limit, after)
 }

@@ -122,6 +122,7 @@ module _ {S : Type 0} (calls : S → Request → List ℕ → Outcome → S → 
   adds_stand w more at (phase.Asked a) read written watch never = absurd never
   adds_stand w more at phase.Answering read written watch never = absurd never
   adds_stand w more at (phase.Replying r) read written watch never = absurd never
+  adds_stand w more at (phase.Listing l) read written watch never = absurd never
 
   module _ (w : Watching) (s t : S) (result : ConnectionPhase) (read written : List ℕ) (stands : Stands calls lists begins watches (phase.Watching w) read written) where
     before : (at : WatchStanding) → w.at ≡ Some at → IsWatch calls lists begins watches read (view_of w.view) w.bookmarks (Some at) (written ++ unwritten w)

@@ -1,5 +1,6 @@
 pub mod Reading
 pub mod Writing
+pub mod ListWriting
 pub mod Looks
 pub mod Looked
 pub mod Standing

@@ -15,7 +15,7 @@ use Rattle.selector.specs.Views.{view_of}
 use Rattle.http_watch.specs.Opened.{opening_of}
 use Rattle.http_watch.specs.Watches.{Look, Opens, opening_text}
 use Rattle.http_watch.specs.declared.standing.WatchStanding.{WatchStanding}
-use Rattle.api.specs.Responding.{text_of, Replies, OpensWatch, Responds}
+use Rattle.api.specs.Responding.{text_of, Replies, RepliesList, OpensWatch, Responds}
 use Rattle.api.specs.declared.response.OpenWatch.{OpenWatch}
 use Rattle.api.specs.declared.response.Response.{Response}
 use Rattle.api.specs.declared.response.Response.TheVariants as response
@@ -24,9 +24,11 @@ use Rattle.api.specs.declared.served.Served.TheVariants as served
 use Rattle.http_connection.specs.declared.arriving.Arriving.{Arriving}
 use Rattle.http_connection.specs.declared.phase.ConnectionPhase.{ConnectionPhase}
 use Rattle.http_connection.specs.declared.phase.ConnectionPhase.TheVariants as phase
+use Rattle.http_connection.specs.declared.listing.Listing.{Listing}
 use Rattle.http_connection.specs.declared.replying.Replying.{Replying}
 use Rattle.http_connection.specs.declared.watching.Watching.{Watching}
 use Rattle.http_connection.specs.Arriving.{IsArriving, Arrives, ReadsOn}
+use Rattle.http_connection.specs.Lists.{list_left, ListsOn}
 use Rattle.http_connection.specs.Phases.{IsServedBy, IsReply, IsWatch, IsToBeWritten, Stands, Turns}
 use Rattle.http_connection.specs.Sending.{RepliesOn, WatchesOn}
 use Rattle.http_connection.specs.Watches.{unwritten, IsBounded}
@@ -48,6 +50,7 @@ module _ {S : Type 0} (calls : S → Request → List ℕ → Outcome → S → 
   arrives_stand read phase.Answering is = absurd is
   arrives_stand read (phase.Replying r) (refuses, none, not) =
       (inl refuses, ap (λ n. take n (text_of r.text)) (sym none), λ asked. absurd (not_asked r.served not asked))
+  arrives_stand read (phase.Listing l) is = absurd is
   arrives_stand read (phase.Watching w) is = absurd is
   arrives_stand read (phase.Closing s) is = (([], [], inl refl, refl), λ asked. absurd (not_asked s is asked))
 
@@ -55,6 +58,16 @@ module _ {S : Type 0} (calls : S → Request → List ℕ → Outcome → S → 
   reply_stands : (a : targets.Asked) (moment : List ℕ) (s t : S) (read : List ℕ) (r : Replying) → Asks read (Some (Ok a)) → Replies calls lists begins watches moment s t (Ok a) (text_of r.text)
       → r.taken ≡ 0 → AtPhase (phase.Replying r) read []
   reply_stands a moment s t read r asks replies none = (inr (a, asks, (moment, s, t, replies)), ap (λ n. take n (text_of r.text)) (sym none), λ asked. (a, asks))
+
+  -- a list that is made as it is written
+  list_stands : (a : targets.Asked) (moment : List ℕ) (s t : S) (read bytes : List ℕ) (l : Listing) → Asks read (Some (Ok a)) → RepliesList calls lists begins watches moment s t (Ok a) bytes
+      → l.out.items ≡ [] → l.taken ≡ 0 → l.rest ≡ bytes → AtPhase (phase.Listing l) read []
+  list_stands (targets.request q) moment s t read bytes l asks replies nothing none rest = absurd replies
+  list_stands (targets.list v options) moment s t read bytes l asks replies nothing none rest =
+      let whole : list_left l ≡ bytes = ap (λ n. drop n l.out.items ++ l.rest) none ∙ ap (λ t. t ++ l.rest) nothing ∙ rest in
+      let reply : IsReply calls lists begins watches read bytes = inr (targets.list v options, asks, (moment, s, t, replies)) in
+      (subst (IsReply calls lists begins watches read) (sym whole) reply, λ asked. (targets.list v options, asks))
+  list_stands (targets.watch v options) moment s t read bytes l asks replies nothing none rest = absurd replies
 
   -- a watch that has opened
   opens_stand : (a : targets.Asked) (moment : List ℕ) (s t : S) (read : List ℕ) (w : OpenWatch) (u : Watching) → Asks read (Some (Ok a)) → OpensWatch calls lists begins watches moment s t (Ok a) w
@@ -84,6 +97,8 @@ module _ {S : Type 0} (calls : S → Request → List ℕ → Outcome → S → 
   answer_stands a moment s t read (response.Reply x) p asks responds (r, is, text, none, came) =
       subst (λ q. AtPhase q read []) (sym is)
       (reply_stands a moment s t read r asks (subst (λ y. Replies calls lists begins watches moment s t (Ok a) (text_of y)) (sym text) responds) none)
+  answer_stands a moment s t read (response.List x) p asks responds (l, is, nothing, none, rest) =
+      subst (λ q. AtPhase q read []) (sym is) (list_stands a moment s t read x l asks responds nothing none rest)
   answer_stands a moment s t read (response.Watch x) p asks responds (w, is, view, bookmarks, at, out, none, rest, nothing, size) =
       subst (λ q. AtPhase q read []) (sym is) (opens_stand a moment s t read x w asks responds view bookmarks at (ap (λ v. v.items) out) none rest nothing size)
 
@@ -113,6 +128,7 @@ module _ {S : Type 0} (calls : S → Request → List ℕ → Outcome → S → 
   replies_stand before after r (phase.Reading a) read written (n, sent, never) stands = absurd never
   replies_stand before after r (phase.Asked a) read written (n, sent, never) stands = absurd never
   replies_stand before after r phase.Answering read written (n, sent, never) stands = absurd never
+  replies_stand before after r (phase.Listing l) read written (n, sent, never) stands = absurd never
   replies_stand before after r (phase.Watching w) read written (n, sent, never) stands = absurd never
 
   -- a watch that is left
@@ -140,6 +156,21 @@ module _ {S : Type 0} (calls : S → Request → List ℕ → Outcome → S → 
   watches_stand before after w (phase.Asked a) read written never stands = absurd never
   watches_stand before after w phase.Answering read written never stands = absurd never
   watches_stand before after w (phase.Replying r) read written never stands = absurd never
+  watches_stand before after w (phase.Listing l) read written never stands = absurd never
+
+  pub lists_stand : (before after : Option (List ℕ)) (l : Listing) (result : ConnectionPhase) (read written : List ℕ) → ListsOn before after l result → AtPhase (phase.Listing l) read written
+      → (put : List ℕ) × Appends before after put × AtPhase result read (written ++ put)
+  lists_stand before after l (phase.Listing m) read written (put, appends, is) (reply, came) =
+      let all : written ++ list_left l ≡ (written ++ put) ++ list_left m = ap (λ t. written ++ t) (sym is) ∙ sym (append_assoc written put (list_left m)) in
+      (put, appends, (subst (IsReply calls lists begins watches read) all reply, came))
+  lists_stand before after l (phase.Closing s) read written (by, (left, put, appends, is)) (reply, came) =
+      let all : (written ++ put) ++ left ≡ written ++ list_left l = append_assoc written put left ∙ ap (λ t. written ++ t) is in
+      (put, appends, ((written ++ list_left l, left, inr (inl reply), all), subst (IsServedBy read) (sym by) came))
+  lists_stand before after l (phase.Reading a) read written never stands = absurd never
+  lists_stand before after l (phase.Asked a) read written never stands = absurd never
+  lists_stand before after l phase.Answering read written never stands = absurd never
+  lists_stand before after l (phase.Replying r) read written never stands = absurd never
+  lists_stand before after l (phase.Watching w) read written never stands = absurd never
 
   -- ---- turns
 

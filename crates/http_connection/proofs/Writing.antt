@@ -65,6 +65,7 @@ module _ (a b : Option (List ℕ)) (w u : Watching) (h : IsWritten a b w u) wher
   watches_rest (phase.Asked x) never = never
   watches_rest phase.Answering never = never
   watches_rest (phase.Replying x) never = never
+  watches_rest (phase.Listing x) never = never
 
 pub written_none : (a : Option (List ℕ)) (w : Watching) → IsWritten a a w w
 written_none a w = record { put = []; appends = Appends-nil a; rest = refl; same = (refl, refl, refl); at = refl; bounded = λ x. x }

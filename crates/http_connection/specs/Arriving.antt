@@ -35,6 +35,7 @@ Arrives read (phase.Reading a) = IsArriving a read
 Arrives read (phase.Asked a) = Asks read (Some (Ok (asked_seen a)))
 Arrives read phase.Answering = ⊥
 Arrives read (phase.Replying r) = IsRefusal read (text_of r.text) × (r.taken ≡ 0) × (r.served ≡ served.NotAsked)
+Arrives read (phase.Listing l) = ⊥
 Arrives read (phase.Watching w) = ⊥
 Arrives read (phase.Closing s) = s ≡ served.NotAsked
 

@@ -1,6 +1,7 @@
 -- The definitions, in reading order.
 pub mod Arriving
 pub mod Watches
+pub mod Lists
 pub mod Phases
 pub mod Sending
 pub mod Looking

@@ -20,6 +20,7 @@ Adds w more at (phase.Reading a) = ⊥
 Adds w more at (phase.Asked a) = ⊥
 Adds w more at phase.Answering = ⊥
 Adds w more at (phase.Replying r) = ⊥
+Adds w more at (phase.Listing l) = ⊥
 
 -- the frames of a look are to be written, and after one that was refused the end of the watch
 abbrev pub Shows : Watching → WatchStanding → Look → ConnectionPhase → Type 0

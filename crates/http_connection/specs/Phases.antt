@@ -20,9 +20,11 @@ use Rattle.api.specs.declared.served.Served.{Served}
 use Rattle.api.specs.declared.served.Served.TheVariants as served
 use Rattle.http_connection.specs.declared.phase.ConnectionPhase.{ConnectionPhase}
 use Rattle.http_connection.specs.declared.phase.ConnectionPhase.TheVariants as phase
+use Rattle.http_connection.specs.declared.listing.Listing.{Listing}
 use Rattle.http_connection.specs.declared.replying.Replying.{Replying}
 use Rattle.http_connection.specs.declared.watching.Watching.{Watching}
 use Rattle.http_connection.specs.Arriving.{IsArriving, IsRefusal}
+use Rattle.http_connection.specs.Lists.{list_left}
 use Rattle.http_connection.specs.Watches.{IsGiven, StandsAfter, text_by_then, unwritten, IsBounded}
 
 -- a connection comes to a request that was done only by a whole one
@@ -33,6 +35,7 @@ IsServedBy read s = s ≡ served.Asked → (a : targets.Asked) × Asks read (Som
 abbrev pub IsToBeWritten : Response → ConnectionPhase → Type 0
 IsToBeWritten response.Nothing result = result ≡ phase.Closing served.NotAsked
 IsToBeWritten (response.Reply x) result = (r : Replying) × (result ≡ phase.Replying r) × (r.text ≡ x) × (r.taken ≡ 0) × (r.served ≡ served.Asked)
+IsToBeWritten (response.List x) result = (l : Listing) × (result ≡ phase.Listing l) × (l.out.items ≡ []) × (l.taken ≡ 0) × (l.rest ≡ x)
 IsToBeWritten (response.Watch x) result =
     (w : Watching) × (result ≡ phase.Watching w) × (w.view ≡ x.view) × (w.bookmarks ≡ x.bookmarks) × (w.at ≡ Some x.opened.at)
     × (w.out ≡ x.opened.text) × (w.taken ≡ 0) × (w.rest ≡ x.opened.rest) × (w.later.items ≡ []) × (w.opened ≡ length w.out.items)
@@ -66,6 +69,7 @@ module _ {S : Type 0} (calls : S → Request → List ℕ → Outcome → S → 
   Stands (phase.Asked a) read written = Asks read (Some (Ok (asked_seen a))) × (written ≡ [])
   Stands phase.Answering read written = ((a : targets.Asked) × Asks read (Some (Ok a))) × (written ≡ [])
   Stands (phase.Replying r) read written = IsReply read (text_of r.text) × (written ≡ take r.taken (text_of r.text)) × IsServedBy read r.served
+  Stands (phase.Listing l) read written = IsReply read (written ++ list_left l) × IsServedBy read served.Asked
   Stands (phase.Watching w) read written = IsWatch read (view_of w.view) w.bookmarks w.at (written ++ unwritten w) × IsBounded w
   Stands (phase.Closing s) read written = ((text : List ℕ) × (left : List ℕ) × IsText read text × (written ++ left ≡ text)) × IsServedBy read s
 

@@ -12,15 +12,17 @@ is_reading (phase.Reading a) = true
 is_reading (phase.Asked a) = false
 is_reading phase.Answering = false
 is_reading (phase.Replying r) = false
+is_reading (phase.Listing l) = false
 is_reading (phase.Watching w) = false
 is_reading (phase.Closing s) = false
 
--- a reply is to be written, or some of a watch
+-- a reply is to be written, a list, or some of a watch
 abbrev pub is_unwritten : ConnectionPhase → Bool
 is_unwritten (phase.Reading a) = false
 is_unwritten (phase.Asked a) = false
 is_unwritten phase.Answering = false
 is_unwritten (phase.Replying r) = true
+is_unwritten (phase.Listing l) = true
 is_unwritten (phase.Watching w) = nat_lt 0 (length (unwritten w))
 is_unwritten (phase.Closing s) = false
 
@@ -34,6 +36,7 @@ watched_kind (phase.Reading a) = None
 watched_kind (phase.Asked a) = None
 watched_kind phase.Answering = None
 watched_kind (phase.Replying r) = None
+watched_kind (phase.Listing l) = None
 watched_kind (phase.Watching w) = kind_watched_at w.view.kind w.at
 watched_kind (phase.Closing s) = None
 
@@ -47,6 +50,7 @@ is_behind (phase.Reading a) = false
 is_behind (phase.Asked a) = false
 is_behind phase.Answering = false
 is_behind (phase.Replying r) = false
+is_behind (phase.Listing l) = false
 is_behind (phase.Watching w) = has_just_shown w.at
 is_behind (phase.Closing s) = false
 
@@ -56,5 +60,6 @@ is_over (phase.Reading a) = false
 is_over (phase.Asked a) = false
 is_over phase.Answering = false
 is_over (phase.Replying r) = false
+is_over (phase.Listing l) = false
 is_over (phase.Watching w) = false
 is_over (phase.Closing s) = true

@@ -27,6 +27,7 @@ RepliedTo r n (phase.Closing s) = s ≡ r.served
 RepliedTo r n (phase.Reading a) = ⊥
 RepliedTo r n (phase.Asked a) = ⊥
 RepliedTo r n phase.Answering = ⊥
+RepliedTo r n (phase.Listing l) = ⊥
 RepliedTo r n (phase.Watching w) = ⊥
 
 abbrev pub RepliesOn : Option (List ℕ) → Option (List ℕ) → Replying → ConnectionPhase → Type 0
@@ -62,6 +63,7 @@ Rests w (phase.Reading a) = ⊥
 Rests w (phase.Asked a) = ⊥
 Rests w phase.Answering = ⊥
 Rests w (phase.Replying r) = ⊥
+Rests w (phase.Listing l) = ⊥
 
 -- where a connection stands once some more of its watch is written
 abbrev pub WatchesOn : Option (List ℕ) → Option (List ℕ) → Watching → ConnectionPhase → Type 0
@@ -71,3 +73,4 @@ WatchesOn before after w (phase.Reading a) = ⊥
 WatchesOn before after w (phase.Asked a) = ⊥
 WatchesOn before after w phase.Answering = ⊥
 WatchesOn before after w (phase.Replying r) = ⊥
+WatchesOn before after w (phase.Listing l) = ⊥

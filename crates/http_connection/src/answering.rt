@@ -5,10 +5,11 @@ ghost use Rattle.request_decoding.specs.Asked.{asked_seen};
 ghost use Rattle.http_connection.specs.Phases.{Answers, IsToBeWritten, Stands};
 ghost use Rattle.http_connection.specs.declared.phase.ConnectionPhase.TheVariants as phase;
 
+use crate::listing::Listing;
 use crate::phase::ConnectionPhase;
 use crate::replying::Replying;
 use crate::watching::Watching;
-use api::{OpenWatch, Response, Served, Site, Text, respond_to};
+use api::{ListReply, OpenWatch, Response, Served, Site, Text, respond_to};
 use metadata_values::moments::Moment;
 use request_decoding::Asked;
 use std::alloc::Global;
@@ -21,6 +22,18 @@ fn replied(text: Text) -> ConnectionPhase
         text,
         taken: 0,
         served: Served::Asked,
+    })
+}
+
+/// Returns where a connection stands that is to be written a list.
+fn listed(alloc: Global, reply: ListReply) -> ConnectionPhase
+    ensures { IsToBeWritten (response.List reply) result }
+{
+    ConnectionPhase::Listing(Listing {
+        out: Vec::new(alloc),
+        taken: 0,
+        rest: reply,
+        pieces: 0,
     })
 }
 
@@ -48,6 +61,7 @@ pub fn answered(alloc: Global, response: Response) -> ConnectionPhase
     match response {
         Response::Nothing => ConnectionPhase::Closing(Served::NotAsked),
         Response::Reply(text) => replied(text),
+        Response::List(reply) => listed(alloc, reply),
         Response::Watch(watch) => opened(alloc, watch),
     }
 }

@@ -5,6 +5,8 @@
 pub mod answering;
 pub mod arriving;
 pub mod ending;
+pub mod list_sending;
+pub mod listing;
 pub mod looking;
 pub mod phase;
 pub mod receiving;
@@ -16,6 +18,7 @@ pub mod watching;
 pub use answering::{answer, answered};
 pub use arriving::{Arriving, Awaited};
 pub use ending::end_watch;
+pub use listing::Listing;
 pub use looking::look_on;
 pub use phase::ConnectionPhase;
 pub use receiving::arrived;

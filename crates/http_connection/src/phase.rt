@@ -3,6 +3,7 @@ ghost use Rattle.std.specs.Prelude.{◌≡◌};
 ghost use Rattle.http_connection.specs.Questions.{is_behind, is_over, is_reading, is_unwritten, watched_kind};
 
 use crate::arriving::Arriving;
+use crate::listing::Listing;
 use crate::replying::Replying;
 use crate::watching::Watching;
 use api::Served;
@@ -20,6 +21,8 @@ pub enum ConnectionPhase {
     Answering,
     /// Its reply is being written.
     Replying(Replying),
+    /// Its list is being written.
+    Listing(Listing),
     /// Its watch is being written.
     Watching(Watching),
     /// It is to be closed. The peer may still be sending, but where a whole request was read.
@@ -39,7 +42,7 @@ impl ConnectionPhase {
         ensures { result ≡ is_unwritten self.now }
     {
         match self {
-            ConnectionPhase::Replying(_) => true,
+            ConnectionPhase::Replying(_) | ConnectionPhase::Listing(_) => true,
             ConnectionPhase::Watching(watching) => watching.has_more(),
             _ => false,
         }

@@ -22,7 +22,7 @@ pub enum Sent {
 
 /// Writes on from a place, until all is written or the writer takes no more now.
 #[tactic(auto, using(crate::proofs::Writing::sends_on))]
-fn write_on<W: Write>(bytes: &[u8], taken: usize, writer: &mut W) -> Sent
+pub(crate) fn write_on<W: Write>(bytes: &[u8], taken: usize, writer: &mut W) -> Sent
     ensures { Sends (W.contents writer.old) (W.contents writer.new) bytes.now taken result }
 {
     let mut at = taken;

@@ -4,6 +4,7 @@ ghost use Rattle.http_connection.specs.Arriving.{IsArriving, ReadsOn};
 ghost use Rattle.http_connection.specs.Phases.{Turns};
 
 use crate::arriving::Arriving;
+use crate::list_sending::list_on;
 use crate::phase::ConnectionPhase;
 use crate::receiving::arrived;
 use crate::sending::{reply_on, watch_on};
@@ -45,8 +46,8 @@ fn read_on<R: Read>(
 }
 
 /// Reads and writes as far as that goes now, and returns where the connection then stands: its request is read until it is whole, its reply
-/// or its watch is written. A request that is whole waits to be answered. A peer that ends before its request is whole, a reader or a
-/// writer that fails, and a reply or a watch that is written, close it.
+/// its list or its watch is written. A request that is whole waits to be answered. A peer that ends before its request is whole, a reader or
+/// a writer that fails, and what is written to its end, close it.
 ///
 /// The server that answers is named by the type alone.
 pub fn turn<S: Site, R: Read, W: Write>(
@@ -65,6 +66,7 @@ pub fn turn<S: Site, R: Read, W: Write>(
             other => other,
         },
         ConnectionPhase::Replying(replying) => reply_on(alloc, replying, writer),
+        ConnectionPhase::Listing(listing) => list_on(alloc, listing, writer),
         ConnectionPhase::Watching(watching) => watch_on(alloc, watching, writer),
         ConnectionPhase::Asked(asked) => ConnectionPhase::Asked(asked),
         ConnectionPhase::Answering => ConnectionPhase::Answering,

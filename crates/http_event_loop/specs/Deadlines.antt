@@ -22,5 +22,6 @@ deadline (phase.Reading a) = Some (reading_deadline a)
 deadline (phase.Asked a) = None
 deadline phase.Answering = None
 deadline (phase.Replying r) = Some 30
+deadline (phase.Listing l) = Some 30
 deadline (phase.Watching w) = if nat_lt 0 (length (unwritten w)) then Some 30 else None
 deadline (phase.Closing s) = Some 4

@@ -39,7 +39,7 @@ pub fn seconds(phase: &ConnectionPhase) -> Option<u64>
 {
     match phase {
         ConnectionPhase::Reading(arriving) => Some(reading_seconds(arriving)),
-        ConnectionPhase::Replying(_) => Some(WRITING_SECONDS),
+        ConnectionPhase::Replying(_) | ConnectionPhase::Listing(_) => Some(WRITING_SECONDS),
         ConnectionPhase::Watching(watching) => {
             if watching.has_more() {
                 Some(WRITING_SECONDS)

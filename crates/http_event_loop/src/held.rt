@@ -55,6 +55,7 @@ pub(crate) struct Held {
 fn extent(phase: &ConnectionPhase) -> Option<(usize, usize)> {
     match phase {
         ConnectionPhase::Replying(replying) => Some((0, usize::MAX - replying.taken)),
+        ConnectionPhase::Listing(listing) => Some((listing.pieces, listing.left())),
         ConnectionPhase::Watching(watching) if watching.has_more() => {
             Some((watching.pieces, watching.left()))
         }
@@ -218,8 +219,8 @@ impl Held {
         self.phase = ConnectionPhase::Closing(Served::Asked);
     }
 
-    /// Ends the connection as far as that goes without its peer, as at a stop: a watch is written its end, a reply is written on, and what is
-    /// no whole request is left.
+    /// Ends the connection as far as that goes without its peer, as at a stop: a watch is written its end, a reply or a list is written on,
+    /// and what is no whole request is left.
     pub(crate) fn stop<S: Site>(&mut self, alloc: Global, routes: &Routes, now: Instant) {
         match self.take_phase() {
             ConnectionPhase::Watching(watching) => {
@@ -227,6 +228,7 @@ impl Held {
                 self.turn::<S>(alloc, routes, now);
             }
             ConnectionPhase::Replying(replying) => self.phase = ConnectionPhase::Replying(replying),
+            ConnectionPhase::Listing(listing) => self.phase = ConnectionPhase::Listing(listing),
             _ => self.leave(),
         }
     }

@@ -1,8 +1,9 @@
 -- The head of a reply, part by part.
-use Rattle.std.proofs.Common.{◌≡◌, ℕ, List, ◌++◌, codes, decimal, ◌∙◌, append_assoc}
+use Rattle.std.proofs.Common.{◌≡◌, ℕ, List, ◌++◌, codes, decimal, sym, ◌∙◌, append_assoc}
 use Rattle.chunked.specs.Bodies.{crlf}
 use Rattle.spec_http.proofs.OnLiterals.{http_on_literals}
 use Rattle.spec_http.specs.Replies.{phrase, head_text}
+use Rattle.http_response.specs.Heads.{flat_head}
 
 -- the first line up to the code, up to the blank after it, and up to its end
 abbrev pub numbered : ℕ → List ℕ
@@ -45,3 +46,11 @@ head_parts code n = lines (status code) crlf (codes "Content-Type: application/j
 
 pub head_ends : (code n : ℕ) → head code n ≡ status code ++ (length_field n ++ close)
 head_ends code n = head_parts code n ∙ append_assoc (status code) (length_field n) close
+
+flatten : (a d s p l n c : List ℕ) → a ++ (d ++ (s ++ (p ++ (l ++ (n ++ c))))) ≡ ((a ++ (d ++ (s ++ p))) ++ (l ++ n)) ++ c
+flatten a d s p l n c = simp append_assoc
+
+pub flat_is_head : (code n : ℕ) → flat_head code n ≡ head code n
+flat_is_head code n =
+    flatten (codes "HTTP/1.1 ") (decimal code) (codes " ") (phrase code) (codes "\r\nContent-Type: application/json\r\nContent-Length: ") (decimal n) close
+    ∙ sym (head_parts code n)

@@ -1,6 +1,7 @@
 //! Heads of replies.
-ghost use Rattle.std.specs.Prelude.{◌≡◌, ◌++◌, ◌∷◌, OnOk, codes, decimal};
+ghost use Rattle.std.specs.Prelude.{◌≡◌, ◌++◌, ◌∷◌, IfOk, OnOk, codes, decimal, string_bytes};
 ghost use Rattle.spec_http.specs.Replies.{line, phrase, head_text};
+ghost use Rattle.http_response.specs.Heads.{flat_head};
 
 use std::alloc::{AllocError, Global};
 
@@ -46,6 +47,23 @@ fn push_status_line(alloc: Global, text: &mut Vec<u8>, code: u16) -> Result<(), 
     text.extend_from_slice(digits.as_bytes())?;
     text.push(b' ')?;
     push_line(text, phrase(code))
+}
+
+/// Returns the parts of a head of a reply with a body of this length, one after another.
+fn head_in_parts(alloc: Global, code: u16, body_len: usize) -> Result<String, AllocError>
+    ensures { IfOk result (λ t. string_bytes t ≡ flat_head code body_len) }
+{
+    format!(in alloc;
+        "HTTP/1.1 {code} {}\r\nContent-Type: application/json\r\nContent-Length: {body_len}\r\nConnection: close\r\n\r\n",
+        phrase(code)
+    )
+}
+
+/// Returns the head of a reply with a body of this length. The error is out of memory.
+pub fn reply_head(alloc: Global, code: u16, body_len: usize) -> Result<String, AllocError>
+    ensures { IfOk result (λ t. string_bytes t ≡ head_text code (codes "Content-Length: " ++ decimal body_len)) }
+{
+    head_in_parts(alloc, code, body_len)
 }
 
 /// Adds the head of a reply, with a field that says where its body ends. The error is out of memory; a beginning of the head

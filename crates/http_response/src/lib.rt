@@ -10,5 +10,6 @@ pub mod sending;
 
 pub use constants::{last_chunk, out_of_memory, watch_head};
 pub use frames::{push_bookmark, push_changes, push_closing, push_error, push_objects};
+pub use heads::reply_head;
 pub use replies::{refusal, response};
 pub use sending::send_response;

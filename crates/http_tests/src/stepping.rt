@@ -22,6 +22,12 @@ const CREATE_ANOTHER: &[u8] =
 /// A watch of the ConfigMaps of all namespaces, from before both.
 const WATCH: &[u8] = b"GET /api/v1/configmaps?watch=true&resourceVersion=1 HTTP/1.1\r\n\r\n";
 
+/// A list of the ConfigMaps of all namespaces.
+const LIST: &[u8] = b"GET /api/v1/configmaps HTTP/1.1\r\n\r\n";
+
+/// The first page of it, of one object.
+const PAGE: &[u8] = b"GET /api/v1/configmaps?limit=1 HTTP/1.1\r\n\r\n";
+
 /// Does not wait.
 #[derive(Drop)]
 struct AtOnce;
@@ -138,6 +144,28 @@ fn is_replied_alike(alloc: Global) -> Result<bool, AllocError> {
 #[test]
 fn a_request_that_comes_byte_by_byte_is_answered(rt: HostRuntime) {
     assert_eq!(rt; is_replied_alike(rt.alloc()), Ok(true));
+}
+
+/// Returns whether a list that is made as it is written is what is written of it at once.
+fn is_listed_alike(alloc: Global, text: &[u8]) -> Result<bool, AllocError> {
+    let routes = Routes::new(alloc)?;
+    let mut site = empty(alloc)?;
+    for create in [CREATE, CREATE_ANOTHER] {
+        at_once(alloc, &routes, &mut site, create)?;
+    }
+    let steps = in_steps(alloc, &routes, &mut site, text)?;
+    let once = at_once(alloc, &routes, &mut site, text)?;
+    Ok(steps.as_slice() == once.as_slice() && steps.starts_with(b"HTTP/1.1 200"))
+}
+
+#[test]
+fn a_list_is_made_as_it_is_written(rt: HostRuntime) {
+    assert_eq!(rt; is_listed_alike(rt.alloc(), LIST), Ok(true));
+}
+
+#[test]
+fn a_page_is_made_as_it_is_written(rt: HostRuntime) {
+    assert_eq!(rt; is_listed_alike(rt.alloc(), PAGE), Ok(true));
 }
 
 /// Returns whether a watch that was given a look after each of two creates, and more up to its end, is written what it is at once.

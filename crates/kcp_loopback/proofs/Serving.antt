@@ -31,6 +31,9 @@ module _ {R : Type 0} where
   responded moment s t (targets.list v options) (response.Reply x) (o, lists, is) = lists.1.0
   responded moment s t (targets.watch v options) (response.Reply x) (e, inl refused, is) = opened v options.bookmarks options.start s t _ refused
   responded moment s t (targets.watch v options) (response.Reply x) (e, inr (none, o, refused), is) = opened v options.bookmarks options.start s t _ refused
+  responded moment s t (targets.request q) (response.List l) none = elim none [ ]
+  responded moment s t (targets.list v options) (response.List l) (o, lists, is) = lists.1.0
+  responded moment s t (targets.watch v options) (response.List l) none = elim none [ ]
   responded moment s t (targets.request q) (response.Watch w) none = elim none [ ]
   responded moment s t (targets.list v options) (response.Watch w) none = elim none [ ]
   responded moment s t (targets.watch v options) (response.Watch w) (of, marks, is_open) = opened v options.bookmarks options.start s t _ is_open.1

@@ -1,19 +1,15 @@
 -- Lists of a server stand in the order of places.
-use Rattle.std.proofs.Common.{◌≡◌, ℕ, suc, ◌-◌, List, [], ◌∷◌, length, map, nat_lt, arith, Bool, true, false, cond, Option, Some, None, Ordering, Less, Equal, Greater, is_eq, Ok, Err, refl, sym, ap, ◌∙◌, subst}
-use Rattle.std.specs.Prelude.{slice_get}
+use Rattle.std.proofs.Common.{◌≡◌, ℕ, List, [], ◌∷◌, nat_lt, Bool, true, false, cond, Option, Some, None, Ordering, Less, Equal, Greater, is_eq, Ok, Err, refl, sym, ap, ◌∙◌, subst}
 use Rattle.std.specs.Map.{remove_entry}
 use Rattle.std.specs.Ordering.{match_ordering}
 use Rattle.std.specs.BTreeMap.{insert_entry, is_at}
 use Rattle.serde_json.specs.Data.{Data}
 use Rattle.spec_api.specs.Keys.{Key, key_cmp}
 use Rattle.spec_api.specs.History.{View, Entries, viewed, in_view, put_or_remove, seen}
-use Rattle.spec_api.specs.Pages.{AreInPlace, place_of, last_place}
+use Rattle.spec_api.specs.Pages.{AreInPlace}
 use Rattle.spec_api.specs.Refusals.{Refusal, expired, too_new}
 use Rattle.spec_api.specs.Windows.{Change}
 use Rattle.spec_server.specs.Recorded.{Window, above, undone, recorded_list}
-use Rattle.object_keys.specs.Keys.{key_of}
-use Rattle.meta.specs.Members.{member_of}
-use Rattle.meta.specs.declared.lent_members.Member.{Member}
 use Rattle.watch_cache.specs.Served.{Serves}
 use Rattle.spec_api.proofs.PageLists.{order, ascending_viewed, in_place_from}
 use Rattle.spec_api.proofs.PutLaws.{IsAscending, IsAscending-after, IsAscending-filter, same_name}
@@ -93,15 +89,3 @@ earlier_in_place seen_of w now r v ms ls y up at is =
     let all : AllIn v ls = subst (λ z. AllIn v z) (sym at) (viewed_in v ms) in
     let rising : IsAscending key_cmp ls = subst (λ z. IsAscending key_cmp z) (sym at) (viewed_ascending v ms up) in
     subst (λ z. AreInPlace z) left (in_place v (undone v ls (above r w.kept)) (undone_in v ls (above r w.kept) all) (undone_ascending v ls (above r w.kept) rising))
-
--- ---- the place of the last member
-
-last_at : (x : Member) (ms : List Member) (m : Member) → slice_get (x ∷ ms) (length ms) ≡ Some m → last_place (map member_of (x ∷ ms)) ≡ Some (place_of (key_of m.key.now))
-last_at x [] m is = cc
-last_at x (y ∷ ms) m is = last_at y ms m is
-
-pub last_member : (ms : List Member) (m : Member) → slice_get ms (length ms - 1) ≡ Some m → last_place (map member_of ms) ≡ Some (place_of (key_of m.key.now))
-last_member [] m is = cc
-last_member (x ∷ ms) m is =
-    let place : length ms ≡ suc (length ms) - 1 = omega arith in
-    last_at x ms m (ap (slice_get (x ∷ ms)) place ∙ is)

@@ -1,12 +1,14 @@
 -- A reply that is a page of a list.
-use Rattle.std.specs.Prelude.{◌==◌, ℕ, Option, None, Some, if◌then◌else◌}
+use Rattle.std.specs.Prelude.{◌≡◌, ◌==◌, ℕ, List, Option, None, if◌then◌else◌}
+use Rattle.serde_json.specs.Written.{compact_text}
 use Rattle.spec_api.specs.History.{View, Entries}
-use Rattle.spec_api.specs.Lists.{is_selective, page_body, told_count}
+use Rattle.spec_api.specs.Lists.{page_body, told_count}
 use Rattle.spec_api.specs.Pages.{Place, last_place, page_of}
 use Rattle.spec_api.specs.Versions.{listed_as}
 use Rattle.spec_api.specs.Verbs.{Answer}
 use Rattle.spec_api.specs.declared.versions.At.TheVariants.{Present}
 use Rattle.reply.specs.declared.reply.Reply.{Reply}
+use Rattle.list_pieces.specs.PageTexts.{told}
 use Rattle.server.specs.Replies.{Says}
 
 -- the answer with these items of a list at revision r, after which so many are left
@@ -14,7 +16,7 @@ abbrev pub page_with : ℕ → View → Entries → ℕ → Answer
 page_with r v items left =
     record {
       code = 200;
-      body = page_body v.kind r (if is_selective v then None else Some left) (record { items = items; next = if left == 0 then None else last_place items });
+      body = page_body v.kind r (told v left) (record { items = items; next = if left == 0 then None else last_place items });
       write = None;
     }
 
@@ -32,3 +34,7 @@ page_at r v listed limit after =
 
 abbrev pub IsPageAt : ℕ → View → Entries → ℕ → Option Place → Reply → Type 0
 IsPageAt r v listed limit after reply = Says (page_at r v listed limit after) reply
+
+-- its text
+abbrev pub IsTextAt : ℕ → View → Entries → ℕ → Option Place → List ℕ → Type 0
+IsTextAt r v listed limit after text = text ≡ compact_text (page_at r v listed limit after).body

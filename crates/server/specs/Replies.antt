@@ -1,5 +1,5 @@
 -- Replies as the definitions say them.
-use Rattle.std.specs.Prelude.{◌≡◌, ◌⊎◌, Result, Ok, Err, string_bytes}
+use Rattle.std.specs.Prelude.{◌≡◌, ◌⊎◌, ℕ, List, Result, Ok, Err, string_bytes}
 use Rattle.serde_json.specs.Written.{compact_text}
 use Rattle.spec_api.specs.Verbs.{Answer, Outcome, answered, refused}
 use Rattle.object_keys.specs.Faults.{refusal_of}
@@ -24,3 +24,10 @@ Lists (answered a) (Ok r) = Says a r
 Lists (answered a) (Err e) = e ≡ fault.NoMemory
 Lists (refused f) (Ok r) = ⊥
 Lists (refused f) (Err e) = f ≡ refusal_of e
+
+-- the same, with no reply made: it is to have the text, and code 200
+abbrev pub Finds : Outcome → Result (List ℕ) Fault → Type 0
+Finds (answered a) (Ok text) = (a.code ≡ 200) × (text ≡ compact_text a.body)
+Finds (answered a) (Err e) = e ≡ fault.NoMemory
+Finds (refused f) (Ok text) = ⊥
+Finds (refused f) (Err e) = f ≡ refusal_of e

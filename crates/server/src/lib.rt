@@ -5,9 +5,11 @@
 mod compacting;
 pub mod initials;
 mod listing;
+pub mod paging;
 pub mod servers;
 mod serving;
 pub mod watching;
 
 pub use initials::InitialEvents;
+pub use paging::opened;
 pub use servers::Server;

@@ -1,15 +1,13 @@
 //! Lists, in pages, at the present revision and at earlier ones.
-ghost use Rattle.std.specs.Prelude.{◌≡◌, ◌==◌, None, Some, IfOk, IfSome, map, option_map, if◌then◌else◌};
-ghost use Rattle.spec_api.specs.PageTokens.{token_place};
-ghost use Rattle.spec_api.specs.Pages.{last_place};
-ghost use Rattle.spec_api.specs.Lists.{is_selective};
+ghost use Rattle.std.specs.Prelude.{◌≡◌, IfOk, map};
 ghost use Rattle.meta.specs.Members.{member_of};
-ghost use Rattle.pages.specs.Seen.{token_of, asked_place};
+ghost use Rattle.pages.specs.Seen.{asked_place};
 ghost use Rattle.selector.specs.Views.{view_of};
 ghost use Rattle.store.specs.Chunks.{after_key};
 ghost use Rattle.server.specs.Pages.{ShowsPage};
 
 use crate::servers::Server;
+use list_pieces::{next_token, told_count};
 use meta::Member;
 use object_keys::{Fault, Key};
 use pages::{Token, page_of, page_text};
@@ -78,7 +76,7 @@ impl Server {
 
     /// Returns a page of the list at a revision. Where the kind has not changed since, it is one of what is there; else what is
     /// there is listed, and the later changes are undone.
-    fn list_exact(
+    pub(crate) fn list_exact(
         &self,
         alloc: Global,
         view: &View,
@@ -103,7 +101,7 @@ impl Server {
 }
 
 /// Returns a key of the place that a token names, if there is one. The error is running out of memory.
-fn key_after(kind: Kind, after: Option<&Token>) -> Result<Option<Key>, AllocError>
+pub(crate) fn key_after(kind: Kind, after: Option<&Token>) -> Result<Option<Key>, AllocError>
     ensures { IfOk result (λ key. after_key key ≡ asked_place after.entry) }
 {
     let Some(token) = after else {
@@ -127,39 +125,8 @@ fn page_reply(
 ) -> Result<Reply, AllocError>
     ensures { IfOk result (ShowsPage revision (view_of view.now) (map member_of items.now) remaining) }
 {
-    let next = next_of(items, remaining, revision)?;
+    let next = next_token(items, remaining, revision)?;
     let count = told_count(view, remaining);
     let text = page_text(alloc, view.kind, revision, items, next.as_ref(), count)?;
     Ok(Reply { code: 200, text })
-}
-
-/// Returns the token that asks for what comes after these objects of a list at a revision, if any remain. The error is running
-/// out of memory.
-fn next_of(
-    items: &[Member<'_>],
-    remaining: usize,
-    revision: u64,
-) -> Result<Option<Token>, AllocError>
-    ensures place { IfOk result (λ next. option_map (λ t. token_place (token_of t)) next
-        ≡ (if remaining == 0 then None else last_place (map member_of items.now))) }
-    ensures revision { IfOk result (λ next. IfSome next (λ t. t.revision ≡ revision)) }
-{
-    if remaining == 0 {
-        return Ok(None);
-    }
-    match items.last() {
-        None => Ok(None),
-        Some(member) => Ok(Some(Token::after(member, revision)?)),
-    }
-}
-
-/// Returns how many objects follow a page, where that is told: a view that selects does not say it.
-fn told_count(view: &View, remaining: usize) -> Option<usize>
-    ensures { result ≡ (if is_selective (view_of view.now) then None else Some remaining) }
-{
-    if view.is_selective() {
-        None
-    } else {
-        Some(remaining)
-    }
 }

@@ -18,10 +18,10 @@ use std::marker::Model;
 /// order of keys, of which the first may have been gone past.
 #[derive(Drop)]
 pub struct ViewSnapshot {
-    objects: SharedMap<Key, StoredObject>,
-    view: View,
+    pub(crate) objects: SharedMap<Key, StoredObject>,
+    pub(crate) view: View,
     /// The last key that was gone past.
-    after: Option<Key>,
+    pub(crate) after: Option<Key>,
 }
 
 impl Model for ViewSnapshot {
@@ -45,7 +45,7 @@ impl Model for ViewSnapshot {
 }
 
 /// Returns a copy of a key, if there is one. The error is running out of memory.
-fn copied(key: Option<&Key>) -> Result<Option<Key>, AllocError>
+pub(crate) fn copied(key: Option<&Key>) -> Result<Option<Key>, AllocError>
     ensures { IfOk result (λ copy. after_key copy ≡ after_key (option_map (λ k. k.now) key.entry)) }
 {
     match key {

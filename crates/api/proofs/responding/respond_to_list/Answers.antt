@@ -1,10 +1,8 @@
 use Rattle.request_parts.specs.Collected.{list_seen}
 use Rattle.selector.specs.Views.{view_of}
-use Rattle.api.proofs.Written.{told_then}
-use Rattle.api.specs.Responding.{text_of}
+use Rattle.api.proofs.Written.{text_then}
 use Rattle.api.proofs.responding.respond_to_list.Goals as goal
 
-pub returns : goal.returns
-returns g c =
-    told_then (λ o. g.S.Site.Lists c.args.site.now (view_of c.args.view.now) (list_seen c.args.options.now) o c.list-answer.new.self) c.list-answer.result (text_of c.answer_text.result)
-    c.list-answer.ensures.lists c.answer_text.ensures
+pub returns-in-Ok : goal.returns-in-Ok
+returns-in-Ok g c =
+    text_then (λ o. g.S.Site.Lists c.args.site.now (view_of c.args.view.now) (list_seen c.args.options.now) o c.page.new.self) c.in-Ok.text c.in-Ok.ensures.pages

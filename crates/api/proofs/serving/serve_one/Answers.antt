@@ -11,7 +11,7 @@ returns-in-Ok-deliver-clause-serves g c =
       said c.in-Ok.received,
       asks_said (g.R.Read.remaining (device_of c.args.reader.now)) c.in-Ok.received c.in-Ok.ensures.asks,
       delivered g.S.Site.Calls g.S.Site.Lists g.S.WatchSource.Begins g.S.WatchSource.Watches g.W.Write.contents c.args.moment c.args.site.now c.respond-response.new.site c.deliver.new.site
-          c.args.writer.now c.deliver.new.writer (said c.in-Ok.received) c.respond-response.result (Ok c.in-Ok-deliver.field-0) c.respond-response.ensures c.in-Ok-deliver.ensures,
+          c.args.writer.now c.deliver.new.writer (said c.in-Ok.received) c.respond-response.result (Ok c.in-Ok-deliver.field-0) c.respond-response.ensures.responds c.in-Ok-deliver.ensures,
     )
 
 pub returns-in-Err-clause-serves : goal.returns-in-Err-clause-serves
@@ -20,7 +20,7 @@ returns-in-Err-clause-serves g c =
       said c.in-Ok.received,
       asks_said (g.R.Read.remaining (device_of c.args.reader.now)) c.in-Ok.received c.in-Ok.ensures.asks,
       delivered g.S.Site.Calls g.S.Site.Lists g.S.WatchSource.Begins g.S.WatchSource.Watches g.W.Write.contents c.args.moment c.args.site.now c.respond-response.new.site c.deliver.new.site
-          c.args.writer.now c.deliver.new.writer (said c.in-Ok.received) c.respond-response.result (Err c.in-Err.fault) c.respond-response.ensures c.in-Err.ensures,
+          c.args.writer.now c.deliver.new.writer (said c.in-Ok.received) c.respond-response.result (Err c.in-Err.fault) c.respond-response.ensures.responds c.in-Err.ensures,
     )
 
 pub returns-in-Ok-deliver-clause-asked : goal.returns-in-Ok-deliver-clause-asked

@@ -1,6 +1,6 @@
 use Rattle.std.proofs.Common.{[], sym, subst}
 use Rattle.std.proofs.KnownBytes.{Appends-nil}
-use Rattle.http_connection.proofs.Standing.{replies_stand, watches_stand, nothing_read, nothing_done, request_read}
+use Rattle.http_connection.proofs.Standing.{replies_stand, lists_stand, watches_stand, nothing_read, nothing_done, request_read}
 use Rattle.http_connection.specs.Phases.{Stands, Turns}
 use Rattle.http_connection.specs.declared.phase.ConnectionPhase.TheVariants as phase
 use Rattle.http_connection.proofs.turning.turn.Goals as goal
@@ -46,6 +46,19 @@ returns-in-Replying g c =
     subst (λ p. Turns calls lists begins watches unread unread held holds p result) (sym c.in-Replying.is)
     (nothing_read calls lists begins watches unread held holds (phase.Replying c.in-Replying.replying) result
     (λ read written stands. replies_stand calls lists begins watches held holds c.in-Replying.replying result read written c.reply_on-in-Replying.ensures stands))
+
+pub returns-in-Listing : goal.returns-in-Listing
+returns-in-Listing g c =
+    let calls = g.S.Site.Calls in
+    let lists = g.S.Site.Lists in
+    let begins = g.S.WatchSource.Begins in
+    let watches = g.S.WatchSource.Watches in
+    let unread = g.R.Read.remaining c.args.reader.now in
+    let held = g.W.Write.contents c.args.writer.now in
+    let holds = g.W.Write.contents c.list_on.new.writer in
+    subst (λ p. Turns calls lists begins watches unread unread held holds p c.list_on.result) (sym c.in-Listing.is)
+    (nothing_read calls lists begins watches unread held holds (phase.Listing c.in-Listing.listing) c.list_on.result
+    (λ read written stands. lists_stand calls lists begins watches held holds c.in-Listing.listing c.list_on.result read written c.list_on.ensures stands))
 
 pub returns-in-Watching : goal.returns-in-Watching
 returns-in-Watching g c =

@@ -1,6 +1,6 @@
 use Rattle.std.proofs.Common.{◌≡◌, ◌++◌, drop, string_bytes}
 use Rattle.std.specs.Prelude.{flat_map}
-use Rattle.pages.proofs.texts.push_all.Given as goal
+use Rattle.pages.proofs.pieces.push_all.Given as goal
 
 -- what was added and what is left is all
 abbrev pub invariant-loop-piece : goal.invariant-loop-piece

@@ -1,7 +1,7 @@
 use Rattle.std.proofs.Common.{◌∙◌, Some, sym, ap}
 use Rattle.std.proofs.lemmas.Bool.{ne_eqb}
-use Rattle.server.proofs.ListedMembers.{last_member}
-use Rattle.server.proofs.listing.next_of.Goals as goal
+use Rattle.list_pieces.proofs.LastMembers.{last_member}
+use Rattle.list_pieces.proofs.next_pages.next_token.Goals as goal
 
 pub returns-in_ok-after-in-Some-clause-place : goal.returns-in_ok-after-in-Some-clause-place
 returns-in_ok-after-in-Some-clause-place c =

@@ -1,0 +1,84 @@
+//! Lists, written as far as they are taken.
+ghost use Rattle.std.specs.Prelude.{◌≤◌, length};
+ghost use Rattle.http_connection.specs.Lists.{IsRefilled, ListSends, ListWrites, ListsOn};
+
+use crate::listing::Listing;
+use crate::phase::ConnectionPhase;
+use crate::sending::{Sent, write_on};
+use api::Served;
+use std::alloc::Global;
+use std::io::Write;
+
+/// How far a list was written.
+#[derive(Drop)]
+pub enum ListSent {
+    /// To its end.
+    Whole,
+    /// As far as goes now: this is left.
+    Left(Listing),
+    /// The writer failed.
+    Failed,
+}
+
+/// Writes on what is made of a list, and returns it then; nothing where the writer failed.
+fn list_sent<W: Write>(listing: Listing, writer: &mut W) -> Option<Listing>
+    ensures { ListSends (W.contents writer.old) (W.contents writer.new) listing result }
+{
+    match write_on(&listing.out, listing.taken, writer) {
+        Sent::To(taken) => Some(Listing { taken, ..listing }),
+        Sent::Failed => None,
+    }
+}
+
+/// Returns a list whose next piece is made; as it was, where there is no memory for it.
+fn refilled(alloc: Global, listing: Listing) -> Result<Listing, Listing>
+    requires written { length listing.out.items ≤ listing.taken }
+    ensures { IsRefilled listing result }
+{
+    let mut listing = listing;
+    match listing.rest.next_piece(alloc) {
+        Ok(out) => Ok(Listing {
+            out,
+            taken: 0,
+            pieces: listing.pieces.wrapping_add(1),
+            ..listing
+        }),
+        Err(_) => Err(listing),
+    }
+}
+
+/// Writes a list on, as far as that goes now: each piece is made once all before it was written. One for whose next piece there is no
+/// memory is left.
+fn list_written<W: Write>(alloc: Global, listing: Listing, writer: &mut W) -> ListSent
+    ensures { ListWrites (W.contents writer.old) (W.contents writer.new) listing result }
+{
+    let mut listing = listing;
+    for _ in 0..u64::MAX {
+        match list_sent(listing, writer) {
+            Some(now) => listing = now,
+            None => return ListSent::Failed,
+        }
+        if listing.taken < listing.out.len() {
+            return ListSent::Left(listing);
+        }
+        if !listing.rest.has_more() {
+            return ListSent::Whole;
+        }
+        match refilled(alloc, listing) {
+            Ok(more) => listing = more,
+            Err(same) => return ListSent::Left(same),
+        }
+    }
+    ListSent::Left(listing)
+}
+
+/// Writes a list on, and returns where its connection then stands. What is left of it is written by a later call. The connection is closed
+/// once all is written.
+pub(crate) fn list_on<W: Write>(alloc: Global, listing: Listing, writer: &mut W) -> ConnectionPhase
+    ensures { ListsOn (W.contents writer.old) (W.contents writer.new) listing result }
+{
+    match list_written(alloc, listing, writer) {
+        ListSent::Left(left) => ConnectionPhase::Listing(left),
+        ListSent::Whole | ListSent::Failed => ConnectionPhase::Closing(Served::Asked),
+    }
+}

@@ -1,0 +1,3 @@
+pub mod AddedItems
+pub mod LastMembers
+pub mod Pages

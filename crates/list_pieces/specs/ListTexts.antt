@@ -1,0 +1,25 @@
+-- The text of a page of which a beginning is made.
+use Rattle.std.specs.Prelude.{◌≡◌, ◌≤◌, ◌<◌, ℕ, List, ◌∷◌, ◌++◌, Bool, true, length, map, take}
+use Rattle.serde_json.specs.Data.{Data}
+use Rattle.spec_api.specs.History.{Entries}
+use Rattle.object_keys.specs.Keys.{key_of}
+use Rattle.pages.specs.PageTexts.{item_texts}
+use Rattle.list_pieces.specs.declared.items.ItemsStop.{ItemsStop}
+
+-- the first n members as items, after others or as the first
+abbrev pub items_left : Bool → ℕ → Entries → List ℕ
+items_left later n ms = item_texts later (map (λ m. m.1) (take n ms))
+
+-- what is left of the text: before the items, these, and after them
+abbrev pub text_left : List ℕ → Bool → ℕ → Entries → List ℕ → List ℕ
+text_left before later n ms closing = before ++ (items_left later n ms ++ closing)
+
+-- the items of the first members, the last of them under the key of the stop, were added to a text, and some are left
+pub record StopsAt (all : Entries) (later : Bool) (n : ℕ) (old new : List ℕ) (stop : ItemsStop) : Type 0 where
+  pub before : Entries
+  pub object : Data
+  pub left : Entries
+  pub split : all ≡ before ++ ((key_of stop.key, object) ∷ left)
+  pub items : new ++ items_left true stop.left left ≡ old ++ items_left later n all
+  pub longer : length old ≤ length new
+  pub full : 0 < length new
