@@ -163,7 +163,7 @@ module _ {S : Type 0} (calls : S → Request → List ℕ → Outcome → S → 
   lists_stand before after l (phase.Listing m) read written (put, appends, is) (reply, came) =
       let all : written ++ list_left l ≡ (written ++ put) ++ list_left m = ap (λ t. written ++ t) (sym is) ∙ sym (append_assoc written put (list_left m)) in
       (put, appends, (subst (IsReply calls lists begins watches read) all reply, came))
-  lists_stand before after l (phase.Closing s) read written (by, (left, put, appends, is)) (reply, came) =
+  lists_stand before after l (phase.Closing s) read written (by, (left, (put, appends, is))) (reply, came) =
       let all : (written ++ put) ++ left ≡ written ++ list_left l = append_assoc written put left ∙ ap (λ t. written ++ t) is in
       (put, appends, ((written ++ list_left l, left, inr (inl reply), all), subst (IsServedBy read) (sym by) came))
   lists_stand before after l (phase.Reading a) read written never stands = absurd never
