@@ -1,4 +1,4 @@
-//! A loop.
+//! A loop that answers connections at a server until all loops are to stop.
 ghost use Rattle.std.specs.Prelude.{IfOk};
 ghost use Rattle.http_event_loop.specs.Asked.{HasAsked, IsNewAsker};
 

@@ -1,4 +1,4 @@
-//! A follower.
+//! A copy of the objects of one kind: what is to be asked next, what is taken in of the answers, and what is published.
 use framing::Want;
 use indexer::{Indexed, Shift};
 use plain_informer::Publishing;

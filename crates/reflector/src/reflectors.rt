@@ -1,4 +1,4 @@
-//! A reflector.
+//! What is taken in of the lists and watches of one kind, the deltas that it gives, and what is to be asked next.
 
 use crate::deltas::{Delta, Fed};
 use crate::faults::ListFault;
