@@ -104,7 +104,10 @@ impl Loops {
 
     /// Returns the number of a loop at work that has nothing to do: the first one, so that no more are woken than are needed.
     pub(crate) fn free(&self) -> Option<usize> {
-        self.wakes.iter().take(self.at_work).position(Wakes::is_free)
+        self.wakes
+            .iter()
+            .take(self.at_work)
+            .position(Wakes::is_free)
     }
 
     /// Returns whether one more connection may be open.

@@ -1,2 +1,2 @@
-mod Openings
+mod OpeningLines
 mod InitialLines

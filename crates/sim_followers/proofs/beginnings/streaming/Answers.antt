@@ -5,7 +5,7 @@ use Rattle.spec_api.specs.WatchReplies.{added_events}
 use Rattle.selector.specs.Views.{view_of}
 use Rattle.spec_sim.specs.Followers.{Link}
 use Rattle.sim_followers.specs.Openings.{initial_lines}
-use Rattle.sim_followers.proofs.Openings.{opening_is}
+use Rattle.sim_followers.proofs.OpeningLines.{opening_is}
 use Rattle.sim_followers.proofs.beginnings.streaming.Goals as goal
 
 abbrev link_at : ℕ → List Line → Link
