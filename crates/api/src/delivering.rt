@@ -1,4 +1,4 @@
-//! Responses, written.
+//! Responses as they are written: a reply at once, a watch up to its end.
 ghost use Rattle.api.specs.Delivering.{Delivers, GoesOn};
 ghost use Rattle.api.specs.Replying.{Sends};
 ghost use Rattle.api.specs.Responding.{IsMade};

@@ -1,9 +1,8 @@
 //! The trait `Site`, what connections ask of a server; and `serve_one`: one connection served: request read, asked, answered.
 //!
-//! Requests over HTTP/1.1, served: what was received of a connection is done at a server, and its answer is written. `serve_one` does
-//! it all, over any reader and writer; `respond` says what is to be written, for who reads and writes without waiting.
-//!
-//! What a connection asks of a server, whether one thread owns it or many share it, and the owner of one.
+//! `serve_one` has no limit of time: a peer that is silent is given up by the reader and the writer that the caller brings. Who never waits
+//! takes `respond_to`, and writes what it gives piece by piece, as `http_connection` does. `Solo` is the site of one thread, with which
+//! `http_tests` calls `serve_one`; `desk::Seat` is that of many.
 #![tactic(auto)]
 
 pub mod alone;

@@ -1,4 +1,4 @@
-//! A baton.
+//! A state that one pass at a time may hold, and the right to take it.
 ghost use Rattle.std.specs.Prelude.{◌≡◌};
 ghost use Rattle.crossbeam_queue.specs.Passes.{ruled_capacity};
 

@@ -1,4 +1,4 @@
-//! The Pods that are taken in.
+//! The Pods and ReplicaSets by which an indexed copy is measured.
 use meta::Object;
 use reflector::SharedObject;
 use serde_json::Value;

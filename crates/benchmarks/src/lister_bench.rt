@@ -13,7 +13,7 @@ use std::thread::Threads;
 use std::time::Clock;
 use std::{env, io};
 
-/// Measurement is measured.
+/// What is measured.
 #[derive(Clone, Copy)]
 pub enum Measurement {
     Publish,

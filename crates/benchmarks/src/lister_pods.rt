@@ -1,4 +1,4 @@
-//! The Pods that are taken in.
+//! The Pods by which an informer is measured whose map is read without waiting.
 use informer::Informer;
 use meta::Object;
 use object_keys::Key;

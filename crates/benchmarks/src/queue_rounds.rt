@@ -1,4 +1,4 @@
-//! The loop that is measured.
+//! The loop by which a line of keys is measured.
 use crate::waiting_line::WaitingLine;
 use object_keys::{Key, WorkKey};
 use spec_api::kinds::Kind;

@@ -1,4 +1,4 @@
-//! What the program is asked.
+//! The sizes that the benchmark of the decoder is asked for.
 ghost use Rattle.std.specs.Prelude.{◌≤◌};
 
 const MEBIBYTE: usize = 1_048_576;

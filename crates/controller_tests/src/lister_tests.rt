@@ -1,4 +1,4 @@
-//! Each call once, with ample memory.
+//! Each call of an informer that threads look at, once, with ample memory.
 use crate::fixtures::{pod, put_at, remove};
 use informer::{Informer, Lister, SharedInformer};
 use plain_informer::Publishing;

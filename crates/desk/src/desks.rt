@@ -1,4 +1,4 @@
-//! A desk.
+//! A server that threads share, and the right to ask it.
 use crate::askings::Asking;
 use crate::entries::StoreEntry;
 use crate::store_law::StoreLaw;

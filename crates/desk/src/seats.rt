@@ -1,4 +1,4 @@
-//! A seat.
+//! A pass with what its thread needs to ask at the desk.
 ghost use Rattle.desk.specs.Desks.{IsPassAt};
 
 use crate::askings::Asking;

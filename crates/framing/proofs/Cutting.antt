@@ -24,7 +24,7 @@ abbrev last_part : List ℕ → List ℕ
 last_part [] = []
 last_part (x ∷ xs) = if x == 10 then last_part xs else onto_last x (by_line xs) (last_part xs)
 
--- a byte that is no newline, in front of bytes of which these are the by_line and the last_part
+-- a byte that is no newline, in front of bytes of which these are the lines and the rest
 lines_at : (b : Bool) (x : ℕ) (a c : List ℕ) (ls : List (List ℕ)) (r : List ℕ) → (x == 10) ≡ b → by_line (a ++ c) ≡ ls ++ by_line (r ++ c)
     → cond b ([] ∷ by_line (a ++ c)) (onto_line x (by_line (a ++ c))) ≡ cond b ([] ∷ ls) (onto_line x ls) ++ by_line (cond b r (onto_last x ls r) ++ c)
 lines_at true x a c ls r e h = ap (λ m. [] ∷ m) h
@@ -63,7 +63,7 @@ at-rest-line : (l more : List ℕ) → IsPartial l → last_part (l ++ 10 ∷ mo
 at-rest-line [] more h = refl
 at-rest-line (x ∷ l) more h = rw (ne_eqb x 10 h.0, at-lines-line l more h.1, at-rest-line l more h.1) refl
 
--- bytes split into their by_line and their last_part
+-- bytes split into their lines and their rest
 onto_text : (x : ℕ) (ls : List (List ℕ)) (r : List ℕ) → text_of (onto_line x ls) ++ onto_last x ls r ≡ x ∷ (text_of ls ++ r)
 onto_text x [] r = refl
 onto_text x (l ∷ ls) r = refl
@@ -88,7 +88,7 @@ parts (x ∷ xs) = let p = parts xs in none_at (x == 10) x (by_line xs) (last_pa
 at-Splits-lines : (xs : List ℕ) → Splits xs (by_line xs) (last_part xs)
 at-Splits-lines xs = let p = parts xs in record { whole = whole xs; each = p.0; partial = p.1 }
 
--- no other by_line are
+-- no other lines are
 at-lines-text_of : (ls : List (List ℕ)) (r : List ℕ) → AllByRecursion IsPartial ls → IsPartial r → by_line (text_of ls ++ r) ≡ ls
 at-lines-text_of [] r h p = at-lines-partial r p
 at-lines-text_of (l ∷ ls) r h p =
@@ -103,7 +103,7 @@ at-rest-text_of (l ∷ ls) r h p =
 at-Splits-only : (xs : List ℕ) (ls : List (List ℕ)) (r : List ℕ) → Splits xs ls r → (ls ≡ by_line xs) × (r ≡ last_part xs)
 at-Splits-only xs ls r s = (sym (ap by_line s.whole ∙ at-lines-text_of ls r s.each s.partial), sym (ap last_part s.whole ∙ at-rest-text_of ls r s.each s.partial))
 
--- bytes before the by_line of others
+-- bytes before the lines of others
 abbrev pub before : List ℕ → List (List ℕ) → List (List ℕ)
 before q [] = []
 before q (l ∷ ls) = (q ++ l) ∷ ls

@@ -1,4 +1,4 @@
-//! Watches, opened.
+//! What a server says to who asks for a watch: that it is open, that what it was to begin after is gone, or a refusal.
 ghost use Rattle.std.specs.Prelude.{◌≡◌, IfOk, IfErr, true, Err};
 ghost use Rattle.chunked.specs.Devices.{device_of, has_failed};
 ghost use Rattle.http_client.specs.Heads.{BeginsWithNoHead};

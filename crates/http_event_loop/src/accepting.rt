@@ -136,8 +136,9 @@ impl Accepting {
         }
     }
 
-    /// Returns the number of the loop that is given a connection for another than the own. One that asks for a list goes to one that can begin
-    /// at once, and is left to the own if there is none; others are spread, since a watch stays where it is.
+    /// Returns the number of the loop that is given a connection which the own one read, and did not begin. One that asks for a list goes to a
+    /// loop that can begin at once; where there is none, to the own one and to another by turns. Others are spread, since a watch stays where
+    /// it is.
     pub(crate) fn place_of(&mut self, own: usize, loops: &Loops, given: &Given) -> usize {
         if given.is_list() {
             self.take_free(own, loops)

@@ -1,4 +1,4 @@
-//! A loop.
+//! A loop that answers connections at a server until all loops are to stop.
 ghost use Rattle.std.specs.Prelude.{IfOk};
 ghost use Rattle.http_event_loop.specs.Asked.{HasAsked, IsNewAsker};
 
@@ -38,8 +38,9 @@ impl<'a, S: Drop, L: Ledger> EventLoop<'a, S, L> {
     /// Returns the loop of this place, which takes the connections that it is given, each with one of the turns.
     ///
     /// Where it is to listen it accepts connections, for itself and the others: no more than the limit, if there is one, after the last of which
-    /// all loops stop. What asks for a list or a watch, or is not whole, it gives to the others, if there are any. Where no connection can be
-    /// accepted, as the system has no descriptor or 10,000 are open, it is tried again once a connection has ended, and at times.
+    /// all loops stop. What asks for a watch, or is not whole, it gives to the others, if there are any; what asks for a list to one that is
+    /// free, or else to another and to itself by turns. Where no connection can be accepted, as the system has no descriptor or 10,000 are
+    /// open, it is tried again once a connection has ended, and at times.
     pub fn new<R: Wait>(
         rt: &R,
         alloc: Global,

@@ -1,15 +1,8 @@
 //! Many connections on one thread: polling, accepting, deadlines, watches that are woken; and a port listened on by several such threads.
 //!
-//! Many connections of HTTP/1.1 on one thread, over any server: an event loop that lets each connection go on when its peer sends or
-//! takes, or when a kind that it watches is written. No read and no write waits, and some loops, each on a thread of its own, share
-//! what one of them accepts.
-//!
-//! Contracts say what a loop asks its server: one thing for each connection that it took at most, and looks of watches. What is read
-//! and written of a connection `http_connection` says. What the system reports no contract says.
-//!
-//! What a server on the loopback address does before and around its loops: listens, says where, and runs each on a thread of its own.
-//!
-//! Contracts say what is written first, and that each loop of a row ran. What a socket does no contract can say.
+//! Contracts say what loops ask their server: one thing for each connection that they took at most, and looks of watches; and that each
+//! loop of a row ran. What a socket does, and what the system reports, none can say. Whoever writes tells `Loops::wrote`, or watches hear
+//! of it late. `kcp_commands::serving_threads` opens a row of loops and runs it.
 #![tactic(auto)]
 
 pub mod accepting;

@@ -1,4 +1,4 @@
-//! Listening.
+//! How a port of the loopback address is listened on, and the line that says which.
 ghost use Rattle.std.specs.Prelude.{◌≡◌, IfErr, IfOk, OnOk};
 ghost use Rattle.std.specs.Io.KnownBytes.{Appends};
 ghost use Rattle.http_event_loop.specs.Serving.{listening};

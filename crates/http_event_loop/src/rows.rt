@@ -1,4 +1,4 @@
-//! Rows, of which each runs on a thread of its own.
+//! How the members of a row run, each on a thread of its own, and are joined.
 ghost use Rattle.std.specs.Thread.{IsSend, IsSync};
 ghost use Rattle.http_event_loop.specs.Rows.{RunsEach};
 

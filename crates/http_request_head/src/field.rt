@@ -4,14 +4,14 @@ ghost use Rattle.std.specs.Str.{str_eq_ignore_ascii_case};
 ghost use Rattle.spec_http.specs.Heads.{values_of};
 ghost use Rattle.http_request_head.specs.Fields.{field_seen};
 
-/// A field: a name, and a value without the white space around it (RFC 9112, HeaderField Syntax).
+/// A field: a name, and a value without the white space around it (RFC 9112, Field Syntax).
 #[derive(Debug, Clone, Copy)]
 pub struct HeaderField<'a> {
     pub name: &'a [u8],
     pub value: &'a [u8],
 }
 
-/// Returns whether a field has a name; case does not count (RFC 9110, HeaderField Names).
+/// Returns whether a field has a name; case does not count (RFC 9110, Field Names).
 fn has_name(field: HeaderField<'_>, name: &[u8]) -> bool
     ensures { result ≡ str_eq_ignore_ascii_case field.entry.name.now name.now }
 {

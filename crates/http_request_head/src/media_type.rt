@@ -1,4 +1,4 @@
-//! Media types.
+//! Media types without their parameters, and which one the fields of a head name.
 ghost use Rattle.std.specs.Prelude.{◌≡◌, MatchOption, Some, None, map, reverse, codes, ◌==◌};
 ghost use Rattle.std.specs.List.{before_first};
 ghost use Rattle.std.specs.Str.{str_eq_ignore_ascii_case};

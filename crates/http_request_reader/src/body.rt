@@ -1,4 +1,4 @@
-//! Bodies, read.
+//! Bodies of requests, read from a connection up to their length.
 ghost use Rattle.std.specs.Prelude.{◌≡◌, ◌≤◌, ◌<◌, ℕ, List, IfOk, length, take, true, false};
 ghost use Rattle.chunked.specs.Devices.{device_of, has_failed};
 ghost use Rattle.http_request_head.specs.Reading.{IsWatched};

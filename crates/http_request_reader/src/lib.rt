@@ -1,8 +1,7 @@
 //! A request read from a connection, or why it is refused: by its path, method, query, length and media type before its body is read.
 //!
-//! Requests over HTTP/1.1, read from a connection: what a peer asks, or why it is refused.
-//!
-//! The checks of a request's head: what it asks, but for its body, or why it is refused before the body is read.
+//! After a fault or a refusal no other request is to be read from the connection: a part of this one may be lost, or still to come.
+//! `api::serve_one` reads by `receive`, which waits; `http_connection` by `look_at`, of what has come so far.
 #![tactic(auto)]
 
 mod answered;

@@ -1,4 +1,4 @@
-//! Requests, read.
+//! Requests, read from a connection: a head, its checks, and then the body.
 ghost use Rattle.std.specs.Prelude.{◌≡◌, ◌≤◌, IfOk, length, drop, true, false, Ok, Err};
 ghost use Rattle.httparse.specs.Grammar as grammar;
 ghost use Rattle.httparse.specs.Spans.{IsRequestAt};

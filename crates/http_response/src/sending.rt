@@ -1,4 +1,4 @@
-//! Replies, sent.
+//! Replies as they are sent: in one write, or in parts where there is no memory for that.
 ghost use Rattle.std.specs.Prelude.{◌++◌, codes, decimal, length};
 ghost use Rattle.chunked.specs.Writing.{WritesInPlace};
 ghost use Rattle.spec_http.specs.Replies.{head_text, phrase, response_text};

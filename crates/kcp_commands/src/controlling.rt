@@ -77,8 +77,8 @@ where
     manager::run(server.rt, server.alloc, apis, server.signals, &Open)
 }
 
-/// Runs the controllers at the server of a port until so many turns are finished, if a number is given. Where the server ends, or loses its
-/// memory, they begin anew: they know nothing then but what the server lists that comes after it.
+/// Runs the controllers at the server of a port until so many turns are finished, if a number is given. Where the server ends, loses its
+/// memory or is another one, they begin anew: they know nothing then but what the server lists that comes after it.
 pub fn control<R>(rt: &R, alloc: Global, options: ControlOptions) -> Result<(), AllocError>
 where
     R: Net<Listener = TcpListener, Stream = TcpStream> + Eprint + Threads + Wait + Clock + Sync,

@@ -1,8 +1,8 @@
 //! Request lines of the program: answered by a session for `kcp replay`, sent to a server over HTTP for `kcp all`.
 //!
-//! `kcp replay`: request lines that are read, and the reply lines that are written, from the empty store on.
-//!
-//! Request lines, sent to a server over connections, and the lines of its replies.
+//! `replay` has one contract from the lines that are read to those that are written. `relay` has none: what a server answers over a
+//! connection nothing says here, and a watch holds up the lines after it until the server ends it. `conformance/cases` has lines with their
+//! replies.
 #![tactic(auto)]
 
 pub mod lines;

@@ -1,4 +1,4 @@
-//! HttpReply lines.
+//! The lines that are written of a reply that came over a connection: a code and a text, or the frames of a watch.
 ghost use Rattle.std.specs.Prelude.{◌≡◌, ◌==◌, IfOk, count_by};
 ghost use Rattle.object_keys.specs.Faults.{refusal_of};
 ghost use Rattle.spec_api.specs.Refusals.{code, status_body};

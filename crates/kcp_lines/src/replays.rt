@@ -1,4 +1,4 @@
-//! Replays.
+//! Request lines that are read and answered by a session where nothing is there at first.
 ghost use Rattle.std.specs.Prelude.{◌≡◌, OnOk, IfErr, IfSome, true};
 ghost use Rattle.chunked.specs.Devices.{device_of, has_failed};
 ghost use Rattle.spec_api.specs.Replies.{default_window};

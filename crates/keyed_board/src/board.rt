@@ -1,4 +1,4 @@
-//! The board.
+//! A board of keys of any type, whose calls are its steps.
 use crate::outcome::Outcome;
 use keyed_queues::{KeyedBackoff, KeyedDelays, KeyedQueue, Named};
 use std::alloc::{AllocError, Global};

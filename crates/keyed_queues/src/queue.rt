@@ -1,4 +1,4 @@
-//! The queue.
+//! A work queue of keys of any type.
 use crate::named::Named;
 use std::alloc::{AllocError, Global};
 use std::collections::{BTreeSet, VecDeque};

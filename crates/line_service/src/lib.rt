@@ -1,10 +1,7 @@
 //! A service that answers lines, the loop that runs it over a reader and a writer, and reply lines byte for byte.
 //!
-//! A service that answers lines, and the loop that runs it over any reader and writer.
-//! What is written is the fold of the service's replies over the lines that are read, and nothing else; a line for which there is no memory
-//! may be told so, and changes nothing.
-//!
-//! The lines by which a session replies: statuses, texts, and what watches are shown.
+//! A line is held whole, however long it is, and a run goes on as long as its reader does: who reads what strangers send has to limit both
+//! in the reader. `line_session::Session` and `sim_service::Simulation` are services; `http_tests` runs one over devices that fail.
 #![tactic(auto)]
 
 pub mod answer;

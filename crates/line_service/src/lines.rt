@@ -1,4 +1,4 @@
-//! Reply lines.
+//! The lines by which a session replies: statuses, texts, and what watches are shown.
 ghost use Rattle.std.specs.Prelude.{◌≡◌, ◌≢◌, ◌++◌, ◌∷◌, [], IfOk, OnOk, None, codes, map, decimal, string_bytes};
 ghost use Rattle.spec_api.specs.Frames.{frame_text};
 ghost use Rattle.spec_line_protocol.specs.Lines.{line_text, reply_text};

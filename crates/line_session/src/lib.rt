@@ -1,9 +1,7 @@
 //! `Session`: request lines answered over a server that begins empty; and one with the journal of all that happened to it.
 //!
-//! A session: request lines answered one after another over a server where nothing is there at first.
-//!
-//! Sessions of which all that happens is recorded: what a simulated cluster has for a server, with the journal of its writes and
-//! compactions.
+//! The moment is the one that a line has set last, and no clock's. What `prepare` gives is of the session as it is: it is to be committed,
+//! or dropped, before anything else is. `kcp_lines::replay` runs a session, and `sim_cluster` one that is recorded.
 #![tactic(auto)]
 
 pub mod effects;

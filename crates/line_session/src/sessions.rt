@@ -1,4 +1,4 @@
-//! Sessions.
+//! A session over a server: what a line is answered, what changes by it, and the change, which may be made later.
 use crate::effects::{Effect, Prepared};
 use crate::openings::stream_opening;
 use line_service::lines::{

@@ -1,4 +1,4 @@
-//! A follower.
+//! A copy of the objects of one kind: what is to be asked next, what is taken in of the answers, and what is published.
 use framing::Want;
 use indexer::{Indexed, Shift};
 use plain_informer::Publishing;
@@ -8,7 +8,8 @@ use spec_client_go::reflectors::{Ask, End};
 use std::alloc::{AllocError, Global};
 use std::marker::Model;
 
-/// A copy of the objects of one kind, in all namespaces, in an informer, with what is to be asked of a server to keep it up to date.
+/// A copy of the objects of one kind in an informer, of all or of those that the server is asked for, with what is to be asked next to keep
+/// it up to date.
 #[derive(Drop)]
 pub struct Follower<I: Publishing> {
     reflector: Reflector,

@@ -21,8 +21,9 @@ pub trait Sink {
     /// What a sink is after it took changes, by what it was before: any relation.
     ghost takes: { Self → List words.Shift → Snapshot → Bool → Self → Type 0 };
 
-    /// Takes the changes of a publish, in order, with what is now published, and whether this is the first publish that it takes. It takes
-    /// them all or none. The error is running out of memory: after a pause it is given the same again, and nothing is published before.
+    /// Takes the changes of a publish, in order, with what is now published, and whether this is the first publish that it takes. The error
+    /// is running out of memory: after a pause it is given the same again, and nothing is published before. So it takes none before the
+    /// error, or counts those that it took, and then takes the others.
     fn changed(
         &mut self,
         shifts: &[Shift],

@@ -14,7 +14,7 @@ use std::alloc::{AllocError, Global};
 /// The status code of an object that is there (RFC 9110, 200 OK).
 const OK: u16 = 200;
 
-/// The status code where no object is there (RFC 9110, 404 Not FoundObject).
+/// The status code where no object is there (RFC 9110, 404 Not Found).
 const NOT_FOUND: u16 = 404;
 
 /// What a reply says of the object that was asked for.

@@ -25,7 +25,8 @@ pub struct Signals {
     finished: AtomicU64,
     /// After how many turns all threads stop, if they do.
     most_turns: Option<u64>,
-    /// 1 once a list came that is older than what was published before it.
+    /// 1 once the server has lost its memory or is another one: what is published is older than what was published before it, or shows
+    /// another server, or a follower has found one.
     lost: AtomicU64,
 }
 
@@ -103,13 +104,14 @@ impl Signals {
         self.listed.ring();
     }
 
-    /// Notes that the server has lost its memory: what it lists is older than what was published before. All threads stop.
+    /// Notes that the server has lost its memory or is another one: what is published is older than what was published before it, or shows
+    /// another server, or a follower has found one. All threads stop.
     pub fn note_lost(&self) {
         self.lost.store(1, Ordering::SeqCst);
         self.stop_all();
     }
 
-    /// Returns whether the server has lost its memory.
+    /// Returns whether it was noted that the server has lost its memory or is another one.
     pub fn has_lost(&self) -> bool {
         self.lost.load(Ordering::SeqCst) != 0
     }

@@ -1,4 +1,4 @@
-//! A worker.
+//! A worker that takes one key after another, with a turn for each, until all is to stop.
 ghost use Rattle.std.specs.Prelude.{◌≡◌, option_map};
 ghost use Rattle.control_desk.specs.Desks.{IsPassAt, key_in_hand};
 ghost use Rattle.object_keys.specs.WorkKeys.{work_key_of};

@@ -1,4 +1,4 @@
-//! Events.
+//! What a write did to an object that a view asks for.
 
 use crate::stored::StoredObject;
 use object_keys::Key;

@@ -1,8 +1,9 @@
-//! `Object` and its metadata, `StoredObject`, `Write`, and `Event`, what a write did to an object that is watched; how objects are read and stored.
+//! `Object` and its metadata, `StoredObject`, `Write`, and `Event`, what a write did to an object that is watched; how objects are read and
+//! stored.
 //!
-//! Objects: JSON values that were read as objects of a kind, their metadata, and how they are stored.
-//!
-//! Events: what a write did to an object that is watched.
+//! What is read as an object has the form of its kind, and no more: `defaults` fills in what its spec leaves out, and `validate` says
+//! whether its fields are valid. A `StoredObject` is its text, which copies share: open it only to change or compare it, as `verb_update`
+//! does.
 #![tactic(auto)]
 
 pub mod event;

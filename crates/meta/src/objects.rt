@@ -1,4 +1,4 @@
-//! Objects.
+//! Objects as values that were read as such: their members, their metadata, and their texts.
 ghost use Rattle.std.specs.Prelude.{◌≡◌, ◌≤◌, ◌++◌, Some, Ok, OnOk, IfOk, IfErr, IfSome, is_some, map, codes, option_map, option_and_then, string_bytes, true, false};
 ghost use Rattle.serde_json.specs.Find.{get, as_array, as_object};
 ghost use Rattle.serde_json.specs.Data.{depth};

@@ -1,4 +1,4 @@
-//! Writes.
+//! What a write puts under a key, or removes.
 
 use crate::stored::StoredObject;
 use object_keys::Key;

@@ -9,7 +9,6 @@ use Rattle.spec_api.proofs.Truths.{both_true}
 use Rattle.spec_api.specs.Moments.{is_digit, has_form, part, is_day, is_moment}
 use Rattle.metadata_values.specs.Forms.{fits}
 
--- both_true of two tests
 -- a byte that fits an ASCII mark is ASCII
 fits-ascii : (f b : ℕ) → nat_lt f 128 ≡ true → fits f b ≡ true → b < 128
 fits-ascii f b a h = grind (arith, nat_tests)

@@ -1,4 +1,4 @@
-//! The moment that a clock shows, to the second, and how long a clock went on.
+//! The moment that a clock shows, to the second.
 
 ghost use Rattle.std.specs.Prelude.{◌≡◌, IfSome, None};
 ghost use Rattle.jiff_core.specs.Timestamp.{IsTimestampNanos, nanos_of_seconds};

@@ -1,8 +1,8 @@
-//! The small texts of objects: names and labels, moments, also as a clock shows them, resource versions and how far they go, uids.
+//! The small texts of objects: names and labels, moments, also as a clock shows them, resource versions and how far they go, uids; how many
+//! objects a store may hold, and a stopwatch.
 //!
-//! The small texts that every object carries: moments, revisions and uids.
-//!
-//! Whether texts can be names: labels of DNS names, labels joined by dots, and the keys and values of objects' labels.
+//! Nothing says that a clock is right, or goes on: `moment` gives none where it fails, for which the caller needs an answer of his own, and
+//! a `Stopwatch` counts no time where it falls back. `tcp_client::WallClock` counts by one.
 #![tactic(auto)]
 
 pub mod clock_moments;

@@ -1,4 +1,4 @@
-//! Revisions.
+//! Which revision a text names.
 ghost use Rattle.std.specs.Prelude.{◌≡◌};
 ghost use Rattle.std.specs.List.{list_all};
 ghost use Rattle.spec_api.specs.Moments.{is_digit};

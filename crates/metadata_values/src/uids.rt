@@ -1,4 +1,4 @@
-//! Uids.
+//! The uid of an object, by its cluster and the revision at which it was created.
 ghost use Rattle.std.specs.Prelude.{◌≡◌, ◌<◌, ◌^◌, IfOk, string_bytes};
 ghost use Rattle.spec_api.specs.Uids.{uid_text};
 

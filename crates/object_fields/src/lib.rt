@@ -1,8 +1,7 @@
 //! What controllers read of `spec` and `status`: members, numbers, `maxSurge` and `maxUnavailable`; whether two objects say the same.
 //!
-//! What objects say: members of their specs and their status, copies of them, and whether two objects say the same.
-//!
-//! Numbers that texts say, and the amounts by which a Deployment replaces its pods.
+//! What is left out, or is of another type, reads as none, false or the empty text: that an object says it as it should is for `validate`
+//! to see to, before it is stored. A comparison writes the texts of both. `replicaset` and `deployment` plan by these.
 #![tactic(auto)]
 
 pub mod copies;

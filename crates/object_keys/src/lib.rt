@@ -1,8 +1,7 @@
 //! `Key`, the kind, namespace and name of an object; `WorkKey`, which controller is to look at it; and `Fault`, why a request is refused.
 //!
-//! Keys of objects, and why a request is not done.
-//!
-//! Work keys: what a controller is to look at. With what it takes to see sets and maps of keys by what the keys say.
+//! A key may have any texts: whether a namespace and a name can be called so `metadata_values` says. `Fault::NoMemory` is no refusal: what
+//! it ends may be asked again as it is. `reply` has a code and a text for each fault.
 #![tactic(auto)]
 
 pub mod fault;

@@ -1,4 +1,4 @@
-//! Work keys.
+//! Which controller is to look at which object.
 ghost use Rattle.std.specs.Prelude.{◌≡◌, IfOk};
 ghost use Rattle.object_keys.specs.WorkKeys.{work_key_of};
 

@@ -1,4 +1,4 @@
-//! Page tokens.
+//! The tokens by which clients ask for the next page, and their texts.
 ghost use Rattle.std.specs.Prelude.{◌≡◌, IfOk, IfErr, string_bytes};
 
 use crate::reading::{members_of, value_of};

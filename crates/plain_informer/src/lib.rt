@@ -1,9 +1,8 @@
-//! `PlainInformer`, for one thread; which changes a publish shows, which work keys a change owes, and which pods it shows to the expectations of their ReplicaSets.
+//! `PlainInformer`, for one thread; which changes a publish shows, which work keys a change owes, and which pods it shows to the
+//! expectations of their ReplicaSets.
 //!
-//! Informers: published maps that controllers look at, what changes when they are published, and which work keys a change owes.
-//!
-//! What a published change of a pod shows of the pods that ReplicaSets expect: which were created, and which are deleted (kubernetes,
-//! pkg/controller/replicaset, event handlers of pods).
+//! Deltas wait for `publish` without limit. Each change is to be handled once and in order, against what is published of all kinds by then:
+//! a creation that is observed twice counts twice. `watch_example` publishes with a `PlainInformer`; `manager::Handler` handles changes.
 #![tactic(auto)]
 
 pub(crate) mod looking;

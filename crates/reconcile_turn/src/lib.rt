@@ -1,10 +1,7 @@
 //! `Turn`: a worker's turn as a value: looks, live reads, a plan, its commands one after another, and what each is answered.
 //!
-//! Workers' turns: what is seen and read live, the plan that is made of it, and the requests of the plan's commands, one after
-//! another.
-//!
-//! What workers' turns are made of: what was looked at, answers, the requests of commands, what a ReplicaSet expects of pods, and where a
-//! turn is.
+//! A turn does nothing itself: its caller does what `next` names, and tells it what came of that. A command whose answer was lost may have
+//! been carried out: nothing more is issued in that turn. `manager_worker` drives turns at a server, `sim_manager` in the simulated world.
 #![tactic(auto)]
 
 pub mod answers;

@@ -1,8 +1,7 @@
 //! What a reconcile takes and gives: `Looks`, `Read`, `Hand`, `Plan`, `Command`; counts, and the commands that update a status.
 //!
-//! A worker's turn: what it looks at and reads live, and what its plan commands.
-//!
-//! What controllers read and update of the objects that they plan for: counts, and the status.
+//! Looks of different kinds may be of different revisions, and old: what has to be present is read live, and a command names the version
+//! that it replaces, so that the server refuses what was planned of an older one. `collector` plans by looks and live reads.
 #![tactic(auto)]
 
 pub mod commands;

@@ -1,4 +1,4 @@
-//! A reflector.
+//! What is taken in of the lists and watches of one kind, the deltas that it gives, and what is to be asked next.
 
 use crate::deltas::{Delta, Fed};
 use crate::faults::ListFault;
@@ -13,9 +13,9 @@ use spec_client_go::reflectors::{Ask, Phase};
 use std::alloc::{AllocError, Global};
 use std::marker::Model;
 
-/// What is known of the objects of one kind, in all namespaces: the revision up to which lists and watches were taken in,
-/// the bytes of a frame that is not whole yet, and the initial events of a stream that are not closed yet. The objects are with
-/// whoever applies the deltas.
+/// What is known of the objects of one kind, of all or of those that the server is asked for: the revision up to which lists and
+/// watches were taken in, the bytes of a frame that is not whole yet, and the initial events of a stream that are not closed yet. The
+/// objects are with whoever applies the deltas.
 #[derive(Drop)]
 pub struct Reflector {
     kind: Kind,

@@ -1,4 +1,4 @@
-//! What pods are to a ReplicaSet: which it owns, releases and adopts.
+//! What it takes for a pod to be a ReplicaSet's, and for the set to adopt one.
 ghost use Rattle.std.specs.Prelude.{◌≡◌, IfOk};
 ghost use Rattle.serde_json.specs.View.{view};
 ghost use Rattle.spec_api.specs.Checks.{requirements};

@@ -1,4 +1,4 @@
-//! What pods are to a ReplicaSet: which it owns, releases and adopts.
+//! What a pod is to a ReplicaSet: its own, one to be released, one to be adopted, or none of these.
 ghost use Rattle.std.specs.Prelude.{◌≡◌};
 ghost use Rattle.spec_api.specs.Checks.{requirements};
 ghost use Rattle.replicaset.specs.Relations.{is_own_as, relation};

@@ -1,4 +1,4 @@
-//! Replies.
+//! What a client is sent: a status code and a body; of a refusal its Status.
 
 use crate::statuses::{code, text};
 use object_keys::Fault;

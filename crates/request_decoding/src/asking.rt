@@ -25,8 +25,8 @@ use spec_api::methods::Method;
 use spec_api::refusals::Part;
 use std::alloc::{AllocError, Global};
 
-/// Returns what a method, a target and a body ask. The error is the first refusal: of the path, the method, the query, the
-/// length of the body, which each method looks at, what the body says; or out of memory.
+/// Returns what a method, a target and a body ask. The error is the first refusal: of the path, its namespace, the method, the
+/// query, the length of the body, which each method looks at, what the body says; or out of memory.
 pub fn read_request(
     alloc: Global,
     routes: &Routes,

@@ -1,10 +1,8 @@
-//! Method, target and body of a request, as a client sends them; `Scope`, a namespace and a selector, and the targets of its lists, pages, watches and streams.
+//! Method, target and body of a request, as a client sends them; `Scope`, a namespace and a selector, and the targets of its lists, pages,
+//! watches and streams.
 //!
-//! Requests of one object as texts: the method, the target and the body by which a server is asked for them over HTTP, each of which it
-//! reads as the request.
-//!
-//! Collections as texts: which objects of a kind a client lists and watches, and the targets by which a server is asked for them over
-//! HTTP, each of which it reads as that list or watch.
+//! A body that is longer than a server reads has its text too, and the server refuses it. What else a head has, as its host and the length
+//! of the body, `http_client` writes. `api_client` asks by these texts, of which `watch_example` takes a `Scope`.
 #![tactic(auto)]
 
 pub mod asking;

@@ -1,4 +1,4 @@
-//! Scopes.
+//! Which objects of a kind a client lists and watches.
 ghost use Rattle.std.specs.Prelude.{◌≡◌, true, option_map, string_bytes};
 ghost use Rattle.request_encoding.specs.Given.{scope_with};
 ghost use Rattle.request_encoding.specs.Scopes.{is_scope};

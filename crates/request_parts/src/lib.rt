@@ -1,11 +1,8 @@
-//! `Request`, and how the parts of a request are read: a path, a line, a query, a body.
+//! `Request`, and how the parts of a request are read: a path, by the table of routes, a line, a query, a body.
 //!
-//! Requests by their verbs, and their reading up to the bodies: a replay's line, the checks of a target, its query, and a body's JSON.
-//!
-//! Requests of objects by their verbs.
-//!
-//! What the path of a request names: the objects of a kind, one object, or its status.
-//! Paths are found by a router's table, which is proved to read each path as the text between its slashes says.
+//! A part that can be read says nothing of the others: their order, by which a request has one first refusal, `request_decoding` keeps, and
+//! `http_request_reader` where the body comes later. No part of a path is decoded. `Routes` takes memory, and is made once for all
+//! requests.
 #![tactic(auto)]
 
 pub mod body;

@@ -1,4 +1,4 @@
-//! Requests.
+//! Requests of objects, by their verbs.
 use lifecycle::DeleteOptions;
 use object_keys::Key;
 use selector::View;

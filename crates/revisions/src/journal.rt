@@ -1,4 +1,4 @@
-//! A journal.
+//! All writes, the oldest first, and what lists and watches of any revision have of them.
 use crate::changes::changes_between;
 use crate::past::state_at;
 use meta::Event;

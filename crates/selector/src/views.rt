@@ -1,4 +1,4 @@
-//! Views.
+//! What a list or a watch asks for: a kind, one namespace or all, and selectors of labels and of fields.
 ghost use Rattle.std.specs.Prelude.{◌≡◌, IfOk, option_map, string_bytes};
 ghost use Rattle.spec_api.specs.History.{in_view};
 ghost use Rattle.object_keys.specs.Keys.{key_of};

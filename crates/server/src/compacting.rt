@@ -1,4 +1,4 @@
-//! Compactions.
+//! Compactions: the floor of each kind, raised to a revision.
 use crate::servers::Server;
 use object_keys::Fault;
 

@@ -1,4 +1,4 @@
-//! A server.
+//! What a server holds: what is there, and the last changes of each kind.
 use meta::{Member, StoredObject};
 use object_keys::Key;
 use selector::View;

@@ -1,4 +1,4 @@
-//! Clusters.
+//! A server with its journal, and what follows each kind of it: its steps, and what holds over all of them.
 use crate::stopped::Stopped;
 use indexer::Indexed;
 use line_session::{JournalEntry, RecordedSession};

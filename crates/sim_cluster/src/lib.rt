@@ -1,9 +1,7 @@
-//! A simulated cluster in code: a server, and what follows each kind of it, step by step.
+//! `Cluster`: the simulated server and its followers, step by step.
 //!
-//! Each step is one atomic step of one actor, and its contract is the definition's: what is told, and the cluster after it. A step
-//! that runs out of memory changes nothing. Whatever steps are taken, each published map is the server's list at the revision that
-//! is published with it, that revision falls by a restart alone, and a write that names a version replaced just that version: each
-//! is said by the journal of all writes, which a cluster keeps beside its server.
+//! A cluster takes no step of its own: who calls it says what every actor does, and in which order. Nothing of its journal is ever dropped,
+//! so that it grows with each write. `sim_manager` has workers beside one, and `world_tests` takes random steps.
 #![tactic(auto)]
 
 pub mod changes;

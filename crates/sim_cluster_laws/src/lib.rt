@@ -1,8 +1,7 @@
 //! Informers of the simulated cluster show lists of its server, whatever steps are taken; laws of streaming lists (`sendInitialEvents`).
 //!
-//! Laws of the simulated cluster: what informers publish is what the server's lists were, whatever steps are taken.
-//!
-//! Laws of streams of initial events: what a server answers and sends, and what any bytes make of a reflector that asks for one.
+//! They are laws of the definitions, which `sim_cluster` meets, so that its contracts have them. None says that anything is published in
+//! the end: that is up to the steps. Of `list_and_watch` there are laws in its own crate.
 #![tactic(auto)]
 
 pub mod cluster_laws;

@@ -1,13 +1,7 @@
 //! What follows one kind in the simulated cluster: an open watch, a reflector, a published map, and changes that are still to be handled.
 //!
-//! What follows one kind of a server in a simulated cluster: a link to it, a reflector, and what is published, move by move.
-//!
-//! Each move is one atomic step, and its contract is the definition's: what is told, and the follower after it. A move that runs
-//! out of memory changes nothing. The world of all four kinds stands on this.
-//!
-//! Links of a simulated cluster: open watches, on which a server writes frames, and of which a beginning was read.
-//!
-//! Published changes of a simulated cluster that are still to be handled: what deltas make of the objects, and what of that is told.
+//! A follower keeps no server: each move that asks for something is given one, and has to be given the same each time, as `sim_cluster`
+//! does for all four kinds. A move that runs out of memory can be taken again.
 #![tactic(auto)]
 
 mod beginnings;

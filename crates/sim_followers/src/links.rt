@@ -1,4 +1,4 @@
-//! Links.
+//! Open watches, on which a server writes frames, and of which a beginning was read.
 ghost use Rattle.std.specs.Prelude.{◌≡◌, ◌++◌, ◌≤◌, nat_lt, drop, take, length, ◌∷◌, [], IfOk, OnOk, OnErr, map, string_bytes, false};
 ghost use Rattle.spec_api.specs.Frames.{frame_text, error_frame, bookmark_frame};
 ghost use Rattle.spec_api.specs.Streams.{bookmark, event as change, text_of_lines};

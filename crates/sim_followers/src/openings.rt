@@ -1,4 +1,4 @@
-//! The lines with which a watch begins.
+//! What is still to be written of the lines with which a stream of initial events begins.
 ghost use Rattle.std.specs.Prelude.{◌≡◌, ◌++◌, drop, take, length, [], true, IfOk, map, string_bytes};
 ghost use Rattle.spec_api.specs.Frames.{frame_text, bookmark_frame};
 ghost use Rattle.spec_api.specs.Streams.{text_of_lines};

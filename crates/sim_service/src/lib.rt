@@ -1,8 +1,7 @@
 //! `kcp simulate` as a service of lines over a `World`, and the lines that tell what came of a step.
 //!
-//! A simulated control plane as a service of lines: each line that is read is a step, and what comes of it is told.
-//!
-//! The lines by which it is told what comes of the steps of a simulated cluster, written into memory that was there before the step.
+//! A line of no form is answered as a request that cannot be read, and nothing tells what was wrong with it. `docs/SIMULATE.md` lists the
+//! lines, and `conformance/simulate/cases` has worked ones.
 #![tactic(auto)]
 
 pub mod runs;

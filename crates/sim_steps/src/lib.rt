@@ -1,9 +1,7 @@
 //! `Step`, `Config` and `Action`: what can happen in the simulated world, and which of it a line asks for.
 //!
-//! Steps of a simulated cluster and its controllers: what can happen to a server, to what follows it and to the workers beside it, and
-//! the lines that ask for it.
-//!
-//! The lines of a simulation, whatever takes its steps: which step a line asks for, and what is written for all lines.
+//! A line of no form is no error here: it is a request, which the server refuses as one that cannot be read. Whether a step is open where
+//! it is taken, only the world knows that takes it. `docs/SIMULATE.md` lists the lines.
 #![tactic(auto)]
 
 pub mod actions;

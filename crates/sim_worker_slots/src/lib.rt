@@ -1,8 +1,7 @@
 //! The turns of simulated workers, the commands that they issued, and the lines that tell of them.
 //!
-//! Slots of workers: for each its turn, or none; which action comes next in a turn; and commands that were issued, as they are recorded.
-//!
-//! The lines by which it is told what workers do, how many keys a change owed, and what time it is.
+//! A line is to be made before what it tells of is done, since it may want memory that is not there: so a step that fails changes nothing,
+//! as `sim_manager` has it. Workers are numbered from 0.
 #![tactic(auto)]
 
 pub mod answering;

@@ -1,4 +1,4 @@
-//! Worked facts of lines.
+//! Worked facts of the lines that ask workers for actions, and tell what came of these.
 ghost use Rattle.spec_examples.specs.SimActionExamples.{ActionsAreRead, OthersAreNot, OutcomesAreTold};
 
 /// An action, the number of a worker and what it is of ask for a step.

@@ -1,4 +1,4 @@
-//! Worked facts of lines.
+//! Worked facts of the lines that ask for moves, and say how a simulation begins.
 ghost use Rattle.spec_examples.specs.SimLineExamples.{MovesAreRead, OthersAreNot, ConfigurationsAreRead};
 
 /// A verb, a kind by its plural name and how much, in one to nine digits, ask for a move.

@@ -1,4 +1,4 @@
-//! Worked turns.
+//! Worked turns of simulated workers, step by step.
 ghost use Rattle.spec_examples.specs.SimTurnExamples.{SetsAreLookedAtFirst, PodsAreCreated, ExpectedPodsAreAwaited, LostAnswersEndTurns, LostPodsAreSeen, OrphansAreCollected, ChangesOweKeys};
 
 /// No step of a turn is open but the next one.

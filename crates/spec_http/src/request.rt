@@ -1,4 +1,4 @@
-//! Requests, written.
+//! Heads of requests, as a client writes them.
 ghost use Rattle.std.specs.Prelude.{◌≡◌, ◌++◌, ◌∷◌, OnOk, IfOk, codes};
 ghost use Rattle.spec_http.specs.Requests as words;
 ghost use Rattle.chunked.specs.Bodies.{crlf};

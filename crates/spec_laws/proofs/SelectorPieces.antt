@@ -93,7 +93,7 @@ written-value t z v g is =
 pub same-byte : (a b : ℕ) → (a == b) ≡ true → a ≡ b
 same-byte a b h = grind (arith, nat_tests)
 
--- a text is cut at the left_true byte that passes a test
+-- a text is cut at the first byte that passes a test
 pub cut-back : (p : ℕ → Bool) (t : List ℕ) → list_any p t ≡ true → (x : ℕ) × (p x ≡ true) × (t ≡ before_first p t ++ x ∷ after_first p t)
 cut-back p t h = let l = some-place p t h in (get_or t (position_or_len p t) 0, passes_at_first p t 0 l, split_at_first p t 0 l)
 

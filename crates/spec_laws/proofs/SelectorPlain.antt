@@ -138,7 +138,7 @@ subdomain-plain t h = parts-plain t (labels-bytes (slice_split is_dot t) (left_t
 one-more : (n : ℕ) → 1 + n ≡ suc n
 one-more n = omega arith
 
--- a list is cut at its left_true element that passes
+-- a list is cut at its first element that passes
 pub position : (p : ℕ → Bool) (t : List ℕ) (x : ℕ) (u : List ℕ) → list_any p t ≡ false → p x ≡ true → position_or_len p (t ++ x ∷ u) ≡ length t
 position p [] x u h g = rw g refl
 position p (b ∷ t) x u h g = by (p b) (λ k. position p t x u k g) refl

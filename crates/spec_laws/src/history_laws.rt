@@ -1,4 +1,4 @@
-//! Laws of the definitions.
+//! Laws of histories, of verbs, of uids and paths, and of lines one after another.
 ghost use Rattle.spec_laws.specs.HistoryLaws.{MembersAreState, MembersAreInOrder, ListsShowTheState, ListsAreInOrder, PastStands, WritesSetState, WritesCarryTheirRevision, CreatesAreNew, NamedVersionsAreReplaced, WritesKeepIdentity, WritesFit, WritesHaveRoom, RefusalsWriteNothing, AnswersAreRead, UidsHoldRevisions, PathsAreRoutes, BodiesFit, RunsOnlyAdd, WindowsOnlyForget, ReadsAgain};
 
 /// What is there under a key at a revision is what the last write to that key put there.

@@ -1,4 +1,4 @@
-//! A store.
+//! All that is there, with one revision over all kinds: how it is written, found and listed.
 use crate::chunks::{Chunk, first_members, remaining};
 use crate::objects::take;
 use crate::page_snapshots::PageSnapshot;

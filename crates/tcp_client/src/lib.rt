@@ -1,8 +1,8 @@
 //! Connections over TCP, the clock of the machine, a stream and a pause that last no longer than all goes on, for programs.
 //!
-//! What a program follows a server with: connections over TCP, with time limits, and the clock of its machine.
-//!
-//! What waits no longer than all goes on: streams that are read patiently, and a clock with pauses.
+//! Nothing is encrypted. That a connection comes about, and that a limit of time is kept, is up to the system, and no clause says so. A
+//! `Patient` needs a stream whose reads end after `PIECE_MILLISECONDS`. `watch_example` follows a server with a `TcpConnect` and a
+//! `WallClock`.
 #![tactic(auto)]
 
 pub mod connecting;

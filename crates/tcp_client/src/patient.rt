@@ -1,4 +1,4 @@
-//! A patient reader.
+//! A reader that tries again where nothing came in time, until a stop or for so long.
 use std::io;
 use std::io::{ErrorKind, Read};
 use wakeups::Stop;

@@ -1,4 +1,4 @@
-//! Two workers.
+//! Two workers, one of which waits in its turn until the other has planned one.
 ghost use Rattle.std.specs.Prelude.{All};
 ghost use Rattle.desk.specs.Desks.{IsNewAt};
 

@@ -1,4 +1,4 @@
-//! Finalizers.
+//! Whether finalizers may be called so, and whether an object that is being deleted gets no more of them.
 ghost use Rattle.std.specs.Prelude.{◌≡◌, codes, option_map, option_and_then};
 ghost use Rattle.std.specs.Str.{bytes_eq};
 ghost use Rattle.serde_json.specs.Find.{as_array};

@@ -1,4 +1,4 @@
-//! Labels.
+//! Whether labels have keys and values that labels may have.
 ghost use Rattle.std.specs.Prelude.{◌≡◌};
 ghost use Rattle.serde_json.specs.View.{view, members_view};
 ghost use Rattle.spec_api.specs.Checks.{text_is, are_labels};

@@ -1,4 +1,4 @@
-//! Owner references.
+//! Whether owner references are sound.
 ghost use Rattle.std.specs.Prelude.{◌≡◌, codes, nat_le, option_map, option_and_then};
 ghost use Rattle.std.specs.List.{list_all};
 ghost use Rattle.serde_json.specs.Find.{as_array};

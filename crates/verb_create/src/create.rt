@@ -1,4 +1,4 @@
-//! Creates.
+//! What a create is answered and writes: a new object, or its first refusal.
 ghost use Rattle.std.specs.Prelude.{◌≡◌, ◌<◌, ◌≤◌, ◌||◌, ◌+◌, ◌^◌, not, true, IfOk, IfErr, OnOk, is_some, string_bytes, option_map};
 ghost use Rattle.spec_api.specs.Metadata as metadata;
 ghost use Rattle.spec_api.specs.Metadata.{is_other};

@@ -1,8 +1,7 @@
 //! Creates: generated names, and the metadata and first status that the server gives a new object.
 //!
-//! New objects: their names, what the server sets in them, and what a create is answered.
-//!
-//! New objects: their first status, and what the server sets in their metadata.
+//! Nothing is written here: whoever asks applies the write before the next request, or a name may be made twice. A made name may be taken,
+//! where each of the few that are tried is: the client is told so, and may ask again. `conformance/cases` has creates.
 #![tactic(auto)]
 
 pub mod create;

@@ -1,4 +1,4 @@
-//! Deletes.
+//! What a delete is answered and writes: the object removed, or being deleted from then on.
 ghost use Rattle.std.specs.Prelude.{◌≡◌, ◌+◌, ◌≤◌, IfOk, string_bytes};
 ghost use Rattle.serde_json.specs.Written.{compact_text};
 ghost use Rattle.spec_api.specs.Deletion.{decided, gone, kept_code, removal_of};

@@ -1,9 +1,7 @@
-//! What the writing verbs share: bodies, names and versions compared, generations, and an object in the place of another.
+//! What the writing verbs share: bodies, names and versions compared, the first status, generations, and an object in the place of another.
 //!
-//! What the answers of the verbs that write are made of: bodies that are read, names and versions that are compared, generations, and
-//! objects as they are stored.
-//!
-//! Objects in the place of others: whether that changes anything, and what is then answered and written.
+//! Nothing is written here, and no part knows the others: that the first refusal is the right one is for the verb to see to, by the order
+//! in which it calls them. `verb_update` is a worked use.
 #![tactic(auto)]
 
 pub mod bodies;

@@ -1,4 +1,4 @@
-//! Merge patches.
+//! What a merge patch is answered and writes: the stored object as the patch changes it.
 ghost use Rattle.std.specs.Prelude.{◌≡◌, ◌≤◌, List, ℕ};
 ghost use Rattle.serde_json.specs.View.{view};
 ghost use Rattle.spec_api.specs.Revisions.{greatest_revision};

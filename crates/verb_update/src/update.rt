@@ -1,4 +1,4 @@
-//! Updates.
+//! What an update is answered and writes: an object in the place of the stored one.
 ghost use Rattle.std.specs.Prelude.{◌≡◌, ◌≤◌, List, ℕ, IfOk};
 ghost use Rattle.serde_json.specs.View.{view};
 ghost use Rattle.spec_api.specs.Metadata.{metadata_of, with_metadata};

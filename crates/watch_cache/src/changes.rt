@@ -1,4 +1,4 @@
-//! Changes.
+//! What a write did under its key, as a window records it.
 
 use meta::StoredObject;
 use object_keys::Key;

@@ -1,4 +1,4 @@
-//! The board.
+//! The board of work keys that workers share, whose calls are its steps.
 ghost use Rattle.std.specs.Prelude.{◌≡◌, ◌+◌, ◌≤◌, IfOk, OnOk, OnErr, length, map, option_map, string_bytes};
 ghost use Rattle.spec_client_go.specs.Boards.{begun, taken, finished, requeued, observed, expecting_creations, expecting_deletions, is_satisfied, forgotten, lowered, all_lowered, may_tick, ticked, last_moment};
 ghost use Rattle.spec_client_go.specs.WorkQueues.{handed};

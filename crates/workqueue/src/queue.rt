@@ -1,4 +1,4 @@
-//! The queue.
+//! The work queue of controllers: that of keys of any type, at work keys.
 ghost use Rattle.std.specs.Prelude.{◌≡◌, IfOk, OnOk, OnErr, length, map, option_map};
 ghost use Rattle.spec_client_go.specs.WorkQueues.{WorkQueue, idle, added, add, got, handed, done, shut, after_all};
 ghost use Rattle.object_keys.specs.WorkKeys.{work_key_of};

@@ -1,4 +1,4 @@
-//! Traces.
+//! How a simulated control plane was opened, and the steps that were taken since, which only proofs read.
 ghost use Rattle.std.specs.Prelude.{◌≡◌};
 ghost use Rattle.std.specs.Borrow.{ftrue};
 ghost use Rattle.world.specs.Codes.{coded_taken};

@@ -1,4 +1,4 @@
-//! Worlds.
+//! A cluster and the controller manager beside it: their steps, and what holds over all of them.
 use crate::outcomes::Outcome;
 use crate::stored_worlds::StoredWorld;
 use crate::traces::Trace;
