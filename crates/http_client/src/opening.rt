@@ -63,6 +63,8 @@ pub fn open_watch<R: Read + Drop>(
                 Ok(WatchAnswer::Refused(head.code))
             }
         }
-        Framing::Length(_) | Framing::TooLong | Framing::Other => Ok(WatchAnswer::Refused(head.code)),
+        Framing::Length(_) | Framing::TooLong | Framing::Other => Ok(WatchAnswer::Refused(
+            head.code,
+        )),
     }
 }

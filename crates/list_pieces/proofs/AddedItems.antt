@@ -71,8 +71,16 @@ pub piece_fits : (all : Entries) (later : Bool) (n : ℕ) (old mid new before cl
     → length new - length old ≤ length (text_left before later n all closing)
 piece_fits all later n old mid new before closing stop begun s =
     let items = items_left later n all in
-    omega (arith, ap length begun, ap length s.items, length-append old before, length-append new (items_left true stop.left s.left), length-append mid items,
-    length-append before (items ++ closing), length-append items closing)
+    omega (
+      arith,
+      ap length begun,
+      ap length s.items,
+      length-append old before,
+      length-append new (items_left true stop.left s.left),
+      length-append mid items,
+      length-append before (items ++ closing),
+      length-append items closing,
+    )
 
 module _ (all now : Entries) (later : Bool) (n : ℕ) (old mid new before closing : List ℕ) (stop : ItemsStop) (begun : mid ≡ old ++ before) (s : StopsAt all later n mid new stop)
     (past : LeavesAfter (key_of stop.key) all now) where

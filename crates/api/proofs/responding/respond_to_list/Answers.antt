@@ -9,4 +9,4 @@ use Rattle.api.proofs.responding.respond_to_list.Goals as goal
 pub returns-in-Ok : goal.returns-in-Ok
 returns-in-Ok g c =
     subst (λ bytes. (o : Outcome) × g.S.Site.Lists c.args.site.now (view_of c.args.view.now) (list_seen c.args.options.now) o c.page.new.self × IsReplyTo o bytes) (sym c.new.ensures)
-      (text_then (λ o. g.S.Site.Lists c.args.site.now (view_of c.args.view.now) (list_seen c.args.options.now) o c.page.new.self) c.in-Ok.text c.in-Ok.ensures.pages)
+    (text_then (λ o. g.S.Site.Lists c.args.site.now (view_of c.args.view.now) (list_seen c.args.options.now) o c.page.new.self) c.in-Ok.text c.in-Ok.ensures.pages)
