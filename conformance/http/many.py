@@ -67,9 +67,9 @@ def got(port):
     return time.monotonic() - began
 
 
-def created(port, name):
-    """Creates a ConfigMap."""
-    body = json.dumps({"metadata": {"name": name}}).encode()
+def created(port, name, text=""):
+    """Creates a ConfigMap, with a text if there is one."""
+    body = json.dumps({"metadata": {"name": name}} | ({"data": {"text": text}} if text else {})).encode()
     with connected(port) as connection:
         connection.sendall(f"POST {MAPS} HTTP/1.1\r\nHost: localhost\r\nContent-Type: application/json\r\nContent-Length: {len(body)}\r\n\r\n".encode() + body)
         came = read_to_end(connection)
@@ -257,6 +257,36 @@ def handed_on(program, asked):
         return within(statistics.median(got(server.port) + got(server.port) for _ in range(20)), 0.01, "two lists, handed to the other loop, at the median,")
 
 
+def long_lists(program, asked):
+    """One loop, and a list that is written in many pieces: peers that take it at once or little by little read the same whole text, while one that
+    reads nothing is waited for, and others are answered."""
+    names = [f"map-{number:02}" for number in range(40)]
+    with serving(program, "--threads", "1") as server, connected(server.port) as silent:
+        for name in names:
+            created(server.port, name, "x" * 100_000)
+        whole = GET.replace(b"?limit=1", b"")
+        silent.sendall(whole)
+
+        def read(most):
+            with connected(server.port) as connection:
+                connection.sendall(whole)
+                came = bytearray()
+                while some := connection.recv(most):
+                    came += some
+                    time.sleep(0 if most > 65536 else 0.001)
+                return bytes(came)
+
+        with concurrent.futures.ThreadPoolExecutor(6) as pool:
+            reading = [pool.submit(read, most) for most in [1 << 20, 16384, 65536] * 2]
+            slowest = max(got(server.port) for _ in range(20))
+            texts = [it.result() for it in reading]
+        head, _, body = texts[0].partition(b"\r\n\r\n")
+        check(all(text == texts[0] for text in texts), "two peers read another list")
+        check(f"Content-Length: {len(body)}\r\n".encode() in head + b"\r\n", f"a list of {len(body)} bytes has the head {head!r}")
+        check([it["metadata"]["name"] for it in json.loads(body)["items"]] == names, "a list does not name each object once, in order")
+        return within(slowest, 0.1, f"six lists of {len(body):,} bytes, and another's slowest")
+
+
 def idle_watches_end(program, asked):
     """A watch that is told nothing ends by itself."""
     with serving(program) as server, opened_watch(server.port) as watch:
@@ -351,6 +381,7 @@ SCENARIOS = {
     "beside-a-silent-peer": beside_a_silent_peer,
     "beside-an-idle-watch": beside_an_idle_watch,
     "handed-on": handed_on,
+    "long-lists": long_lists,
     "idle-watches-end": idle_watches_end,
     "writes-wake-watches": writes_wake_watches,
     "out-of-descriptors": out_of_descriptors,

@@ -49,7 +49,7 @@ impl<A: Asking> Desk<A> {
         reply
     }
 
-    /// Returns the text of the page of the list of a view that the options ask for, which is still to be made: the server is held while the
+    /// Returns the text of the page of the list of a view that the options ask for, which is still to be made: the server is taken while the
     /// page is found, and given back before anything of its text is looked at. The pass has then seen all that had happened. The errors are a
     /// revision below the floor, one above the present, and out of memory.
     pub fn page<R: Wait>(
