@@ -21,6 +21,7 @@ ROOT = pathlib.Path(__file__).resolve().parent.parent
 PROGRAM = "crates/kcp/out/kcp"
 FOLLOWER = "crates/watch_example/out/watch_example"
 BENCHMARKS = "crates/benchmarks/out/benchmarks"
+CONTROLLER = "crates/controller_example/out/controller_example"
 SECONDS_FOR_NEGATIVE_TESTS = 900
 RANDOM_HEADS = 5000
 RANDOM_BYTES = 100_000
@@ -123,7 +124,7 @@ def asked_first(log):
 def asked_of_program(log):
     """Runs what asks the program that `rt ci` built: request lines, also while growths of its memory are refused, schedules of a simulated
     cluster, a rollout and schedules of controllers, and over sockets cases, random heads, many clients at once, real clients where they are
-    installed, a follower through a proxy and over recorded bytes, and the controllers at work."""
+    installed, a follower through a proxy and over recorded bytes, a controller of one's own, and the controllers at work."""
     words = {
         "conformance": ["run.py"],
         "refused growths": ["refusals/run.py"],
@@ -140,6 +141,7 @@ def asked_of_program(log):
         "following": ["following/run.py", "--follower", FOLLOWER, "--short"],
         "following, cut at each byte": ["following/cuts.py", "--follower", FOLLOWER, "--short"],
         "following, in scopes": ["following/scopes.py", "--follower", FOLLOWER],
+        "a controller of one's own": ["following/controllers.py", "--controller", CONTROLLER],
         "controllers": ["controllers/run.py", "--short"],
         "arguments": ["arguments.py"],
         "README": ["readme.py"],

@@ -24,6 +24,7 @@ from proxy import Proxy
 
 ROOT = pathlib.Path(__file__).resolve().parent.parent.parent
 PATH = "/api/v1/namespaces/default/configmaps"
+MERGE_PATCH = "application/merge-patch+json"
 NAMES = 12
 WINDOW = 128
 PATIENCE = 60
@@ -73,7 +74,8 @@ class Client:
     def ask(self, method, path, body=None):
         """Asks over a connection of its own, and returns the status and what was answered."""
         connection = http.client.HTTPConnection("127.0.0.1", self.port, timeout=PATIENCE)
-        connection.request(method, path, None if body is None else json.dumps(body), {"Content-Type": "application/json"} if body else {})
+        media_type = MERGE_PATCH if method == "PATCH" else "application/json"
+        connection.request(method, path, None if body is None else json.dumps(body), {"Content-Type": media_type} if body else {})
         reply = connection.getresponse()
         value = json.loads(reply.read())
         connection.close()

@@ -287,6 +287,34 @@ def long_lists(program, asked):
         return within(slowest, 0.1, f"six lists of {len(body):,} bytes, and another's slowest")
 
 
+def lists_pause(program, asked):
+    """One loop, and two peers that take long lists as fast as these come: others are answered between the pieces, and each list comes to its end."""
+    over = threading.Event()
+    with serving(program, "--threads", "1") as server:
+        for name, text in [("first", "x"), *((f"map-{number:02}", "x" * 800_000) for number in range(20))]:
+            created(server.port, name, text)
+
+        def read_lists():
+            times = []
+            while not over.is_set():
+                began = time.monotonic()
+                with connected(server.port) as connection:
+                    connection.sendall(GET.replace(b"?limit=1", b""))
+                    while connection.recv(1 << 20):
+                        pass
+                times.append(time.monotonic() - began)
+            return times
+
+        with concurrent.futures.ThreadPoolExecutor(2) as pool:
+            reading = [pool.submit(read_lists) for _ in range(2)]
+            time.sleep(0.1)
+            others = [got(server.port) for _ in range(60)]
+            over.set()
+            lists = [it for reader in reading for it in reader.result()]
+        within(statistics.median(lists), 0.5, "a list of 16 MB, at the median,")
+        return within(statistics.median(others), 0.1, "beside two that take lists of 16 MB, another's short list, at the median,")
+
+
 def idle_watches_end(program, asked):
     """A watch that is told nothing ends by itself."""
     with serving(program) as server, opened_watch(server.port) as watch:
@@ -382,6 +410,7 @@ SCENARIOS = {
     "beside-an-idle-watch": beside_an_idle_watch,
     "handed-on": handed_on,
     "long-lists": long_lists,
+    "lists-pause": lists_pause,
     "idle-watches-end": idle_watches_end,
     "writes-wake-watches": writes_wake_watches,
     "out-of-descriptors": out_of_descriptors,

@@ -8,7 +8,6 @@ ghost use Rattle.request_parts.specs.Requests.{request_of};
 ghost use Rattle.http_watch.specs.Given.{Gives, GivesBegun};
 
 use http_watch::Begun;
-use list_pieces::ListText;
 use metadata_values::moments::Moment;
 use object_keys::Fault;
 use reply::Reply;
@@ -16,7 +15,7 @@ use request_parts::Request;
 use request_parts::list_options::ListOptions;
 use revisions::WatchedEvents;
 use selector::View;
-use server::{Server, opened};
+use server::{ListText, Server, opened};
 use std::alloc::Global;
 
 /// Answers a request at a moment, after which what it writes is written.

@@ -3,7 +3,7 @@ ghost use Rattle.std.specs.Prelude.{◌≡◌, IfOk, string_bytes};
 ghost use Rattle.api.specs.ListReplies.{head_unless};
 
 use http_response::reply_head;
-use list_pieces::ListText;
+use server::ListText;
 use std::alloc::{AllocError, Global};
 use std::cmp::min;
 use std::marker::Model;

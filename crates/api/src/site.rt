@@ -10,13 +10,13 @@ ghost use Rattle.api.specs.Told.{Tells, TellsText};
 ghost use Rattle.request_parts.specs.Requests.{request_of};
 
 use http_watch::WatchSource;
-use list_pieces::ListText;
 use metadata_values::moments::Moment;
 use object_keys::Fault;
 use reply::Reply;
 use request_parts::Request;
 use request_parts::list_options::ListOptions;
 use selector::View;
+use server::ListText;
 use std::alloc::Global;
 
 /// A server as a connection asks it. Others may write between two calls, so that what a call answers is a relation between what

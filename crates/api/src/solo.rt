@@ -2,7 +2,6 @@
 use crate::alone;
 use crate::site::Site;
 use http_watch::{Begun, WatchSource};
-use list_pieces::ListText;
 use metadata_values::moments::Moment;
 use object_keys::Fault;
 use reply::Reply;
@@ -10,7 +9,7 @@ use request_parts::Request;
 use request_parts::list_options::ListOptions;
 use revisions::WatchedEvents;
 use selector::View;
-use server::Server;
+use server::{ListText, Server};
 use std::alloc::Global;
 use std::marker::Model;
 

@@ -1,4 +1,3 @@
-pub mod Hands
 pub mod Standing
 pub mod Same
 pub mod Turns

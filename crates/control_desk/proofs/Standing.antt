@@ -11,8 +11,10 @@ use Rattle.spec_client_go.specs.WorkQueues as queues
 use Rattle.spec_client_go.specs.WorkQueues.{WorkKey, work_key_cmp, WorkQueue, added, got, got_from, handed, front}
 use Rattle.spec_laws.proofs.WorkQueueRuns.{IsSound, after-sound, runs_are_sound, idle-sound, queued_is_free, front_is_queued}
 use Rattle.control_desk.specs.Steps.{Step, take, finish, requeue, observe, expect_creations, expect_deletions, forget, tick, after, after_steps, in_hand, in_hand_from, in_hand_after}
-use Rattle.control_desk.specs.Hands.{board, MayFollow, hand, AreHands, HandsAreApart}
-use Rattle.control_desk.proofs.Hands.{same_name, some_same, not_both, kept_hands, taken_hands, emptied_hands}
+use Rattle.control_desk.specs.Hands.{board, MayFollow, hand, HandsAreApart}
+use Rattle.spec_client_go.proofs.WorkKeyOrder.{work_key_total, work_key_tells}
+use Rattle.spec_client_go.specs.KeysInHands.{AreHands}
+use Rattle.spec_client_go.proofs.KeysInHands.{same_name, some_same, not_both, kept_hands, taken_hands, emptied_hands}
 
 -- ---- what steps do to the work
 
@@ -98,19 +100,19 @@ unchanged : (h : List (ℕ × Step)) (name : ℕ) (e : Step) → hand (h ++ (nam
 unchanged h name e here i = ⊎_elim (λ (a : i ≡ name). ap (hand (h ++ (name, e) ∷ [])) a ∙ here ∙ ap (hand h) (sym a)) (λ (a : i ≢ name). hand_else h name e i a) (same_name i name)
 
 hands_stay : (h : List (ℕ × Step)) (name : ℕ) (e : Step) → IsStanding h → hand (h ++ (name, e) ∷ []) name ≡ hand h name → AreHands (hand (h ++ (name, e) ∷ [])) (board h).work.processing
-hands_stay h name e s here = kept_hands (hand h) (hand (h ++ (name, e) ∷ [])) (board h).work.processing s.hands (unchanged h name e here)
+hands_stay h name e s here = kept_hands work_key_cmp work_key_total work_key_tells (hand h) (hand (h ++ (name, e) ∷ [])) (board h).work.processing s.hands (unchanged h name e here)
 
 hands_after : (h : List (ℕ × Step)) (name : ℕ) (e : Step) → IsStanding h → MayFollow h name e → AreHands (hand (h ++ (name, e) ∷ [])) (after (board h) e).work.processing
 hands_after h name (take k) s may =
     subst (AreHands (hand (h ++ (name, take k) ∷ []))) (sym (got_holds (board h).work k may.1.1))
-    (taken_hands (hand h) (hand (h ++ (name, take k) ∷ [])) (board h).work.processing s.hands name k may.1.0 (hand_here h name (take k)) (hand_else h name (take k))
+    (taken_hands work_key_cmp work_key_total work_key_tells (hand h) (hand (h ++ (name, take k) ∷ [])) (board h).work.processing s.hands name k may.1.0 (hand_here h name (take k)) (hand_else h name (take k))
     (queued_is_free _ _ _ (s.sound.1 k) (front_is_queued _ k may.1.1)))
 hands_after h name (finish k) s may =
     subst (AreHands (hand (h ++ (name, finish k) ∷ []))) (sym (done_holds k (board h).work (s.hands.processed name k may.1)))
-    (emptied_hands (hand h) (hand (h ++ (name, finish k) ∷ [])) (board h).work.processing s.hands name k may.1 (hand_here h name (finish k)) (hand_else h name (finish k)))
+    (emptied_hands work_key_cmp work_key_total work_key_tells (hand h) (hand (h ++ (name, finish k) ∷ [])) (board h).work.processing s.hands name k may.1 (hand_here h name (finish k)) (hand_else h name (finish k)))
 hands_after h name (requeue k ss) s may =
     subst (AreHands (hand (h ++ (name, requeue k ss) ∷ []))) (sym (done_holds k (board h).work (s.hands.processed name k may.1)))
-    (emptied_hands (hand h) (hand (h ++ (name, requeue k ss) ∷ [])) (board h).work.processing s.hands name k may.1 (hand_here h name (requeue k ss)) (hand_else h name (requeue k ss)))
+    (emptied_hands work_key_cmp work_key_total work_key_tells (hand h) (hand (h ++ (name, requeue k ss) ∷ [])) (board h).work.processing s.hands name k may.1 (hand_here h name (requeue k ss)) (hand_else h name (requeue k ss)))
 hands_after h name (observe ss ks) s may =
     subst (AreHands (hand (h ++ (name, observe ss ks) ∷ []))) (sym (all_added_holds ks (board h).work)) (hands_stay h name (observe ss ks) s (hand_here h name (observe ss ks)))
 hands_after h name (expect_creations o n) s may = hands_stay h name (expect_creations o n) s (hand_here h name (expect_creations o n))

@@ -9,12 +9,12 @@ use Rattle.baton.specs.declared.views.Known.{Known}
 use Rattle.baton.specs.declared.views.PassView as views
 use Rattle.spec_client_go.specs.Boards.{Board, Observation, begun, taken}
 use Rattle.spec_client_go.specs.WorkQueues as queues
-use Rattle.spec_client_go.specs.WorkQueues.{WorkKey, WorkQueue, got, got_from, handed, front}
-use Rattle.spec_client_go.proofs.WorkKeyOrder.{work_key_total}
+use Rattle.spec_client_go.specs.WorkQueues.{WorkKey, work_key_cmp, WorkQueue, got, got_from, handed, front}
+use Rattle.spec_client_go.proofs.WorkKeyOrder.{work_key_total, work_key_tells}
 use Rattle.control_desk.specs.Calls.{IsCall, HasTaken, after_give}
 use Rattle.control_desk.specs.Hands.{board, IsBegun, MayFollow}
 use Rattle.control_desk.specs.Steps.{Step, take, finish, requeue, after, after_steps, is_same, changing, taking, taking_of, in_hand, in_hand_after, IsAllowed}
-use Rattle.control_desk.proofs.Hands.{same_itself}
+use Rattle.spec_client_go.proofs.KeysInHands.{same_itself}
 use Rattle.control_desk.proofs.Same.{same_is, differs, apart}
 use Rattle.control_desk.proofs.Standing.{hands_apart, done_holds, in_hand_snoc}
 
@@ -112,7 +112,7 @@ in_process : (h : List (ℕ × Step)) (name : ℕ) (made : List Step) (k : WorkK
 in_process h name made k can is mine = (hands_apart h can).processed name k (ap in_hand is ∙ mine)
 
 removed : (k : WorkKey) (w : WorkQueue) → set.contains w.processing k ≡ true → set.contains (queues.done k w).processing k ≡ false
-removed k w e = ap (λ s. set.contains s k) (done_holds k w e) ∙ contains-remove work_key_total w.processing k k ∙ ap (λ b. not b && set.contains w.processing k) (same_itself k)
+removed k w e = ap (λ s. set.contains s k) (done_holds k w e) ∙ contains-remove work_key_total w.processing k k ∙ ap (λ b. not b && set.contains w.processing k) (same_itself work_key_cmp work_key_total work_key_tells k)
 
 emptied : (b : Board) (made : List Step) (name : ℕ) (change : Option Step) (e : Step) (k : WorkKey) → (after b e).work ≡ queues.done k b.work → ((mine : Option WorkKey) → in_hand_after mine e ≡ None) → set.contains b.work.processing k ≡ true → change ≡ changing e b
     → in_hand (made ++ entries (marked name change)) ≡ None

@@ -1,9 +1,9 @@
 -- How the steps of a board that workers share may follow one another, and what follows of hands.
-use Rattle.std.specs.Prelude.{◌≡◌, ◌≢◌, ℕ, List, Option, Some, None, true}
-use Rattle.std.specs.FinSet as set
+use Rattle.std.specs.Prelude.{◌≡◌, ◌≢◌, ℕ, List, Option, Some, None}
 use Rattle.baton.specs.Marks.{entries, made_by, CanHappen}
 use Rattle.spec_client_go.specs.Boards.{Board, begun}
-use Rattle.spec_client_go.specs.WorkQueues.{WorkKey, WorkKeys}
+use Rattle.spec_client_go.specs.KeysInHands.{AreHands}
+use Rattle.spec_client_go.specs.WorkQueues.{WorkKey}
 use Rattle.control_desk.specs.Steps.{Step, after, after_steps, changing, in_hand, IsAllowed}
 
 abbrev pub IsBegun : Board → Type 0
@@ -20,12 +20,6 @@ hand h name = in_hand (made_by name h)
 -- a step may follow that changes the board, and that its pass is allowed
 abbrev pub MayFollow : List (ℕ × Step) → ℕ → Step → Type 0
 MayFollow h name e = (after (board h) e ≢ board h) × IsAllowed (hand h name) (board h) e
-
--- the keys in process are just those in hands, and no key is in the hands of two
-pub record AreHands (hands : ℕ → Option WorkKey) (processing : WorkKeys) : Type 0 where
-  pub taken : (k : WorkKey) → set.contains processing k ≡ true → (name : ℕ) × (hands name ≡ Some k)
-  pub processed : (name : ℕ) (k : WorkKey) → hands name ≡ Some k → set.contains processing k ≡ true
-  pub apart : (one other : ℕ) (k : WorkKey) → hands one ≡ Some k → hands other ≡ Some k → one ≡ other
 
 -- over every list of marked steps of which each may follow those before it
 abbrev pub HandsAreApart : Type 0

@@ -17,13 +17,12 @@ use crate::desks::{Desk, StorePass};
 use crate::steps;
 use api::alone;
 use http_watch::Begun;
-use list_pieces::ListText;
 use object_keys::Fault;
 use reply::Reply;
 use request_parts::list_options::ListOptions;
 use revisions::WatchedEvents;
 use selector::View;
-use server::opened;
+use server::{ListText, opened};
 use std::alloc::Global;
 use std::sync::Wait;
 

@@ -12,7 +12,6 @@ use crate::listeners::Listener;
 use crate::seats::Seat;
 use api::Site;
 use http_watch::{Begun, WatchSource};
-use list_pieces::ListText;
 use metadata_values::moments::Moment;
 use object_keys::Fault;
 use reply::Reply;
@@ -20,6 +19,7 @@ use request_parts::Request;
 use request_parts::list_options::ListOptions;
 use revisions::WatchedEvents;
 use selector::View;
+use server::ListText;
 use std::alloc::Global;
 use std::sync::Wait;
 

@@ -12,14 +12,13 @@ ghost use Rattle.desk.specs.Told.{Answers};
 
 use crate::served::ServedReply;
 use baton::Held;
-use list_pieces::ListPage;
 use metadata_values::moments::Moment;
 use object_keys::Fault;
 use reply::Reply;
 use request_parts::Request;
 use request_parts::list_options::ListOptions;
 use selector::View;
-use server::Server;
+use server::{ListPage, Server};
 use std::alloc::Global;
 
 /// Answers a request at a moment and applies what it writes.

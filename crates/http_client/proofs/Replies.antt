@@ -6,13 +6,14 @@ use Rattle.httparse.specs.Grammar.{ResponseHead, print_response, ReadsResponse, 
 use Rattle.httparse.proofs.GrammarLemmas.{response_unique, ReadsResponse-append}
 use Rattle.chunked.specs.Bodies.{IsBodyWithin}
 use Rattle.chunked.specs.Reading.{longest_line}
-use Rattle.spec_http.specs.Answers.{Replied, Says, HasLength, IsChunked, fields_of, transfer_codings, OpensWatch}
+use Rattle.spec_http.specs.Answers.{Replied, Says, HasLength, IsChunked, fields_of, transfer_codings}
 use Rattle.http_client.specs.Heads.{BeginsWithNoHead, SaysNothing, IsFramed, IsHeadOf}
 use Rattle.http_client.specs.Reading.{IfKnown, IsShorterThan, ReadsHead, ReadsLongerHead}
 use Rattle.http_client.specs.Bodies.{ReadsBody, HasNoBody, HasLongBody, IsStatedWithin}
 use Rattle.http_client.specs.Replies.{ReadsReply, SaysInChunks, SaysWhole, SaysNoReply, IsNoBody, IsLonger}
-use Rattle.http_client.specs.Watches.{HasCode, IsOpen, OpensNothing}
+use Rattle.http_client.specs.Watches.{IsOpening}
 use Rattle.http_client.proofs.WholeBodies.{body_there}
+use Rattle.http_client.specs.declared.opening.WatchAnswer.TheVariants as opening
 use Rattle.http_client.specs.declared.framing.Framing.{Framing}
 use Rattle.http_client.specs.declared.framing.Framing.TheVariants as framing
 use Rattle.http_client.specs.declared.reply_head.ReplyHead.{ReplyHead}
@@ -56,14 +57,6 @@ pub unstated_says : (before mid : Option (List ℕ)) (h : ResponseHead) → Read
 unstated_says None mid h reads none = tt
 unstated_says (Some xs) None h (well, limits, read) none = absurd read
 unstated_says (Some xs) (Some ys) h (well, limits, read) none = λ r says. unstated xs ys h r (well, read) none says
-
--- ---- watches
-
--- a head without chunks, or of another code, opens no watch
-not_chunked : (xs ys rest : List ℕ) (h : ResponseHead) → ReadsResponse xs h ys → (IsChunked h → status_code h ≡ 200 → ⊥) → OpensWatch xs rest → ⊥
-not_chunked xs ys rest h reads none (k, others, limits, chunked, code) =
-    let same = response_unique xs h k ys rest reads others in
-    none (subst (λ g. IsChunked g) (sym same.0) chunked) (ap status_code same.0 ∙ code)
 
 -- ---- by what counts of a head
 
@@ -119,23 +112,11 @@ chunked_framing most h framing.TooLong is chunked = absurd (none_some chunked.0 
 chunked_framing most h framing.Chunked is chunked = refl
 chunked_framing most h framing.Other is chunked = absurd (is.1 chunked.0 chunked.1 chunked.2)
 
--- a watch is opened
-pub head_opens : (most : ℕ) (before mid : Option (List ℕ)) (head : ReplyHead) → HeadRead most before mid head → head.framing ≡ framing.Chunked → head.code ≡ 200 → IsOpen before mid
-head_opens most None mid head read is code = tt
-head_opens most (Some xs) None head (h, reads, of) is code = absurd reads.2
-head_opens most (Some xs) (Some ys) head (h, (well, limits, read), of) is code = (h, (well, read), limits, framed_as most h head framing.Chunked of is, of.0 ∙ code)
-
--- or not
-pub head_opens_nothing : (most : ℕ) (before mid : Option (List ℕ)) (head : ReplyHead) → HeadRead most before mid head → (head.framing ≡ framing.Chunked → head.code ≡ 200 → ⊥) → IfKnown before OpensNothing
-head_opens_nothing most None mid head read none = tt
-head_opens_nothing most (Some xs) None head (h, reads, of) none = absurd reads.2
-head_opens_nothing most (Some xs) (Some ys) head (h, (well, limits, read), of) none = λ rest.
-    not_chunked xs ys rest h (well, read) (λ chunked code. none (chunked_framing most h head.framing of.1 chunked) (sym of.0 ∙ code))
-
-pub head_has_code : (most : ℕ) (before mid : Option (List ℕ)) (head : ReplyHead) (code : ℕ) → HeadRead most before mid head → head.code ≡ code → IfKnown before (HasCode code)
-head_has_code most None mid head code read is = tt
-head_has_code most (Some xs) None head code (h, reads, of) is = absurd reads.2
-head_has_code most (Some xs) (Some ys) head code (h, (well, limits, read), of) is = (h, ys, (well, read), limits, of.0 ∙ is)
+-- a head of another code than an opened watch's, or without chunks, refuses it
+pub head_refuses : (most : ℕ) (before mid : Option (List ℕ)) (head : ReplyHead) → HeadRead most before mid head → (head.code ≡ 410 → ⊥) → (head.framing ≡ framing.Chunked → head.code ≡ 200 → ⊥)
+    → IsOpening before mid (opening.Refused head.code)
+head_refuses most before mid head (h, reads, of) known none =
+    (h, reads, (of.0, (λ is. known is), λ both. none (chunked_framing most h head.framing of.1 both.0) both.1))
 
 -- ---- replies, however their bodies end
 

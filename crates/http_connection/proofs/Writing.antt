@@ -1,5 +1,5 @@
 -- Bytes that are written, one part after the other.
-use Rattle.std.proofs.Common.{◌≡◌, ◌+◌, ℕ, List, [], ◌++◌, length, take, drop, Option, refl, sym, ap, subst, ◌∙◌, arith, append_assoc, append-nil, length-append}
+use Rattle.std.proofs.Common.{◌≡◌, ◌+◌, ℕ, List, [], ◌++◌, length, take, drop, Option, refl, sym, ap, subst, ◌∙◌, arith, append_assoc, append-nil, length-append, false}
 use Rattle.std.proofs.KnownBytes.{Appends-nil, Appends-trans}
 use Rattle.std.proofs.Math.Seq.{take-add}
 use Rattle.std.proofs.lemmas.List.{take-append-drop, append_cancel_left}
@@ -73,7 +73,7 @@ written_none a w = record { put = []; appends = Appends-nil a; rest = refl; same
 -- ---- what is made
 
 -- bytes that are written as far as this
-pub written_to : (a b : Option (List ℕ)) (w u : Watching) (n : ℕ) → IsSent a b w.out.items w.taken n → u ≡ record { view = w.view; bookmarks = w.bookmarks; at = w.at; opened = w.opened; out = w.out; taken = n; rest = w.rest; pieces = w.pieces; later = w.later }
+pub written_to : (a b : Option (List ℕ)) (w u : Watching) (n : ℕ) → IsSent a b w.out.items w.taken n → u ≡ record { view = w.view; bookmarks = w.bookmarks; at = w.at; opened = w.opened; out = w.out; taken = n; rest = w.rest; pieces = w.pieces; later = w.later; is_paused = false }
     → IsWritten a b w u
 written_to a b w u n (put, appends, is) same = subst (IsWritten a b w) (sym same) (record {
   put = put;

@@ -54,6 +54,16 @@ is_behind (phase.Listing l) = false
 is_behind (phase.Watching w) = has_just_shown w.at
 is_behind (phase.Closing s) = false
 
+-- its list or its watch stopped so that others go on meanwhile
+abbrev pub is_paused : ConnectionPhase → Bool
+is_paused (phase.Reading a) = false
+is_paused (phase.Asked a) = false
+is_paused phase.Answering = false
+is_paused (phase.Replying r) = false
+is_paused (phase.Listing l) = l.is_paused
+is_paused (phase.Watching w) = w.is_paused
+is_paused (phase.Closing s) = false
+
 -- it is to be closed
 abbrev pub is_over : ConnectionPhase → Bool
 is_over (phase.Reading a) = false

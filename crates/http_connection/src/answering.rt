@@ -34,6 +34,7 @@ fn listed(alloc: Global, reply: ListReply) -> ConnectionPhase
         taken: 0,
         rest: reply,
         pieces: 0,
+        is_paused: false,
     })
 }
 
@@ -51,6 +52,7 @@ fn opened(alloc: Global, watch: OpenWatch) -> ConnectionPhase
         rest: watch.opened.rest,
         pieces: 0,
         later: Vec::new(alloc),
+        is_paused: false,
     })
 }
 

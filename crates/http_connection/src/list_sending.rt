@@ -4,7 +4,7 @@ ghost use Rattle.http_connection.specs.Lists.{IsRefilled, ListSends, ListWrites,
 
 use crate::listing::Listing;
 use crate::phase::ConnectionPhase;
-use crate::sending::{Sent, write_on};
+use crate::sending::{MOST_PIECES, Sent, write_on};
 use api::Served;
 use std::alloc::Global;
 use std::io::Write;
@@ -14,7 +14,7 @@ use std::io::Write;
 pub enum ListSent {
     /// To its end.
     Whole,
-    /// As far as goes now: this is left.
+    /// As far as goes now, or so much that others are to go on: this is left.
     Left(Listing),
     /// The writer failed.
     Failed,
@@ -25,7 +25,11 @@ fn list_sent<W: Write>(listing: Listing, writer: &mut W) -> Option<Listing>
     ensures { ListSends (W.contents writer.old) (W.contents writer.new) listing result }
 {
     match write_on(&listing.out, listing.taken, writer) {
-        Sent::To(taken) => Some(Listing { taken, ..listing }),
+        Sent::To(taken) => Some(Listing {
+            taken,
+            is_paused: false,
+            ..listing
+        }),
         Sent::Failed => None,
     }
 }
@@ -47,13 +51,13 @@ fn refilled(alloc: Global, listing: Listing) -> Result<Listing, Listing>
     }
 }
 
-/// Writes a list on, as far as that goes now: each piece is made once all before it was written. One for whose next piece there is no
-/// memory is left.
+/// Writes a list on, as far as that goes now, or so much that others are to go on: each piece is made once all before it was written. One for
+/// whose next piece there is no memory is left.
 fn list_written<W: Write>(alloc: Global, listing: Listing, writer: &mut W) -> ListSent
     ensures { ListWrites (W.contents writer.old) (W.contents writer.new) listing result }
 {
     let mut listing = listing;
-    for _ in 0..u64::MAX {
+    for _ in 0..MOST_PIECES {
         match list_sent(listing, writer) {
             Some(now) => listing = now,
             None => return ListSent::Failed,
@@ -69,7 +73,10 @@ fn list_written<W: Write>(alloc: Global, listing: Listing, writer: &mut W) -> Li
             Err(same) => return ListSent::Left(same),
         }
     }
-    ListSent::Left(listing)
+    ListSent::Left(Listing {
+        is_paused: true,
+        ..listing
+    })
 }
 
 /// Writes a list on, and returns where its connection then stands. What is left of it is written by a later call. The connection is closed

@@ -14,6 +14,8 @@ pub struct Listing {
     pub rest: ListReply,
     /// How many pieces of it were made: each only once all before it was written.
     pub pieces: usize,
+    /// Whether it stopped so that others go on meanwhile: its peer may take more at once.
+    pub is_paused: bool,
 }
 
 impl Listing {

@@ -45,6 +45,7 @@ fn with_text(watching: Watching, text: Vec<u8>, at: Option<WatchStanding>) -> Co
             rest: watching.rest,
             pieces: watching.pieces,
             later,
+            is_paused: watching.is_paused,
         }),
         None => ConnectionPhase::Closing(Served::Asked),
     }

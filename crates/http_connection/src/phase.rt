@@ -1,6 +1,6 @@
 //! Where a connection stands.
 ghost use Rattle.std.specs.Prelude.{◌≡◌};
-ghost use Rattle.http_connection.specs.Questions.{is_behind, is_over, is_reading, is_unwritten, watched_kind};
+ghost use Rattle.http_connection.specs.Questions.{is_behind, is_over, is_paused, is_reading, is_unwritten, watched_kind};
 
 use crate::arriving::Arriving;
 use crate::listing::Listing;
@@ -71,6 +71,17 @@ impl ConnectionPhase {
                 Some(at) => at.idle == 0,
                 None => false,
             },
+            _ => false,
+        }
+    }
+
+    /// Returns whether writing stopped so that others go on meanwhile: the peer may take more at once.
+    pub fn is_paused(&self) -> bool
+        ensures { result ≡ is_paused self.now }
+    {
+        match self {
+            ConnectionPhase::Listing(listing) => listing.is_paused,
+            ConnectionPhase::Watching(watching) => watching.is_paused,
             _ => false,
         }
     }

@@ -11,6 +11,9 @@ use http_response::{out_of_memory, response};
 use std::alloc::Global;
 use std::io::{ErrorKind, Write};
 
+/// How many pieces of what is long are made and written before others go on: few, as they wait meanwhile.
+pub(crate) const MOST_PIECES: u64 = 2;
+
 /// How far bytes were written.
 #[derive(Debug, Clone, Copy, PartialEq, Eq)]
 pub enum Sent {
@@ -102,7 +105,11 @@ fn watch_sent<W: Write>(watching: Watching, writer: &mut W) -> Option<Watching>
     ensures { WatchSends (W.contents writer.old) (W.contents writer.new) watching result }
 {
     match write_on(&watching.out, watching.taken, writer) {
-        Sent::To(taken) => Some(Watching { taken, ..watching }),
+        Sent::To(taken) => Some(Watching {
+            taken,
+            is_paused: false,
+            ..watching
+        }),
         Sent::Failed => None,
     }
 }
@@ -154,7 +161,8 @@ fn rested(alloc: Global, watching: Watching) -> ConnectionPhase
     })
 }
 
-/// Writes a watch on, and returns where its connection then stands. What it opened with is made as it is written.
+/// Writes a watch on, as far as that goes now, or so much that others are to go on, and returns where its connection then stands. What it opened
+/// with is made as it is written.
 pub(crate) fn watch_on<W: Write>(
     alloc: Global,
     watching: Watching,
@@ -163,7 +171,7 @@ pub(crate) fn watch_on<W: Write>(
     ensures { WatchesOn (W.contents writer.old) (W.contents writer.new) watching result }
 {
     let mut watching = watching;
-    for _ in 0..u64::MAX {
+    for _ in 0..MOST_PIECES {
         match watch_sent(watching, writer) {
             Some(now) => watching = now,
             None => return ConnectionPhase::Closing(Served::Asked),
@@ -176,5 +184,8 @@ pub(crate) fn watch_on<W: Write>(
             None => return ConnectionPhase::Closing(Served::Asked),
         }
     }
-    ConnectionPhase::Closing(Served::Asked)
+    ConnectionPhase::Watching(Watching {
+        is_paused: true,
+        ..watching
+    })
 }

@@ -29,6 +29,8 @@ pub struct Watching {
     pub pieces: usize,
     /// What is to be written after all of that: the frames of its looks, and its end.
     pub later: Vec<u8>,
+    /// Whether it stopped so that others go on meanwhile: its peer may take more at once.
+    pub is_paused: bool,
 }
 
 impl Watching {

@@ -125,14 +125,15 @@ impl Accepting {
 
     /// Returns the number of a loop that has nothing to do; where there is none, of the own one and of another by turns.
     pub(crate) fn take_free(&mut self, own: usize, loops: &Loops) -> usize {
-        if let Some(number) = loops.free() {
+        let count = loops.at_work().long;
+        if let Some(number) = loops.free(count) {
             return number;
         }
         self.is_own_turn = !self.is_own_turn;
         if self.is_own_turn {
             own
         } else {
-            self.take_turn(own, loops.at_work())
+            self.take_turn(own, count)
         }
     }
 
@@ -143,7 +144,7 @@ impl Accepting {
         if given.is_list() {
             self.take_free(own, loops)
         } else {
-            self.take_turn(own, loops.at_work())
+            self.take_turn(own, loops.at_work().long)
         }
     }
 
@@ -157,9 +158,10 @@ impl Accepting {
     /// the others by turns.
     pub(crate) fn take_place(&mut self, own: usize, loops: &Loops) -> usize {
         if self.share == 0 {
-            self.place = match loops.free() {
+            let count = loops.at_work().unread;
+            self.place = match loops.free(count) {
                 Some(number) => number,
-                None => self.take_turn(own, loops.at_work()),
+                None => self.take_turn(own, count),
             };
             self.share = SHARE;
         }

@@ -47,6 +47,8 @@ pub(crate) struct Held {
     pub(crate) place: usize,
     /// Whether it is to be looked at as soon as its peer takes what it is ahead.
     pub(crate) is_due: bool,
+    /// Whether it is among those that write on before the loop waits.
+    pub(crate) is_writing_on: bool,
     /// How many bytes more are read away once it is over.
     left: Option<usize>,
 }
@@ -87,6 +89,7 @@ impl Held {
             watched: None,
             place: 0,
             is_due: false,
+            is_writing_on: false,
             left: None,
         }
     }
@@ -231,6 +234,11 @@ impl Held {
             ConnectionPhase::Listing(listing) => self.phase = ConnectionPhase::Listing(listing),
             _ => self.leave(),
         }
+    }
+
+    /// Returns whether writing stopped so that others go on meanwhile: the peer may take more at once.
+    pub(crate) fn is_paused(&self) -> bool {
+        self.phase.is_paused()
     }
 
     /// Writes on what is left unwritten, such as a reply of which there was no memory.

@@ -8,6 +8,7 @@
 pub mod accepting;
 pub mod asker;
 pub mod asking;
+mod at_work;
 mod beginnings;
 mod begun;
 pub mod counting;

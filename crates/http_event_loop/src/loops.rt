@@ -1,6 +1,7 @@
 //! What some loops share.
 ghost use Rattle.std.specs.Prelude.{◌≡◌, IfOk, length};
 
+use crate::at_work::AtWork;
 use crate::opened::Open;
 use crate::place::LoopPlace;
 use crate::wakes::Wakes;
@@ -10,7 +11,7 @@ use std::alloc::Global;
 use std::io;
 use std::net::Net;
 use std::sync::atomic::{AtomicU64, Ordering};
-use std::thread::{Threads, available_parallelism};
+use std::thread::Threads;
 
 /// What some loops share, each on a thread of its own: how each is reached, how many connections are open over all, and whether all are to
 /// stop.
@@ -19,19 +20,9 @@ use std::thread::{Threads, available_parallelism};
 #[derive(Drop)]
 pub struct Loops {
     wakes: Vec<Wakes>,
-    /// How many of them, from the first on, are given connections by the loop that accepts.
-    at_work: usize,
+    at_work: AtWork,
     open: Open,
     is_stopped: AtomicU64,
-}
-
-/// Returns how many of so many loops are given connections by one that accepts: no more than there are processors besides its own, since more
-/// would only take these from one another.
-fn at_work<R: Threads>(rt: &R, count: usize) -> usize {
-    match available_parallelism(rt) {
-        Ok(processors) => count.min(processors.get().saturating_sub(1).max(1)),
-        Err(_) => count,
-    }
 }
 
 impl Loops {
@@ -52,7 +43,7 @@ impl Loops {
         }
         let loops = Loops {
             wakes,
-            at_work: at_work(rt, count),
+            at_work: AtWork::of(rt, count),
             open: Open::new(),
             is_stopped: AtomicU64::new(0),
         };
@@ -97,17 +88,15 @@ impl Loops {
         self.wakes.get(number)
     }
 
-    /// Returns how many loops are given connections by the one that accepts, from the first on.
-    pub(crate) fn at_work(&self) -> usize {
+    /// Returns how many loops, from the first on, are given connections by the one that accepts.
+    pub(crate) fn at_work(&self) -> AtWork {
         self.at_work
     }
 
-    /// Returns the number of a loop at work that has nothing to do: the first one, so that no more are woken than are needed.
-    pub(crate) fn free(&self) -> Option<usize> {
-        self.wakes
-            .iter()
-            .take(self.at_work)
-            .position(Wakes::is_free)
+    /// Returns the number of a loop, of so many from the first on, that has nothing to do: the first one, so that no more are woken than are
+    /// needed.
+    pub(crate) fn free(&self, count: usize) -> Option<usize> {
+        self.wakes.iter().take(count).position(Wakes::is_free)
     }
 
     /// Returns whether one more connection may be open.

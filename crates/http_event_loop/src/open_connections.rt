@@ -31,6 +31,8 @@ pub(crate) struct Connections<'a> {
     wakes: &'a Wakes,
     pub(crate) held: Slab<Held>,
     rota: Rota,
+    /// Those that stopped writing so that others go on meanwhile.
+    paused: Vec<usize>,
     /// Whether some watch is to be looked at once more before the loop waits.
     is_behind: bool,
 }
@@ -50,6 +52,7 @@ impl<'a> Connections<'a> {
             wakes,
             held: Slab::new(alloc),
             rota: Rota::new(alloc),
+            paused: Vec::new(alloc),
             is_behind: false,
         }
     }
@@ -64,9 +67,26 @@ impl<'a> Connections<'a> {
         !self.rota.is_empty()
     }
 
-    /// Returns whether some watch is to be looked at once more before the loop waits.
+    /// Returns whether some watch is to be looked at once more before the loop waits, or something is to be written on.
     pub(crate) fn is_behind(&self) -> bool {
-        self.is_behind
+        self.is_behind || self.has_paused()
+    }
+
+    /// Returns whether some of them stopped writing so that others go on meanwhile.
+    pub(crate) fn has_paused(&self) -> bool {
+        !self.paused.is_empty()
+    }
+
+    /// Lets those write on that stopped so that others go on meanwhile.
+    pub(crate) fn write_paused<S: Site>(&mut self, now: Instant) {
+        let paused = std::mem::replace(&mut self.paused, Vec::new(self.alloc));
+        for key in &paused {
+            if let Some(held) = self.held.get_mut(*key) {
+                held.is_writing_on = false;
+                held.write_on::<S>(self.alloc, self.routes, now);
+            }
+            self.settle(*key, now);
+        }
     }
 
     /// Lets a connection go on of which the system reports something.
@@ -87,7 +107,8 @@ impl<'a> Connections<'a> {
         self.settle(key, tick.now);
     }
 
-    /// Takes note of where a connection stands: a watch that has opened takes turns, and one that is over no longer; who is over is let go.
+    /// Takes note of where a connection stands: a watch that has opened takes turns, and one that is over no longer; who is over is let go. What
+    /// stopped so that others go on meanwhile is written on before the loop waits; where there is no memory to note it, when deadlines are looked at.
     pub(crate) fn settle(&mut self, key: usize, now: Instant) {
         let Some(held) = self.held.get_mut(key) else {
             return;
@@ -98,15 +119,26 @@ impl<'a> Connections<'a> {
         let is = if goes_on { held.watched_kind() } else { None };
         held.watched = is;
         self.is_behind = self.is_behind || (held.is_due && held.can_look());
+        if goes_on && held.is_paused() && !held.is_writing_on {
+            held.is_writing_on = self.paused.push(key).is_ok();
+        }
         match (was, is) {
             (None, Some(kind)) => self.watch(key, kind),
             (Some(kind), None) => self.end_watch(place, kind),
             _ => {}
         }
         if !goes_on {
-            let _ = self.held.try_remove(key);
-            self.loops.leave();
+            self.let_go(key);
         }
+    }
+
+    /// Lets go of a connection that is over.
+    fn let_go(&mut self, key: usize) {
+        let _ = self.held.try_remove(key);
+        if let Some(place) = self.paused.iter().position(|paused| *paused == key) {
+            let _ = self.paused.swap_remove(place);
+        }
+        self.loops.leave();
     }
 
     /// Gives a watch its turns; where there is no memory for them it is left. It is looked at once more, as others may have written before it
@@ -143,16 +175,26 @@ impl<'a> Connections<'a> {
         }
     }
 
-    /// Looks at a watch, if its peer has taken enough of what was to be written.
+    /// Takes a look of a watch, if its peer has taken enough of what was to be written.
+    #[tactic(auto, using(crate::proofs::Chains::asks_on, crate::proofs::Chains::asks_nothing))]
+    fn look_at<S: Site, L: Ledger>(&mut self, key: usize, asker: &mut Asker<'_, S, L>, now: Instant)
+        ensures { HasAsked S.Calls S.Lists S.Begins S.Watches asker.old asker.new }
+    {
+        let Some(held) = self.held.get_mut(key) else {
+            return;
+        };
+        if !held.can_look() {
+            return;
+        }
+        held.look(self.alloc, self.routes, asker, now);
+    }
+
+    /// Looks at a watch, if its peer has taken enough of what was to be written, and takes note of where it stands then.
     #[tactic(auto, using(crate::proofs::Chains::asks_on, crate::proofs::Chains::asks_nothing))]
     fn look<S: Site, L: Ledger>(&mut self, key: usize, asker: &mut Asker<'_, S, L>, now: Instant)
         ensures { HasAsked S.Calls S.Lists S.Begins S.Watches asker.old asker.new }
     {
-        if let Some(held) = self.held.get_mut(key) {
-            if held.can_look() {
-                held.look(self.alloc, self.routes, asker, now);
-            }
-        }
+        self.look_at(key, asker, now);
         self.settle(key, now);
     }
 
@@ -239,15 +281,24 @@ impl<'a> Connections<'a> {
         }
     }
 
+    /// Lets a connection go on as far as that goes without its peer.
+    #[tactic(auto, using(crate::proofs::Chains::asks_on, crate::proofs::Chains::asks_nothing))]
+    fn go_on_at<S: Site, L: Ledger>(&mut self, key: usize, asker: &mut Asker<'_, S, L>, tick: &Tick)
+        ensures { HasAsked S.Calls S.Lists S.Begins S.Watches asker.old asker.new }
+    {
+        let Some(held) = self.held.get_mut(key) else {
+            return;
+        };
+        held.go_on(self.alloc, self.routes, asker, tick);
+    }
+
     /// Lets all connections go on as far as that goes without their peers: requests that are whole by now are asked.
     #[tactic(auto, using(crate::proofs::Chains::asks_on, crate::proofs::Chains::asks_nothing))]
     fn go_on_all<S: Site, L: Ledger>(&mut self, asker: &mut Asker<'_, S, L>, tick: &Tick)
         ensures { HasAsked S.Calls S.Lists S.Begins S.Watches asker.old asker.new }
     {
         for key in 0..self.held.capacity() {
-            if let Some(held) = self.held.get_mut(key) {
-                held.go_on(self.alloc, self.routes, asker, tick);
-            }
+            self.go_on_at(key, asker, tick);
             self.settle(key, tick.now);
         }
     }

@@ -97,6 +97,15 @@ impl<'a> Rounds<'a> {
         }
     }
 
+    /// Returns how many milliseconds the loop may wait for events as it stops.
+    fn stop_wait(&self) -> u64 {
+        if self.connections.has_paused() {
+            0
+        } else {
+            STOP_WAIT
+        }
+    }
+
     /// Gives a connection to the loop of this number. One that has too many waiting leaves it here.
     #[tactic(auto, using(crate::proofs::Chains::asks_on, crate::proofs::Chains::asks_nothing))]
     fn give<S: Site, L: Ledger, R: Wait>(
@@ -246,11 +255,13 @@ impl<'a> Rounds<'a> {
         is_called
     }
 
-    /// Looks at the watches that may have something to see, and at times at those whose turn it is; looks at deadlines at times.
+    /// Writes on what stopped so that others go on meanwhile, looks at the watches that may have something to see, and at times at those whose turn
+    /// it is; looks at deadlines at times.
     #[tactic(auto, using(crate::proofs::Chains::asks_on, crate::proofs::Chains::asks_nothing))]
     fn tend<S: Site, L: Ledger>(&mut self, asker: &mut Asker<'_, S, L>)
         ensures { HasAsked S.Calls S.Lists S.Begins S.Watches asker.old asker.new }
     {
+        self.connections.write_paused::<S>(self.tick.now);
         self.connections.hear_writes();
         self.connections.look_due(asker, self.tick.now);
         if self.tick.is_after(self.swept, SWEEP_MILLISECONDS) {
@@ -352,9 +363,10 @@ impl<'a> Rounds<'a> {
             if self.connections.is_empty() || self.tick.is_after(began, STOP_MILLISECONDS) {
                 break;
             }
-            wait(poll, events, STOP_WAIT)?;
+            wait(poll, events, self.stop_wait())?;
             self.tick = Tick::now(rt)?;
             self.heed(events, asker);
+            self.connections.write_paused::<S>(self.tick.now);
         }
         Ok(())
     }

@@ -1,12 +1,10 @@
 //! Initial streams of watches that are longer than what is made of them at once.
+use crate::steps::{asked, sink, written};
 use api::Solo;
-use http_connection::{Arriving, ConnectionPhase, answer, look_on, turn};
-use metadata_values::moments::Moment;
+use http_connection::{ConnectionPhase, look_on};
 use request_parts::table::Routes;
 use server::Server;
 use std::alloc::{AllocError, Global};
-use std::io::ErrorKind;
-use test_fixtures::{Source, TestSink};
 
 /// The names of the ConfigMaps that are there.
 const NAMES: &[u8] = b"abcdefghijklmnopqrstuvwx";
@@ -17,6 +15,11 @@ const LONG: usize = 8192;
 /// A watch of the ConfigMaps of all namespaces that begins with what is there, and a bookmark.
 const WATCH: &[u8] =
     b"GET /api/v1/configmaps?watch=true&sendInitialEvents=true&resourceVersionMatch=NotOlderThan&allowWatchBookmarks=true HTTP/1.1\r\n\r\n";
+
+/// How many bytes are read in a step, and how many calls of the writer there are in one: it takes a kilobyte by these.
+const READ: usize = 4096;
+
+const WRITES: u64 = 256;
 
 /// The end of a frame of an object.
 const ADDED: &[u8] = b"\"type\":\"ADDED\"}\n\r\n";
@@ -43,58 +46,12 @@ fn create(alloc: Global, name: u8) -> Result<Vec<u8>, AllocError> {
     Ok(text)
 }
 
-/// Lets a text come as a whole, and returns where its connection then stands, answered if its request is whole.
-fn asked(
-    alloc: Global,
-    routes: &Routes,
-    site: &mut Solo,
-    text: &[u8],
-    sink: &mut TestSink,
-) -> ConnectionPhase {
-    let mut source = Source::new(text, 4096);
-    source.kind = ErrorKind::WouldBlock;
-    let phase = ConnectionPhase::Reading(Arriving::new(alloc));
-    match turn::<Solo, Source<'_>, TestSink>(alloc, routes, phase, &mut source, sink) {
-        ConnectionPhase::Asked(asked) => answer(alloc, asked, site, Moment::start()),
-        other => other,
-    }
-}
-
-/// Lets a connection be written a kilobyte at a time, as far as there is something to write.
-fn written(
-    alloc: Global,
-    routes: &Routes,
-    phase: ConnectionPhase,
-    sink: &mut TestSink,
-) -> ConnectionPhase {
-    let mut source = Source::new(b"", 1);
-    let mut phase = phase;
-    for _ in 0..4096 {
-        if !phase.is_unwritten() {
-            return phase;
-        }
-        sink.bad = sink.calls.saturating_add(256);
-        phase = turn::<Solo, Source<'_>, TestSink>(alloc, routes, phase, &mut source, sink);
-    }
-    phase
-}
-
-/// Returns a writer that takes nothing more where it fails.
-fn sink(alloc: Global) -> TestSink {
-    TestSink {
-        written: Vec::new(alloc),
-        bad: u64::MAX,
-        kind: ErrorKind::WouldBlock,
-        calls: 0,
-    }
-}
-
 /// Returns a server where these ConfigMaps are.
 fn filled(alloc: Global, routes: &Routes) -> Result<Solo, AllocError> {
     let mut site = Solo::new(Server::new(alloc, 1024)?);
     for name in NAMES {
         let text = create(alloc, *name)?;
-        let _replied = asked(alloc, routes, &mut site, &text, &mut sink(alloc));
+        let _replied = asked(alloc, routes, &mut site, &text, READ, &mut sink(alloc));
     }
     Ok(site)
 }
@@ -115,8 +72,8 @@ fn streamed(alloc: Global) -> Result<Vec<u8>, AllocError> {
     let routes = Routes::new(alloc)?;
     let mut site = filled(alloc, &routes)?;
     let mut taken = sink(alloc);
-    let phase = asked(alloc, &routes, &mut site, WATCH, &mut taken);
-    let _watching = written(alloc, &routes, phase, &mut taken);
+    let phase = asked(alloc, &routes, &mut site, WATCH, READ, &mut taken);
+    let _watching = written(alloc, &routes, phase, WRITES, &mut taken);
     Ok(taken.written)
 }
 
@@ -137,14 +94,14 @@ fn is_told_last(alloc: Global) -> Result<bool, AllocError> {
     let routes = Routes::new(alloc)?;
     let mut site = filled(alloc, &routes)?;
     let mut taken = sink(alloc);
-    let opened = asked(alloc, &routes, &mut site, WATCH, &mut taken);
+    let opened = asked(alloc, &routes, &mut site, WATCH, READ, &mut taken);
     let text = create(alloc, b'z')?;
-    let _replied = asked(alloc, &routes, &mut site, &text, &mut sink(alloc));
+    let _replied = asked(alloc, &routes, &mut site, &text, READ, &mut sink(alloc));
     let looked = match opened {
         ConnectionPhase::Watching(watching) => look_on(alloc, watching, &mut site),
         other => other,
     };
-    let _watching = written(alloc, &routes, looked, &mut taken);
+    let _watching = written(alloc, &routes, looked, WRITES, &mut taken);
     let is_last = taken.written.ends_with(ADDED) && count(&taken.written, BOOKMARK) == 1;
     Ok(is_last && count(&taken.written, ADDED) == NAMES.len() + 1)
 }

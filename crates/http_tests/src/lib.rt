@@ -33,6 +33,8 @@ mod serving;
 #[cfg(test)]
 mod stepping;
 #[cfg(test)]
+mod steps;
+#[cfg(test)]
 mod streams;
 #[cfg(test)]
 mod watches;

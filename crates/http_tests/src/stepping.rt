@@ -1,15 +1,15 @@
 //! Connections that go on in steps, a byte read and four written at a time: they are written what `serve_one` writes.
+use crate::steps::{asked, sink, written};
 use api::{Solo, serve_one};
 use chunked::Watched;
-use http_connection::{Arriving, ConnectionPhase, answer, look_on, turn};
+use http_connection::{ConnectionPhase, look_on};
 use http_watch::LookPace;
 use metadata_values::moments::Moment;
 use request_parts::table::Routes;
 use server::Server;
 use spec_api::kinds::Kind;
 use std::alloc::{AllocError, Global};
-use std::io::ErrorKind;
-use test_fixtures::{Source, TestSink};
+use test_fixtures::Source;
 
 /// A create of the ConfigMap `a`.
 const CREATE: &[u8] =
@@ -41,25 +41,10 @@ fn empty(alloc: Global) -> Result<Solo, AllocError> {
     Ok(Solo::new(Server::new(alloc, 1024)?))
 }
 
-/// Returns a writer with room for a reply.
-fn sink(alloc: Global) -> Result<TestSink, AllocError> {
-    Ok(TestSink {
-        written: Vec::with_capacity(alloc, 2048)?,
-        bad: u64::MAX,
-        kind: ErrorKind::WouldBlock,
-        calls: 0,
-    })
-}
-
 /// Returns what `serve_one` writes for a text.
-fn at_once(
-    alloc: Global,
-    routes: &Routes,
-    site: &mut Solo,
-    text: &[u8],
-) -> Result<Vec<u8>, AllocError> {
+fn at_once(alloc: Global, routes: &Routes, site: &mut Solo, text: &[u8]) -> Vec<u8> {
     let mut reader = Watched::new(Source::new(text, 4096));
-    let mut writer = Watched::new(sink(alloc)?);
+    let mut writer = Watched::new(sink(alloc));
     let _served = serve_one(
         alloc,
         routes,
@@ -69,47 +54,7 @@ fn at_once(
         Moment::start(),
         &mut AtOnce,
     );
-    Ok(writer.into_inner().written)
-}
-
-/// Lets a text come byte by byte, and returns where its connection then stands, answered if its request is whole.
-fn asked(
-    alloc: Global,
-    routes: &Routes,
-    site: &mut Solo,
-    text: &[u8],
-    sink: &mut TestSink,
-) -> ConnectionPhase {
-    let mut source = Source::new(text, 1);
-    source.kind = ErrorKind::WouldBlock;
-    let mut phase = ConnectionPhase::Reading(Arriving::new(alloc));
-    for _ in 0..text.len() {
-        source.bad = source.calls.saturating_add(1);
-        phase = turn::<Solo, Source<'_>, TestSink>(alloc, routes, phase, &mut source, sink);
-    }
-    match phase {
-        ConnectionPhase::Asked(asked) => answer(alloc, asked, site, Moment::start()),
-        other => other,
-    }
-}
-
-/// Lets a connection be written, as far as there is something to write.
-fn written(
-    alloc: Global,
-    routes: &Routes,
-    phase: ConnectionPhase,
-    sink: &mut TestSink,
-) -> ConnectionPhase {
-    let mut source = Source::new(b"", 1);
-    let mut phase = phase;
-    for _ in 0..4096 {
-        if !phase.is_unwritten() {
-            return phase;
-        }
-        sink.bad = sink.calls.saturating_add(1);
-        phase = turn::<Solo, Source<'_>, TestSink>(alloc, routes, phase, &mut source, sink);
-    }
-    phase
+    writer.into_inner().written
 }
 
 /// Takes a look, if the connection is one of a watch.
@@ -121,23 +66,18 @@ fn looked(alloc: Global, phase: ConnectionPhase, site: &mut Solo) -> ConnectionP
 }
 
 /// Returns what is written in steps for a text.
-fn in_steps(
-    alloc: Global,
-    routes: &Routes,
-    site: &mut Solo,
-    text: &[u8],
-) -> Result<Vec<u8>, AllocError> {
-    let mut sink = sink(alloc)?;
-    let phase = asked(alloc, routes, site, text, &mut sink);
-    let _over = written(alloc, routes, phase, &mut sink);
-    Ok(sink.written)
+fn in_steps(alloc: Global, routes: &Routes, site: &mut Solo, text: &[u8]) -> Vec<u8> {
+    let mut taken = sink(alloc);
+    let phase = asked(alloc, routes, site, text, 1, &mut taken);
+    let _over = written(alloc, routes, phase, 1, &mut taken);
+    taken.written
 }
 
 /// Returns whether a create in steps is replied what it is at once.
 fn is_replied_alike(alloc: Global) -> Result<bool, AllocError> {
     let routes = Routes::new(alloc)?;
-    let steps = in_steps(alloc, &routes, &mut empty(alloc)?, CREATE)?;
-    let once = at_once(alloc, &routes, &mut empty(alloc)?, CREATE)?;
+    let steps = in_steps(alloc, &routes, &mut empty(alloc)?, CREATE);
+    let once = at_once(alloc, &routes, &mut empty(alloc)?, CREATE);
     Ok(steps.as_slice() == once.as_slice() && steps.starts_with(b"HTTP/1.1 201"))
 }
 
@@ -151,10 +91,10 @@ fn is_listed_alike(alloc: Global, text: &[u8]) -> Result<bool, AllocError> {
     let routes = Routes::new(alloc)?;
     let mut site = empty(alloc)?;
     for create in [CREATE, CREATE_ANOTHER] {
-        at_once(alloc, &routes, &mut site, create)?;
+        let _replied = at_once(alloc, &routes, &mut site, create);
     }
-    let steps = in_steps(alloc, &routes, &mut site, text)?;
-    let once = at_once(alloc, &routes, &mut site, text)?;
+    let steps = in_steps(alloc, &routes, &mut site, text);
+    let once = at_once(alloc, &routes, &mut site, text);
     Ok(steps.as_slice() == once.as_slice() && steps.starts_with(b"HTTP/1.1 200"))
 }
 
@@ -172,19 +112,19 @@ fn a_page_is_made_as_it_is_written(rt: HostRuntime) {
 fn is_watched_alike(alloc: Global) -> Result<bool, AllocError> {
     let routes = Routes::new(alloc)?;
     let mut site = empty(alloc)?;
-    let mut sink = sink(alloc)?;
-    let mut phase = asked(alloc, &routes, &mut site, WATCH, &mut sink);
+    let mut taken = sink(alloc);
+    let mut phase = asked(alloc, &routes, &mut site, WATCH, 1, &mut taken);
     for text in [CREATE, CREATE_ANOTHER] {
-        in_steps(alloc, &routes, &mut site, text)?;
+        let _replied = in_steps(alloc, &routes, &mut site, text);
         phase = looked(alloc, phase, &mut site);
-        phase = written(alloc, &routes, phase, &mut sink);
+        phase = written(alloc, &routes, phase, 1, &mut taken);
     }
     for _ in 0..1025 {
         phase = looked(alloc, phase, &mut site);
     }
-    phase = written(alloc, &routes, phase, &mut sink);
-    let once = at_once(alloc, &routes, &mut site, WATCH)?;
-    Ok(phase.is_over() && sink.written.as_slice() == once.as_slice())
+    phase = written(alloc, &routes, phase, 1, &mut taken);
+    let once = at_once(alloc, &routes, &mut site, WATCH);
+    Ok(phase.is_over() && taken.written.as_slice() == once.as_slice())
 }
 
 #[test]

@@ -5,12 +5,14 @@ use Rattle.meta.specs.declared.pieces.Pieces.{Pieces}
 use Rattle.meta.specs.declared.pieces.Item.{Item}
 use Rattle.meta.specs.declared.pieces.Item.TheVariants as item
 
--- no character of the text is cut
+-- the pieces stand in their order, and no character of the text is cut
 pub record IsCut (p : Pieces) (text : List ℕ) : Type 0 where
+  pub first : p.first_end ≤ p.second_start
+  pub second : p.second_start ≤ p.second_end
+  pub third : p.second_end ≤ p.third_start
   pub first_end : IsCharBoundary text p.first_end
   pub second_start : IsCharBoundary text p.second_start
   pub second_end : IsCharBoundary text p.second_end
-  pub in_order : p.second_start ≤ p.second_end
   pub third_start : IsCharBoundary text p.third_start
 
 -- the pieces of the text, one after another

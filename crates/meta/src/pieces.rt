@@ -51,6 +51,15 @@ pub(crate) fn push_pieces(text: &str, pieces: Pieces, to: &mut String) -> Result
     to.push_str(&text[pieces.third_start..])
 }
 
+/// Returns how long the pieces of a text are, one after another.
+pub(crate) fn pieces_len(text: &str, pieces: Pieces) -> usize
+    requires { IsCut pieces text.now }
+    ensures { result ≡ length (cut pieces text.now) }
+{
+    let second_len = pieces.second_end - pieces.second_start;
+    pieces.first_end + second_len + (text.len() - pieces.third_start)
+}
+
 /// Returns the pieces between which the object's text has its version and its kind.
 fn likely_pieces(kind: Kind, text: &[u8], shown: &[u8]) -> Pieces {
     let first_end = same_beginning(text, shown);
@@ -93,11 +102,13 @@ fn makes_up(text: &str, pieces: Pieces, shown: &str) -> bool
         )
 }
 
-/// Returns whether no character is cut.
+/// Returns whether the pieces stand in their order, and no character is cut.
 fn is_cut(text: &str, pieces: Pieces) -> bool
     ensures { IsTrue result ↔ IsCut pieces text.now }
 {
-    pieces.second_start <= pieces.second_end
+    pieces.first_end <= pieces.second_start
+        && pieces.second_start <= pieces.second_end
+        && pieces.second_end <= pieces.third_start
         && text.is_char_boundary(pieces.first_end)
         && text.is_char_boundary(pieces.second_start)
         && text.is_char_boundary(pieces.second_end)

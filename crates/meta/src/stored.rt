@@ -1,5 +1,5 @@
 //! Objects as they are stored.
-ghost use Rattle.std.specs.Prelude.{◌≡◌, ◌≤◌, ◌++◌, Some, IfOk, OnOk, option_map, string_bytes, false};
+ghost use Rattle.std.specs.Prelude.{◌≡◌, ◌≤◌, ◌++◌, Some, IfOk, OnOk, length, option_map, string_bytes, false};
 ghost use Rattle.serde_json.specs.Data.{depth};
 ghost use Rattle.serde_json.specs.Read.{read, max_depth};
 ghost use Rattle.serde_json.specs.Written.{has_float, compact_text, IsInOrder};
@@ -80,6 +80,13 @@ impl StoredObject {
             ≡ string_bytes text.old ++ compact_text (as_item self.now.value)) }
     {
         self.kept.push_item_text(text)
+    }
+
+    /// Returns how long the object's text is as an item of a list. It makes no text.
+    pub fn item_len(&self) -> usize
+        ensures { result ≡ length (compact_text (as_item self.now.value)) }
+    {
+        self.kept.item_len()
     }
 
     /// Returns the value of a label.

@@ -1,5 +1,5 @@
 //! What is stored of an object: its texts, and what is asked of it without reading them.
-ghost use Rattle.std.specs.Prelude.{◌≡◌, ◌≤◌, ◌++◌, Some, IfOk, OnOk, codes, map, option_map, option_and_then, string_bytes, false, true, is_some};
+ghost use Rattle.std.specs.Prelude.{◌≡◌, ◌≤◌, ◌++◌, Some, IfOk, OnOk, codes, length, map, option_map, option_and_then, string_bytes, false, true, is_some};
 ghost use Rattle.serde_json.specs.Data.{depth};
 ghost use Rattle.serde_json.specs.Find.{as_object};
 ghost use Rattle.serde_json.specs.Read.{read, max_depth};
@@ -12,7 +12,7 @@ ghost use Rattle.meta.specs.Stored.{IsTree, tree_view};
 
 use crate::labels::{Label, label_text, labels_in};
 use crate::objects::Object;
-use crate::pieces::{Item, push_pieces};
+use crate::pieces::{Item, pieces_len, push_pieces};
 use json_values::values::nests_within;
 use serde_json::Value;
 use spec_api::kinds::Kind;
@@ -93,6 +93,16 @@ impl StoredTexts {
         match &self.item {
             Item::Within(pieces) => push_pieces(self.text.as_str(), *pieces, text),
             Item::Apart(shown) => text.push_str(shown.as_str()),
+        }
+    }
+
+    /// Returns how long the text is as an item of a list.
+    pub(crate) fn item_len(&self) -> usize
+        ensures { result ≡ length (compact_text (as_item self.now.value)) }
+    {
+        match &self.item {
+            Item::Within(pieces) => pieces_len(self.text.as_str(), *pieces),
+            Item::Apart(shown) => shown.len(),
         }
     }
 

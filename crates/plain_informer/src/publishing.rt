@@ -26,8 +26,9 @@ fn append_all(shifts: &mut Vec<Shift>, more: Vec<Shift>) -> Result<(), AllocErro
     Ok(())
 }
 
-/// Applies one more delta, and appends what it changes.
-fn apply_more(
+/// Applies one more delta, and appends what it changes. The error is running out of memory, after which the delta may be applied
+/// and only some of its shifts appended.
+pub fn apply_more(
     alloc: Global,
     objects: &mut Indexed,
     shifts: &mut Vec<Shift>,

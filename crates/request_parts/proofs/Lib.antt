@@ -2,7 +2,6 @@ pub mod LimitTexts
 pub mod TokenTexts
 pub mod Wholes
 pub mod Texts
-pub mod Cuts
 pub mod Plain
 pub mod Seeks
 pub mod Walks

@@ -1,1 +1,4 @@
 pub mod Views
+pub mod Cuts
+pub mod Reading
+pub mod Seen

@@ -1,11 +1,20 @@
 //! What a list or a watch asks for: a kind, in one namespace or in all, and selectors of labels and of fields, as their
-//! texts and values say.
+//! texts and values say: their requirements of labels and of fields.
 #![tactic(auto)]
 
+mod cuts;
+pub mod faults;
+pub mod fields;
+pub mod labels;
+mod owned;
+pub mod requirement_values;
 pub mod selectors;
+pub mod texts;
 mod values;
 pub mod views;
 
-pub use selector_requirements::{Fields, Requirement, SelectorFault};
+pub use faults::{PartFault, SelectorFault};
+pub use fields::Fields;
+pub use labels::Requirement;
 pub use selectors::Selector;
 pub use views::View;

@@ -5,12 +5,13 @@ ghost use Rattle.spec_api.specs.Metadata.{labels_of};
 ghost use Rattle.spec_api.specs.SelectorTexts.{selector_of_text};
 ghost use Rattle.spec_api.specs.SelectorValues.{selector_of_value};
 ghost use Rattle.spec_api.specs.Selectors.{meets, meets_all};
-ghost use Rattle.selector_requirements.specs.Seen.{RefusesText, RefusesValue, labels_in, requirement_of, requirements_of};
+ghost use Rattle.selector.specs.Seen.{RefusesText, RefusesValue, labels_in, requirement_of, requirements_of};
 
+use crate::faults::{PartFault, SelectorFault};
+use crate::labels::Requirement;
+use crate::texts::requirements;
 use crate::values;
 use meta::stored::StoredObject;
-use selector_requirements::texts::requirements;
-use selector_requirements::{PartFault, Requirement, SelectorFault};
 use serde_json::Value;
 use std::alloc::{AllocError, Global};
 use std::marker::Model;
@@ -25,7 +26,7 @@ impl Model for Selector {
     ghost use Rattle.std.specs.Prelude.{List};
     ghost use Rattle.model_encodings.specs.SelectorCodes.{coded_requirements};
     ghost use Rattle.spec_api.specs.Selectors as meaning;
-    ghost use Rattle.selector_requirements.specs.Seen.{requirements_of};
+    ghost use Rattle.selector.specs.Seen.{requirements_of};
 
     ghost Value = { List meaning.Requirement };
 

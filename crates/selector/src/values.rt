@@ -4,12 +4,13 @@ ghost use Rattle.serde_json.specs.View.{view};
 ghost use Rattle.serde_json.specs.Written.{has_float};
 ghost use Rattle.spec_api.specs.Reading.{fits, tidied};
 ghost use Rattle.spec_api.specs.SelectorValues.{requirements_in, selector_shape};
-ghost use Rattle.selector_requirements.specs.Seen.{Reads, requirements_of};
+ghost use Rattle.selector.specs.Seen.{Reads, requirements_of};
 
+use crate::faults::PartFault;
+use crate::labels::Requirement;
+use crate::requirement_values::requirements_in;
 use json_values::values::has_float;
 use meta::reading::{fits, tidy};
-use selector_requirements::values::requirements_in;
-use selector_requirements::{PartFault, Requirement};
 use serde_json::Value;
 use spec_api::schemas::{Schema, Shape};
 use std::alloc::Global;

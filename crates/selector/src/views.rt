@@ -3,10 +3,10 @@ ghost use Rattle.std.specs.Prelude.{◌≡◌, IfOk, option_map, string_bytes};
 ghost use Rattle.spec_api.specs.History.{in_view};
 ghost use Rattle.object_keys.specs.Keys.{key_of};
 
+use crate::fields::Fields;
 use crate::selectors::Selector;
 use meta::stored::StoredObject;
 use object_keys::Key;
-use selector_requirements::Fields;
 use spec_api::kinds::Kind;
 use std::alloc::{AllocError, Global};
 

@@ -1,7 +1,10 @@
 pub mod Begun
-pub mod ListedMembers
 pub mod Pages
 pub mod Sent
 pub mod Served
+pub mod NewestUndone
 pub mod Watches
 pub mod Windows
+pub mod AddedItems
+pub mod LastMembers
+pub mod PageItems

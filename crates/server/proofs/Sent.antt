@@ -1,5 +1,4 @@
 -- A server may cross threads.
-use denote.RattleType.{RattleType}
 use denote.Struct.Field.{u64-field}
 use denote.Hole.{as_row}
 use denote.Param.Send.{IsSend, sendable, view_send}
@@ -11,11 +10,9 @@ use Rattle.std.specs.contracts.impls.GlobalAllocator.TheImpl.{ghosts}
 use Rattle.circular_buffer.proofs.heap.HeapCircularBuffer.TheSendSync as ring_of
 use Rattle.circular_buffer.specs.contracts.heap.HeapCircularBuffer as Ring
 use Rattle.object_keys.proofs.key.Key.TheSendSync as key
-use Rattle.object_keys.specs.contracts.key.Key as Key
 use Rattle.meta.proofs.Kind.TheSendSync as kind
 use Rattle.meta.proofs.labels.Label.TheSendSync as label
 use Rattle.meta.proofs.pieces.Item.TheSendSync as item
-use Rattle.meta.proofs.pieces.Pieces.TheSendSync as pieces
 use Rattle.meta.below.serde_json.proofs.value.Value.TheLaws.TheKnot as tree
 use Rattle.watch_cache.specs.contracts.changes.Change as Change
 use Rattle.watch_cache.specs.contracts.cache.Cache as Cache
@@ -24,7 +21,6 @@ use Rattle.spec_api.specs.contracts.kinds.Kind as Kind
 use Rattle.watch_cache.specs.contracts.caches.Caches as Caches
 use Rattle.watch_cache.specs.contracts.caches.Caches.TheInside as CachesInside
 use Rattle.store.specs.contracts.stores.Store as Store
-use Rattle.store.specs.contracts.stores.Store.TheInside as StoreInside
 use Rattle.server.specs.contracts.servers.Server as Server
 use Rattle.server.specs.contracts.servers.Server.TheInside as ServerInside
 

@@ -1,6 +1,6 @@
 -- What a watch is given, by the events of a cache.
-use Rattle.std.proofs.Common.{◌≡◌, ◌<◌, ◌≤◌, ◌-◌, ◌⊎◌, inl, inr, ℕ, suc, List, [], ◌∷◌, length, map, take, nat_le, nat_lt, Bool, true, false, cond, Option, None, Some, Result, Ok, Err, sym, ap, ◌∙◌, arith}
-use Rattle.std.specs.Prelude.{slice_get, if◌then◌else◌}
+use Rattle.std.proofs.Common.{◌≡◌, ◌<◌, ◌≤◌, ◌⊎◌, inl, inr, ℕ, suc, List, [], ◌∷◌, length, map, take, nat_le, nat_lt, Bool, true, false, cond, Option, None, Some, Result, Ok, Err, sym, ap, ◌∙◌, arith}
+use Rattle.std.specs.Prelude.{if◌then◌else◌}
 use Rattle.std.specs.Result.{result_map_both}
 use Rattle.std.proofs.lemmas.Bool.Decides.{nat_tests}
 use Rattle.std.proofs.lemmas.List.{take_all, length-append}
@@ -13,7 +13,6 @@ use Rattle.spec_api.specs.Versions.{watched, last_change}
 use Rattle.spec_api.specs.Windows.{Change as Kept, within}
 use Rattle.spec_server.specs.Recorded.{Window, above, event_recorded, events_recorded, recorded_since}
 use Rattle.revisions.specs.Events.{event_seen}
-use Rattle.meta.specs.declared.event.Event.{Event}
 use Rattle.watch_cache.specs.Served.{Serves}
 use Rattle.revisions.specs.Watches.{watched_of}
 use Rattle.revisions.specs.declared.watched.WatchedEvents.{WatchedEvents}

@@ -8,7 +8,7 @@ use Rattle.spec_api.specs.Versions.{listed_as}
 use Rattle.spec_api.specs.Verbs.{Answer}
 use Rattle.spec_api.specs.declared.versions.At.TheVariants.{Present}
 use Rattle.reply.specs.declared.reply.Reply.{Reply}
-use Rattle.list_pieces.specs.PageTexts.{told}
+use Rattle.server.specs.PageTexts.{told}
 use Rattle.server.specs.Replies.{Says}
 
 -- the answer with these items of a list at revision r, after which so many are left
@@ -36,5 +36,8 @@ abbrev pub IsPageAt : ℕ → View → Entries → ℕ → Option Place → Repl
 IsPageAt r v listed limit after reply = Says (page_at r v listed limit after) reply
 
 -- its text
+abbrev pub text_at : ℕ → View → Entries → ℕ → Option Place → List ℕ
+text_at r v listed limit after = compact_text (page_at r v listed limit after).body
+
 abbrev pub IsTextAt : ℕ → View → Entries → ℕ → Option Place → List ℕ → Type 0
-IsTextAt r v listed limit after text = text ≡ compact_text (page_at r v listed limit after).body
+IsTextAt r v listed limit after text = text ≡ text_at r v listed limit after

@@ -1,16 +1,18 @@
 //! Lists, in pages, at the present revision and at earlier ones.
-ghost use Rattle.std.specs.Prelude.{◌≡◌, IfOk, map};
+ghost use Rattle.std.specs.Prelude.{◌≡◌, IfOk, map, string_bytes};
 ghost use Rattle.meta.specs.Members.{member_of};
 ghost use Rattle.pages.specs.Seen.{asked_place};
 ghost use Rattle.selector.specs.Views.{view_of};
 ghost use Rattle.store.specs.Chunks.{after_key};
+ghost use Rattle.server.specs.PageTexts.{first_page_text};
 ghost use Rattle.server.specs.Pages.{ShowsPage};
 
+use crate::next_pages::{next_token, told_count};
 use crate::servers::Server;
-use list_pieces::{next_token, told_count};
+use crate::shared_pages::SharedPage;
 use meta::Member;
 use object_keys::{Fault, Key};
-use pages::{Token, page_of, page_text};
+use pages::{Token, page_text};
 use reply::Reply;
 use selector::View;
 use spec_api::kinds::Kind;
@@ -74,9 +76,8 @@ impl Server {
         )
     }
 
-    /// Returns a page of the list at a revision. Where the kind has not changed since, it is one of what is there; else what is
-    /// there is listed, and the later changes are undone.
-    pub(crate) fn list_exact(
+    /// Returns a page of the list at a revision.
+    fn list_exact(
         &self,
         alloc: Global,
         view: &View,
@@ -87,16 +88,9 @@ impl Server {
         ensures { Lists (list_served self.now (view_of view.now)
             (record { at = at.Exact revision; limit = limit; after = asked_place after.entry })) result }
     {
-        let present = self.revision();
-        let cache = self.cache(view.kind);
-        cache.check(revision, present)?;
-        if cache.is_unchanged_since(revision) {
-            return Ok(self.list_as(alloc, view, revision, limit, after)?);
-        }
-        let listed = self.added(alloc, view)?;
-        let members = cache.list_at(alloc, listed.as_slice(), view, present, revision)?;
-        let page = page_of(members.as_slice(), limit, after);
-        Ok(page_reply(alloc, view, revision, page.items, page.remaining)?)
+        let page = self.page_exact(alloc, view, revision, limit, after)?;
+        let text = page.text(alloc)?;
+        Ok(Reply { code: 200, text })
     }
 }
 
@@ -112,6 +106,21 @@ pub(crate) fn key_after(kind: Kind, after: Option<&Token>) -> Result<Option<Key>
         namespace: token.namespace.clone()?,
         name: token.name.clone()?,
     }))
+}
+
+/// Returns the whole text of a page. The error is running out of memory.
+pub(crate) fn whole_text(alloc: Global, page: &SharedPage) -> Result<String, AllocError>
+    ensures { IfOk result (λ t. string_bytes t ≡ first_page_text page.now.revision page.now.limit page.now.objects) }
+{
+    let chunk = page.objects.page(alloc, page.limit)?;
+    let reply = page_reply(
+        alloc,
+        page.objects.view(),
+        page.revision,
+        chunk.members.as_slice(),
+        chunk.remaining,
+    )?;
+    Ok(reply.text)
 }
 
 /// Returns the reply with these objects of a list at a revision, after which so many remain. The error is running out of

@@ -1,14 +1,13 @@
 //! Requests, answered one after another.
-ghost use Rattle.std.specs.Prelude.{◌≡◌, IfOk, option_map};
-
 use crate::servers::Server;
-use meta::{StoredObject, Write};
+use meta::Write;
 use metadata_values::moments::Moment;
 use object_keys::Fault;
 use reply::Reply;
 use request_parts::Request;
-use std::alloc::{AllocError, Global};
+use std::alloc::Global;
 use watch_cache::Change;
+use watch_cache::changes::copied;
 
 impl Server {
     ghost use Rattle.std.specs.Prelude.{◌≡◌, OnOk, OnErr, IfErr, IfSome, option_map, false};
@@ -61,7 +60,7 @@ impl Server {
         ensures err { OnErr result (self.new ≡ self.old) }
     {
         let key = write.key.try_copy()?;
-        let new = copy_of(write.put.as_ref())?;
+        let new = copied(write.put.as_ref())?;
         let old = self.store.apply(write)?;
         let revision = self.revision();
         self.record(Change {
@@ -71,15 +70,5 @@ impl Server {
             new,
         });
         Ok(())
-    }
-}
-
-/// Returns a copy of what is put, if anything is.
-fn copy_of(put: Option<&StoredObject>) -> Result<Option<StoredObject>, AllocError>
-    ensures { IfOk result (λ copy. option_map (λ o. o.value) copy ≡ option_map (λ o. o.now.value) put.entry) }
-{
-    match put {
-        None => Ok(None),
-        Some(object) => Ok(Some(object.try_copy()?)),
     }
 }

@@ -1,4 +1,3 @@
-pub mod InHands
 pub mod Standing
 pub mod Told
 pub mod Passing

@@ -28,7 +28,7 @@ use Rattle.keyed_board.specs.declared.outcome.Outcome.TheVariants.{Done, LookAga
 use Rattle.keyed_board.proofs.Shutting.{added_shut, all_added_shut, got_shut, done_shut}
 use Rattle.shared_keyed_board.specs.Histories.{History, board, MayFollow}
 use Rattle.shared_keyed_board.specs.Remembered.{Asks, WasTaken, IsRemembered, NothingIsForgotten}
-use Rattle.shared_keyed_board.proofs.InHands as hands
+use Rattle.spec_client_go.proofs.KeysInHands as hands
 use Rattle.shared_keyed_board.proofs.Standing.{board_more, finished_work, stands}
 
 or_false : (a : Bool) → (a || false) ≡ true → a ≡ true

@@ -16,8 +16,9 @@ use Rattle.keyed_board.specs.Boards.{KeyBoard, begun}
 use Rattle.keyed_board.specs.Steps.{Step, add, add_after, take, finish, tick, shut_down, after, after_all}
 use Rattle.keyed_board.specs.declared.outcome.Outcome.{Outcome}
 use Rattle.keyed_board.specs.declared.outcome.Outcome.TheVariants.{Done, LookAgain, Failed}
-use Rattle.shared_keyed_board.specs.Histories.{History, board, MayFollow, hand, in_hand, in_hand_from, in_hand_after, AreHands, HandsAreApart}
-use Rattle.shared_keyed_board.proofs.InHands.{same_name, some_same, not_both, kept_hands, taken_hands, emptied_hands}
+use Rattle.shared_keyed_board.specs.Histories.{History, board, MayFollow, hand, in_hand, in_hand_from, in_hand_after, HandsAreApart}
+use Rattle.spec_client_go.specs.KeysInHands.{AreHands}
+use Rattle.spec_client_go.proofs.KeysInHands.{same_name, some_same, not_both, kept_hands, taken_hands, emptied_hands}
 
 -- ---- histories
 

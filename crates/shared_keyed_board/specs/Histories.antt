@@ -1,7 +1,7 @@
 -- Histories of a board that threads share, and which key is in whose hands.
-use Rattle.std.specs.Prelude.{◌≡◌, ℕ, List, [], ◌∷◌, Option, Some, None, true}
-use Rattle.std.specs.FinSet as set
+use Rattle.std.specs.Prelude.{◌≡◌, ℕ, List, [], ◌∷◌, Option, Some, None}
 use Rattle.std.specs.declared.cmp.Ordering.{Ordering}
+use Rattle.spec_client_go.specs.KeysInHands.{AreHands}
 use Rattle.baton.specs.Marks.{entries, made_by, CanHappen}
 use Rattle.keyed_queues.specs.Queues.{handed}
 use Rattle.keyed_board.specs.Boards.{KeyBoard, begun}
@@ -53,12 +53,6 @@ abbrev pub MayFollow : {N : Type 0} (R : N → N → Ordering) → History N →
 MayFollow R h name e = IsAllowed (hand h name) (board R h) e
 
 -- ---- what follows of hands
-
--- the keys in process are just those in hands, and no key is in the hands of two
-pub record AreHands {N : Type 0} {R : N → N → Ordering} (hands : ℕ → Option N) (processing : set.FinSet R) : Type 0 where
-  pub taken : (k : N) → set.contains processing k ≡ true → (name : ℕ) × (hands name ≡ Some k)
-  pub processed : (name : ℕ) (k : N) → hands name ≡ Some k → set.contains processing k ≡ true
-  pub apart : (one other : ℕ) (k : N) → hands one ≡ Some k → hands other ≡ Some k → one ≡ other
 
 -- in every history of which each step may follow those before it
 abbrev pub HandsAreApart : {N : Type 0} → (N → N → Ordering) → Type 0

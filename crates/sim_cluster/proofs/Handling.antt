@@ -8,7 +8,7 @@ use Rattle.spec_sim.specs.Clusters.{Cluster, history}
 use Rattle.spec_sim.specs.Followers.{Follower, Notification}
 use Rattle.sim_cluster_laws.specs.ClusterLaws.{IsFollowed}
 use Rattle.sim_cluster_laws.specs.FollowerLaws.{IsFollowing}
-use Rattle.sim_cluster_laws.proofs.Runs.{with_moved, same_session}
+use Rattle.spec_sim.proofs.ClusterFollowers.{with_moved, same_session}
 use Rattle.sim_cluster.specs.Changes.{without_oldest}
 use Rattle.sim_cluster.specs.ClusterStates.{ClusterState, follower, with_follower}
 use Rattle.sim_cluster.specs.Standing.{Stands}

@@ -19,7 +19,7 @@ use Rattle.spec_sim.specs.Clusters.{Cluster, history}
 use Rattle.sim_cluster_laws.specs.ClusterLaws.{IsFollowed}
 use Rattle.sim_cluster_laws.specs.FollowerLaws.{IsFollowing}
 use Rattle.sim_cluster_laws.proofs.Growing.{stand}
-use Rattle.sim_cluster_laws.proofs.Runs.{with_session}
+use Rattle.spec_sim.proofs.ClusterFollowers.{with_session}
 use Rattle.line_session.specs.RecordedStates.{RecordedState}
 use Rattle.sim_cluster.specs.Requested.{IsWriteOf, IsRead, written}
 use Rattle.sim_cluster.specs.Standing.{StandsFor, Stands}

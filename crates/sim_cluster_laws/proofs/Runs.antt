@@ -17,6 +17,7 @@ use Rattle.spec_sim.specs.declared.initial_syncs.InitialSync.{InitialSync}
 use Rattle.spec_sim.specs.Followers.{Follower, begun}
 use Rattle.spec_sim.specs.Moves as moving
 use Rattle.spec_sim.specs.Clusters.{Cluster, with_new_followers, opened, history, follower, with_follower, ClusterStep, request, compact, moves, restart, step, run}
+use Rattle.spec_sim.proofs.ClusterFollowers.{with_session, with_moved, same_session}
 use Rattle.sim_cluster_laws.specs.FollowerLaws.{IsFollowing}
 use Rattle.sim_cluster_laws.specs.ClusterLaws.{IsFollowed, StepsKeep, RunsAreFollowed, InformersShowServerLists, NoRestart, PublishedRevisionsRise, RestartsBeginAnew}
 use Rattle.sim_cluster_laws.proofs.Growing.{stand}
@@ -35,38 +36,6 @@ at_first P i s p ConfigMap = p ConfigMap
 at_first P i s p Pod = p Pod
 at_first P i s p ReplicaSet = p ReplicaSet
 at_first P i s p Deployment = p Deployment
-
--- and with another session
-pub with_session : (P : Kind → Follower → Type 0) (c : Cluster) (s : Session) → ((k : Kind) → P k (follower k c)) → (k : Kind) → P k (follower k (record c { session = s }))
-with_session P c s p ConfigMap = p ConfigMap
-with_session P c s p Pod = p Pod
-with_session P c s p ReplicaSet = p ReplicaSet
-with_session P c s p Deployment = p Deployment
-
--- a move concerns the follower of its kind alone
-pub with_moved : (P : Kind → Follower → Type 0) (c : Cluster) (k : Kind) (f : Follower) → P k f → ((j : Kind) → P j (follower j c)) → (j : Kind) → P j (follower j (with_follower k f c))
-with_moved P c ConfigMap f q p ConfigMap = q
-with_moved P c ConfigMap f q p Pod = p Pod
-with_moved P c ConfigMap f q p ReplicaSet = p ReplicaSet
-with_moved P c ConfigMap f q p Deployment = p Deployment
-with_moved P c Pod f q p ConfigMap = p ConfigMap
-with_moved P c Pod f q p Pod = q
-with_moved P c Pod f q p ReplicaSet = p ReplicaSet
-with_moved P c Pod f q p Deployment = p Deployment
-with_moved P c ReplicaSet f q p ConfigMap = p ConfigMap
-with_moved P c ReplicaSet f q p Pod = p Pod
-with_moved P c ReplicaSet f q p ReplicaSet = q
-with_moved P c ReplicaSet f q p Deployment = p Deployment
-with_moved P c Deployment f q p ConfigMap = p ConfigMap
-with_moved P c Deployment f q p Pod = p Pod
-with_moved P c Deployment f q p ReplicaSet = p ReplicaSet
-with_moved P c Deployment f q p Deployment = q
-
-pub same_session : (c : Cluster) (k : Kind) (f : Follower) → (with_follower k f c).session ≡ c.session
-same_session c ConfigMap f = refl
-same_session c Pod f = refl
-same_session c ReplicaSet f = refl
-same_session c Deployment f = refl
 
 -- ---- the server
 

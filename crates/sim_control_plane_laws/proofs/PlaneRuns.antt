@@ -14,7 +14,8 @@ use Rattle.spec_sim.specs.Followers.{Follower, Notification}
 use Rattle.sim_cluster_laws.specs.ClusterLaws.{IsFollowed, ShowsServerLists}
 use Rattle.sim_cluster_laws.specs.FollowerLaws.{IsFollowing}
 use Rattle.sim_cluster_laws.proofs.Growing.{stand}
-use Rattle.sim_cluster_laws.proofs.Runs.{keeps, opens, with_moved, with_session, same_session}
+use Rattle.sim_cluster_laws.proofs.Runs.{keeps, opens}
+use Rattle.spec_sim.proofs.ClusterFollowers.{with_moved, with_session, same_session}
 use Rattle.spec_sim.specs.ControlPlanes.{ControlPlane, Step, in_cluster, handle, works, tick, opened, client, after_request, handle_in, step_in, step, run}
 use Rattle.spec_sim.specs.Managers.{Manager, Issued, act}
 use Rattle.spec_sim.specs.Turns.{Sight, looked, satisfied}

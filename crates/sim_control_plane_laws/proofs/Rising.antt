@@ -6,7 +6,8 @@ use Rattle.spec_api.specs.Verbs.{accept, history_after}
 use Rattle.spec_sim.specs.Clusters.{Cluster, history, follower, request, compact, moves, restart}
 use Rattle.spec_sim.specs.Followers.{Follower, Notification}
 use Rattle.sim_cluster_laws.specs.ClusterLaws.{IsFollowed}
-use Rattle.sim_cluster_laws.proofs.Runs.{rise_all, with_moved, with_session}
+use Rattle.sim_cluster_laws.proofs.Runs.{rise_all}
+use Rattle.spec_sim.proofs.ClusterFollowers.{with_moved, with_session}
 use Rattle.spec_sim.specs.ControlPlanes.{ControlPlane, Step, in_cluster, handle, works, tick, opened, client, after_request, handle_in, step_in, step, run}
 use Rattle.spec_sim.specs.Managers.{act}
 use Rattle.sim_worker_laws.specs.OwedLaws.{NoRestart}

@@ -5,7 +5,6 @@ use crate::told_outcomes::{ToldOutcome, key_copy};
 use reconcile_turn::{Expected, Turn};
 use sim_cluster::Cluster;
 use sim_steps::Action;
-use sim_worker_slots::is_next;
 use std::alloc::{AllocError, Global};
 
 impl Manager {
@@ -92,12 +91,9 @@ impl Manager {
         ensures told { IfOk result (λ t. outcome_of t.outcome ≡ (act (client_of cluster.now) worker managers.finish self.old).outcome) }
         ensures err { OnErr result (self.new ≡ self.old) }
     {
-        let Some(turn) = self.turns.get(worker) else {
+        let Some(turn) = self.turns.turn_before(worker, Action::Finish) else {
             return ToldOutcome::of(alloc, WorkOutcome::NoStep);
         };
-        if !is_next(turn, Action::Finish) {
-            return ToldOutcome::of(alloc, WorkOutcome::NoStep);
-        }
         let is_accepted = turn.is_accepted();
         let told = ToldOutcome::of(
             alloc,

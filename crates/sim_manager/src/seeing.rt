@@ -12,7 +12,6 @@ use object_keys::Key;
 use reconcile_turn::{NextStep, Sight};
 use sim_cluster::Cluster;
 use sim_steps::Action;
-use sim_worker_slots::is_next;
 use spec_api::kinds::Kind;
 use std::alloc::{AllocError, Global};
 
@@ -56,12 +55,9 @@ impl Manager {
         ensures told { IfOk result (λ t. outcome_of t.outcome ≡ (act (client_of cluster.now) worker (managers.look kind) self.old).outcome) }
         ensures err { OnErr result (self.new ≡ self.old) }
     {
-        let Some(turn) = self.turns.get(worker) else {
+        let Some(turn) = self.turns.turn_before(worker, Action::Look(kind)) else {
             return ToldOutcome::of(alloc, WorkOutcome::NoStep);
         };
-        if !is_next(turn, Action::Look(kind)) {
-            return ToldOutcome::of(alloc, WorkOutcome::NoStep);
-        }
         let published = cluster.published(kind);
         let told = ToldOutcome::of(
             alloc,
@@ -88,12 +84,9 @@ impl Manager {
         ensures told { IfOk result (λ t. outcome_of t.outcome ≡ (act (client_of cluster.now) worker managers.ask_satisfied self.old).outcome) }
         ensures err { OnErr result (self.new ≡ self.old) }
     {
-        let Some(turn) = self.turns.get(worker) else {
+        let Some(turn) = self.turns.turn_before(worker, Action::AskSatisfied) else {
             return ToldOutcome::of(alloc, WorkOutcome::NoStep);
         };
-        if !is_next(turn, Action::AskSatisfied) {
-            return ToldOutcome::of(alloc, WorkOutcome::NoStep);
-        }
         let key = turn.key().key.try_copy()?;
         let owner = turn.owner(alloc)?;
         let is_satisfied = match &owner {

@@ -1,4 +1,3 @@
-pub mod Cuts
 pub mod Digits
 pub mod ByWords
 pub mod Following

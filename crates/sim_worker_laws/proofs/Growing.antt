@@ -22,7 +22,7 @@ use Rattle.spec_sim.specs.ControlPlanes.{ControlPlane, Step, in_cluster, handle,
 use Rattle.spec_sim.specs.Managers.{act}
 use Rattle.sim_worker_laws.specs.IssuedLaws.{WasThere}
 use Rattle.sim_worker_laws.proofs.Counting.{by_counted, by_tick}
-use Rattle.sim_worker_laws.proofs.Moved.{same_session}
+use Rattle.spec_sim.proofs.ClusterFollowers.{same_session}
 
 -- ---- the server
 

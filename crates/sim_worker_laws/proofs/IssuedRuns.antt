@@ -20,7 +20,8 @@ use Rattle.sim_worker_laws.proofs.Acting.{by_act}
 use Rattle.sim_worker_laws.proofs.Counting.{by_counted, by_tick}
 use Rattle.sim_worker_laws.proofs.Following.{AllFollow, act_follows, all_more, none_begun, none_restarted}
 use Rattle.sim_worker_laws.proofs.Growing.{step_begins, there_still}
-use Rattle.sim_worker_laws.proofs.Moved.{by_move, with_session, with_moved}
+use Rattle.sim_worker_laws.proofs.Moved.{by_move}
+use Rattle.spec_sim.proofs.ClusterFollowers.{with_session, with_moved}
 
 -- ---- where a worker is in its turn, a list of each kind was published
 

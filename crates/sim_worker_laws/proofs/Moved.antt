@@ -1,15 +1,12 @@
 -- What holds of a follower after each move, by what the move can make of it.
 use Rattle.std.proofs.Common.{◌≡◌, ◌==◌, ℕ, List, [], ◌∷◌, Bool, true, false, cond, Option, Some, None, Result, Ok, Err, length, map, take, drop, refl}
 use Rattle.spec_api.specs.declared.kinds.Kind.{Kind}
-use Rattle.spec_api.specs.declared.kinds.Kind.TheVariants.{ConfigMap, Pod, ReplicaSet, Deployment}
 use Rattle.spec_api.specs.Refusals.{Refusal}
-use Rattle.spec_api.specs.Replies.{Session}
 use Rattle.spec_api.specs.Streams.{Line, event, bookmark}
 use Rattle.spec_api.specs.Versions.{Watched}
 use Rattle.spec_client_go.specs.declared.reflectors.Phase.{Phase}
 use Rattle.spec_client_go.specs.declared.reflectors.Phase.TheVariants.{Listing, Streaming, Watching}
 use Rattle.spec_client_go.specs.Reflectors.{Listed, Fed, fed}
-use Rattle.spec_sim.specs.Clusters.{Cluster, follower, with_follower}
 use Rattle.spec_sim.specs.Followers.{Link, Follower, streaming_at, after_list, after_open, after_expiry, after_bytes, after_cut, after_publishing}
 use Rattle.spec_sim.specs.Moves as moving
 use Rattle.spec_sim.specs.Moves.{Moved, Answers, Move, list_in, take_list, listed_of, watch_in, open_by, stream_in, after_lines, after_refusal, after_initial, with_link, write_changes, send_next, send_on, write_bookmark, bookmark_next, bookmark_on, deliver_from, deliver_on, deliver_all_on, cut_on, left_open, publish_now, closed, move_by}
@@ -100,35 +97,3 @@ module _ (P : Moved → Type 0) (k : Kind) (a : Answers) (f : Follower) (same : 
 pub by_move : (P : Follower → Type 0) (f : Follower) → P f → ((l : Listed) → P (after_list l f)) → P (after_open f) → P (after_expiry f) → ((l : Link) → P (with_link l f)) → ((r : Fed) (l : Option Link) → P (after_bytes r l f)) → P (after_cut f) → P (after_publishing f)
     → (k : Kind) (a : Answers) (m : Move) → P (move_by k a f m).follower
 by_move P f same list opens expires links takes cuts publishes k a m = by_moved (λ (x : Moved). P x.follower) k a f same list opens (λ l r. links l) expires (λ l n. links l) takes cuts publishes m
-
--- ---- the followers of a cluster
-
-pub with_session : (P : Kind → Follower → Type 0) (c : Cluster) (s : Session) → ((k : Kind) → P k (follower k c)) → (k : Kind) → P k (follower k (record c { session = s }))
-with_session P c s p ConfigMap = p ConfigMap
-with_session P c s p Pod = p Pod
-with_session P c s p ReplicaSet = p ReplicaSet
-with_session P c s p Deployment = p Deployment
-
-pub with_moved : (P : Kind → Follower → Type 0) (c : Cluster) (k : Kind) (f : Follower) → P k f → ((j : Kind) → P j (follower j c)) → (j : Kind) → P j (follower j (with_follower k f c))
-with_moved P c ConfigMap f q p ConfigMap = q
-with_moved P c ConfigMap f q p Pod = p Pod
-with_moved P c ConfigMap f q p ReplicaSet = p ReplicaSet
-with_moved P c ConfigMap f q p Deployment = p Deployment
-with_moved P c Pod f q p ConfigMap = p ConfigMap
-with_moved P c Pod f q p Pod = q
-with_moved P c Pod f q p ReplicaSet = p ReplicaSet
-with_moved P c Pod f q p Deployment = p Deployment
-with_moved P c ReplicaSet f q p ConfigMap = p ConfigMap
-with_moved P c ReplicaSet f q p Pod = p Pod
-with_moved P c ReplicaSet f q p ReplicaSet = q
-with_moved P c ReplicaSet f q p Deployment = p Deployment
-with_moved P c Deployment f q p ConfigMap = p ConfigMap
-with_moved P c Deployment f q p Pod = p Pod
-with_moved P c Deployment f q p ReplicaSet = p ReplicaSet
-with_moved P c Deployment f q p Deployment = q
-
-pub same_session : (c : Cluster) (k : Kind) (f : Follower) → (with_follower k f c).session ≡ c.session
-same_session c ConfigMap f = refl
-same_session c Pod f = refl
-same_session c ReplicaSet f = refl
-same_session c Deployment f = refl

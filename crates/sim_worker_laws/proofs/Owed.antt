@@ -19,7 +19,8 @@ use Rattle.spec_sim.specs.Outcomes.{Outcome}
 use Rattle.sim_worker_laws.specs.OwedLaws.{IsAmong, unhandled, published, NoRestart, tells_taken, was_taken, is_dirty, IsKept, waits, was_handled, NothingIsForgotten}
 use Rattle.sim_worker_laws.proofs.Counting.{by_counted, by_tick}
 use Rattle.sim_worker_laws.proofs.Dirty.{or_false, or_right, dirty-all, shut-all, all-dirty, act-dirty, act-open}
-use Rattle.sim_worker_laws.proofs.Moved.{by_move, with_session, with_moved}
+use Rattle.sim_worker_laws.proofs.Moved.{by_move}
+use Rattle.spec_sim.proofs.ClusterFollowers.{with_session, with_moved}
 
 -- ---- nobody shuts the queue
 

@@ -1,5 +1,6 @@
 -- The turns of workers, each in its slot.
 use Rattle.std.specs.Prelude.{ℕ, List, Bool, true, false, Option, Some, None, option_map, slice_get, slice_set}
+use Rattle.spec_sim.specs.Managers.{Action, is_for}
 use Rattle.spec_sim.specs.NextSteps.{NextStep, next}
 use Rattle.spec_sim.specs.Turns.{Turn}
 
@@ -26,6 +27,11 @@ turn_of w ts = in_slot (slice_get ts w)
 -- the next step of a turn, if there is one
 abbrev pub next_in : Option Turn → Option NextStep
 next_in t = option_map next t
+
+-- whether an action is the step that comes next in a turn, if there is one
+abbrev pub comes_next : Action → Option Turn → Bool
+comes_next a None = false
+comes_next a (Some t) = is_for a (next t)
 
 -- the turns once a worker's turn has gone on
 abbrev pub gone_on : (Turn → Turn) → ℕ → Slots → Slots

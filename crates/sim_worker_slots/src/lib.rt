@@ -9,9 +9,8 @@ pub mod copies;
 pub mod issued;
 pub mod lines;
 pub mod slots;
-pub mod steps_next;
+mod steps_next;
 mod words;
 
 pub use issued::Issued;
 pub use slots::Slots;
-pub use steps_next::is_next;

@@ -4,8 +4,10 @@ ghost use Rattle.spec_sim.specs.Turns.{with_expected, with_sight};
 ghost use Rattle.sim_worker_slots.specs.Slots.{next_in};
 ghost use Rattle.reconcile_turn.specs.Seen.{sight_of, step_of, key_read, found_under};
 
+use crate::steps_next::is_next;
 use meta::Object;
 use reconcile_turn::{Sight, Turn};
+use sim_steps::Action;
 use std::alloc::{AllocError, Global};
 use std::marker::Model;
 
@@ -27,9 +29,10 @@ impl Model for Slots {
 }
 
 impl Slots {
-    ghost use Rattle.std.specs.Prelude.{◌≡◌, ◌<◌, true, IfOk, OnOk, OnErr, Some, None, length, map, option_map, option_and_then, is_some, replicate, slice_set};
+    ghost use Rattle.std.specs.Prelude.{◌≡◌, ◌<◌, true, IfOk, IfSome, OnOk, OnErr, Some, None, length, map, option_map, option_and_then, is_some, replicate, slice_set};
     ghost use Rattle.spec_sim.specs.Turns.{with_expected, with_sight};
-    ghost use Rattle.sim_worker_slots.specs.Slots.{is_idle, turn_of, next_in, gone_on};
+    ghost use Rattle.sim_steps.specs.Actions.{action_of};
+    ghost use Rattle.sim_worker_slots.specs.Slots.{is_idle, turn_of, comes_next, next_in, gone_on};
     ghost use Rattle.reconcile_turn.specs.Seen.{sight_of, step_of, key_read, found_under};
 
     /// Returns the slots of so many workers, none of which is in a turn. The error is running out of memory.
@@ -67,6 +70,23 @@ impl Slots {
         match self.turns.get(worker as usize) {
             Some(Some(turn)) => Some(turn),
             _ => None,
+        }
+    }
+
+    /// Returns the turn that a worker is in, if it is in one in which this action comes next. It takes no memory.
+    pub fn turn_before(&self, worker: u64, action: Action) -> Option<&Turn>
+        ensures comes { is_some result ≡ comes_next (action_of action) (turn_of worker self.now) }
+        ensures turn { IfSome result (λ t. turn_of worker self.now ≡ Some t.now) }
+    {
+        match self.get(worker) {
+            Some(turn) => {
+                if is_next(turn, action) {
+                    Some(turn)
+                } else {
+                    None
+                }
+            }
+            None => None,
         }
     }
 

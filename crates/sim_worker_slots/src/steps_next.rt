@@ -8,7 +8,7 @@ use reconcile_turn::{NextStep, Turn};
 use sim_steps::Action;
 
 /// Returns whether an action is the step that comes next in a turn. It takes no memory.
-pub fn is_next(turn: &Turn, action: Action) -> bool
+pub(crate) fn is_next(turn: &Turn, action: Action) -> bool
     ensures { result ≡ is_for (action_of action) (next turn.now) }
 {
     match (turn.next(), action) {

@@ -13,10 +13,10 @@ use std::marker::Model;
 /// the members after that place, in the order of keys.
 #[derive(Drop)]
 pub struct PageSnapshot {
-    objects: SharedMap<Key, StoredObject>,
-    view: View,
+    pub(crate) objects: SharedMap<Key, StoredObject>,
+    pub(crate) view: View,
     /// A key of the place.
-    after: Option<Key>,
+    pub(crate) after: Option<Key>,
 }
 
 impl Model for PageSnapshot {
@@ -44,32 +44,8 @@ impl Model for PageSnapshot {
 
 impl PageSnapshot {
     ghost use Rattle.std.specs.Prelude.{◌≡◌, None, IfOk};
-    ghost use Rattle.spec_api.specs.History.{viewed};
-    ghost use Rattle.spec_api.specs.Pages.{after_place};
     ghost use Rattle.selector.specs.Views.{view_of};
-    ghost use Rattle.store.specs.Chunks.{after_key, IsPage};
-    ghost use Rattle.store.specs.Seen.{members_seen};
-
-    /// Returns what a view shows of objects after the place of a key, or at all. The error is running out of memory.
-    pub(crate) fn of(
-        alloc: Global,
-        objects: &SharedMap<Key, StoredObject>,
-        view: &View,
-        after: Option<Key>,
-    ) -> Result<PageSnapshot, AllocError>
-        ensures { IfOk result (λ s. s ≡ record {
-          view = view_of view.now;
-          members = after_place (after_key after) (viewed (view_of view.now) (members_seen objects.now));
-        }) }
-    {
-        // Its length says that a map is in order.
-        let _len = objects.len();
-        Ok(PageSnapshot {
-            objects: objects.try_copy()?,
-            view: view.try_copy(alloc)?,
-            after,
-        })
-    }
+    ghost use Rattle.store.specs.Chunks.{IsPage};
 
     /// Returns the view.
     pub fn view(&self) -> &View

@@ -1,13 +1,14 @@
 //! All that is there, with one revision over all kinds: how it is written, found and listed.
 use crate::chunks::{Chunk, first_members, remaining};
+use crate::limits::MOST_OBJECTS;
 use crate::objects::take;
-use crate::page_snapshots::PageSnapshot;
+use crate::past_snapshots::PastSnapshot;
 use crate::ranges::asked;
 use crate::snapshots::ViewSnapshot;
 use meta::lent_members::Member;
 use meta::stored::StoredObject;
 use meta::writes::Write;
-use metadata_values::{GREATEST_REVISION, MOST_OBJECTS};
+use metadata_values::GREATEST_REVISION;
 use object_keys::{Fault, Key};
 use selector::View;
 use shared_map::SharedMap;
@@ -49,7 +50,6 @@ impl Store {
     ghost use Rattle.object_keys.specs.declared.fault.Fault.TheVariants as fault;
     ghost use Rattle.selector.specs.Views.{view_of};
     ghost use Rattle.spec_api.specs.History.{found, viewed};
-    ghost use Rattle.spec_api.specs.Pages.{after_place};
     ghost use Rattle.spec_api.specs.Revisions.{greatest_revision};
     ghost use Rattle.spec_server.specs.Snapshots.{empty, written};
     ghost use Rattle.spec_api.specs.Verbs.{most_objects, overflows};
@@ -141,20 +141,15 @@ impl Store {
         ViewSnapshot::of(alloc, &self.objects, view)
     }
 
-    /// Returns what a view shows after the place of a key, or at all, to be cut into a page later, whatever is written meanwhile. It costs a
-    /// count for each few objects that there are. The error is running out of memory.
-    pub fn page_snapshot(
-        &self,
-        alloc: Global,
-        view: &View,
-        after: Option<Key>,
-    ) -> Result<PageSnapshot, AllocError>
+    /// Returns what a view shows, into which what was there earlier can be put back, whatever is written meanwhile. It costs a count for each
+    /// few objects that there are. The error is running out of memory.
+    pub fn past_snapshot(&self, alloc: Global, view: &View) -> Result<PastSnapshot, AllocError>
         ensures { IfOk result (λ s. s ≡ record {
           view = view_of view.now;
-          members = after_place (after_key after) (viewed (view_of view.now) self.now.members);
+          members = viewed (view_of view.now) self.now.members;
         }) }
     {
-        PageSnapshot::of(alloc, &self.objects, view, after)
+        PastSnapshot::of(alloc, &self.objects, view)
     }
 
     /// Returns a chunk of the list of a view: at most `limit` objects, or all if it is 0, after the place of a key, or the

@@ -5,6 +5,7 @@ use std::alloc::Global;
 use std::io;
 use std::io::{BufReader, ErrorKind};
 use std::net::{Net, TcpStream, ToSocketAddrs};
+use std::time::Duration;
 
 /// Connects to a server over TCP, again for each request. Where a host's name has several addresses, they are tried in turn.
 #[derive(Drop)]
@@ -46,6 +47,15 @@ impl<R: Net<Stream = TcpStream>, A: ToSocketAddrs> TcpConnect<'_, R, A> {
         }
         Err(last)
     }
+
+    /// Returns a new connection, whose reads wait so long for a byte.
+    pub(crate) fn open(&self, read: Duration) -> io::Result<TcpStream> {
+        let stream = self.reach()?;
+        stream.set_nodelay(true)?;
+        stream.set_read_timeout(Some(read))?;
+        stream.set_write_timeout(Some(self.limits.write))?;
+        Ok(stream)
+    }
 }
 
 impl<R: Net<Stream = TcpStream>, A: ToSocketAddrs> Connect for TcpConnect<'_, R, A> {
@@ -54,10 +64,7 @@ impl<R: Net<Stream = TcpStream>, A: ToSocketAddrs> Connect for TcpConnect<'_, R,
     type Writer = TcpStream;
 
     fn connect(&mut self) -> io::Result<(BufReader<TcpStream>, TcpStream)> {
-        let writer = self.reach()?;
-        writer.set_nodelay(true)?;
-        writer.set_read_timeout(Some(self.limits.read))?;
-        writer.set_write_timeout(Some(self.limits.write))?;
+        let writer = self.open(self.limits.read)?;
         let reader = BufReader::new(self.alloc, writer.try_clone()?)?;
         Ok((reader, writer))
     }

@@ -8,11 +8,13 @@
 pub mod connecting;
 pub mod patient;
 pub mod stoppable_clock;
+pub mod stoppable_connecting;
 pub mod time_limits;
 pub mod wall_clock;
 
 pub use connecting::TcpConnect;
 pub use patient::Patient;
 pub use stoppable_clock::StoppableClock;
+pub use stoppable_connecting::StoppableConnect;
 pub use time_limits::TimeLimits;
 pub use wall_clock::WallClock;

@@ -3,7 +3,7 @@ ghost use Rattle.std.specs.Prelude.{◌≡◌};
 ghost use Rattle.serde_json.specs.View.{view, members_view};
 ghost use Rattle.spec_api.specs.Checks.{text_is, are_labels};
 ghost use Rattle.spec_api.specs.Labels.{is_label_value};
-ghost use Rattle.selector_requirements.specs.Seen.{labels_in};
+ghost use Rattle.selector.specs.Seen.{labels_in};
 
 use metadata_values::{is_label_key, is_label_value};
 use serde_json::{Map, Value};

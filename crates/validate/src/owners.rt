@@ -7,7 +7,7 @@ ghost use Rattle.spec_api.specs.Checks.{is_not_empty, is_possible_uid, is_owner,
 ghost use Rattle.spec_api.specs.Metadata.{metadata, owners_in};
 ghost use Rattle.spec_api.specs.SelectorValues.{is_some_and};
 ghost use Rattle.meta.specs.Owners.{owner_of};
-ghost use Rattle.selector_requirements.specs.Seen.{now};
+ghost use Rattle.selector.specs.Seen.{now};
 
 use crate::uids::is_of_the_future;
 use meta::Object;

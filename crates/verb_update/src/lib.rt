@@ -1,5 +1,8 @@
-//! Objects in the place of others: updates and patches.
+//! Objects in the place of others: updates, merge patches, and updates of the status.
 #![tactic(auto)]
 
 pub mod patch;
+pub mod status;
 pub mod update;
+
+pub use status::update_status;

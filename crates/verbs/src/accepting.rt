@@ -16,7 +16,7 @@ use verb_create::create::create;
 use verb_delete::delete::delete;
 use verb_update::patch::patch;
 use verb_update::update::update;
-use verb_update_status::update_status;
+use verb_update::update_status;
 
 /// Returns the answer to a request over a store at a moment, with what it writes, or the refusal. It changes nothing itself:
 /// the write is the caller's to apply. `Fault::NoMemory` says that memory was wanted and refused.

@@ -54,16 +54,8 @@ drop_suc m [] c h = cc
 drop_suc zero (x ∷ xs) c h = let is : x ≡ c = cc in ap (λ z. change_seen z ∷ map change_seen xs) is
 drop_suc (suc m) (x ∷ xs) c h = drop_suc m xs c h
 
-take_suc : (m : ℕ) (cs : List Change) (c : Change) → slice_get cs m ≡ Some c → take (suc m) (map change_seen cs) ≡ take m (map change_seen cs) ++ change_seen c ∷ []
-take_suc m [] c h = cc
-take_suc zero (x ∷ xs) c h = let is : x ≡ c = cc in ap (λ z. change_seen z ∷ []) is
-take_suc (suc m) (x ∷ xs) c h = ap (λ z. change_seen x ∷ z) (take_suc m xs c h)
-
 pub drop_at : (m : ℕ) (cs : List Change) (c : Change) → slice_get cs m ≡ Some c → drop m (map change_seen cs) ≡ change_seen c ∷ drop (m + 1) (map change_seen cs)
 drop_at m cs c h = drop_suc m cs c h ∙ ap (λ i. change_seen c ∷ drop i (map change_seen cs)) (sym (next m))
-
-pub take_at : (m : ℕ) (cs : List Change) (c : Change) → slice_get cs m ≡ Some c → take (m + 1) (map change_seen cs) ≡ take m (map change_seen cs) ++ change_seen c ∷ []
-take_at m cs c h = ap (λ i. take i (map change_seen cs)) (next m) ∙ take_suc m cs c h
 
 -- ---- what a test at a place says
 

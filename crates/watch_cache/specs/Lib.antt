@@ -1,4 +1,2 @@
 pub mod Changes
-pub mod Earlier
-pub mod LentOlds
 pub mod Served

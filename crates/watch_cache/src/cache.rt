@@ -5,17 +5,14 @@ ghost use Rattle.spec_api.specs.Windows.{last_revision};
 ghost use Rattle.watch_cache.specs.Changes.{change_seen};
 
 use crate::changes::Change;
-use crate::earlier::olds_above;
-use crate::searching::{events_above, first_above};
-use crate::undoing::undone_to;
+use crate::copies::copies_above;
+use crate::searching::events_above;
 use circular_buffer::HeapCircularBuffer;
-use meta::{Member, StoredObject};
-use object_keys::{Fault, Key};
+use object_keys::Fault;
 use revisions::Event;
 use selector::View;
 use spec_api::kinds::Kind;
 use std::alloc::{AllocError, Global};
-use std::collections::BTreeMap;
 use std::marker::Model;
 
 /// The last changes of a kind, and the floor: the least revision from which they are served.
@@ -43,18 +40,12 @@ impl Model for Cache {
 }
 
 impl Cache {
-    ghost use Rattle.std.specs.Prelude.{◌≡◌, ◌==◌, ◌≤◌, ◌<◌, IfOk, length, map};
-    ghost use Rattle.std.specs.List.Sorted.{IsStrictlySortedBy};
-    ghost use Rattle.std.specs.Map.{keys_of};
-    ghost use Rattle.spec_api.specs.Keys.{key_cmp};
-    ghost use Rattle.spec_server.specs.Recorded.{above, opened, recorded, compacted_to, recorded_since, recorded_list};
+    ghost use Rattle.std.specs.Prelude.{◌≡◌, ◌≤◌, ◌<◌, IfOk, length, map};
+    ghost use Rattle.spec_server.specs.Recorded.{above, opened, recorded, compacted_to, recorded_since};
     ghost use Rattle.spec_api.specs.Windows.{last_revision, within};
-    ghost use Rattle.meta.specs.Members.{member_of};
     ghost use Rattle.selector.specs.Views.{view_of};
     ghost use Rattle.revisions.specs.Events.{event_seen};
     ghost use Rattle.watch_cache.specs.Changes.{change_seen};
-    ghost use Rattle.watch_cache.specs.Earlier.{firsts};
-    ghost use Rattle.watch_cache.specs.LentOlds.{olds_of};
     ghost use Rattle.watch_cache.specs.Served.{Serves};
 
     /// Returns a cache of a kind that records the last `window` changes and has none so far. The error is running out of
@@ -127,14 +118,6 @@ impl Cache {
         Ok(())
     }
 
-    /// Returns whether no recorded change has a revision above this one. Where that revision is served, what is there of
-    /// the kind is then what was there at it. It takes no memory.
-    pub fn is_unchanged_since(&self, revision: u64) -> bool
-        ensures { result ≡ (length (above revision self.now.kept) == 0) }
-    {
-        first_above(&self.changes, revision) == self.changes.len()
-    }
-
     /// Returns the first events of a view after a revision, in order, at most as many as are asked for. The errors are a
     /// revision below the floor, one above the present, and running out of memory.
     pub fn since(
@@ -152,39 +135,21 @@ impl Cache {
         Ok(events)
     }
 
-    /// Returns what was there at a revision under each key that was written since, in the order of keys: none is noted where
-    /// none was there. The errors are a revision below the floor, one above the present, and running out of memory.
-    pub fn earlier<'a>(
-        &'a self,
+    /// Returns copies of the changes after a revision, in their order: by undoing them, the newest first, what was there at it is made of what
+    /// is there. The errors are a revision below the floor, one above the present, and running out of memory. A revision that is refused takes
+    /// no memory.
+    pub fn changes_since(
+        &self,
         alloc: Global,
         present: u64,
         revision: u64,
-    ) -> Result<BTreeMap<&'a Key, Option<&'a StoredObject>>, Fault>
-        ensures { Serves (λ olds. olds_of olds.entries)
-            (within self.entry.now.floor present revision (firsts (above revision self.entry.now.kept))) result }
+    ) -> Result<Vec<Change>, Fault>
+        ensures { Serves (λ changes. map change_seen changes.items)
+            (within self.now.floor present revision (above revision self.now.kept)) result }
     {
         self.check(revision, present)?;
-        let olds = olds_above(alloc, &self.changes, revision)?;
-        Ok(olds)
-    }
-
-    /// Returns the members of a view at a revision, in the order of their keys: those that are listed at the present one, with
-    /// the later changes undone. The errors are a revision below the floor, one above the present, and running out of memory.
-    pub fn list_at<'a>(
-        &'a self,
-        alloc: Global,
-        listed: &[Member<'a>],
-        view: &View,
-        present: u64,
-        revision: u64,
-    ) -> Result<Vec<Member<'a>>, Fault>
-        requires { IsStrictlySortedBy key_cmp (keys_of (map member_of listed.now)) }
-        ensures { Serves (λ ms. map member_of ms.items)
-            (recorded_list self.entry.now present (map member_of listed.entry.now) (view_of view.entry.now) revision) result }
-    {
-        self.check(revision, present)?;
-        let members = undone_to(alloc, &self.changes, listed, view, revision)?;
-        Ok(members)
+        let changes = copies_above(alloc, &self.changes, revision)?;
+        Ok(changes)
     }
 }
 

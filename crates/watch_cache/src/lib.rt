@@ -1,12 +1,11 @@
-//! The last changes of one kind: from them watches are served, and lists of earlier revisions.
+//! The last changes of one kind: from them watches are served, and by undoing them lists of earlier revisions.
 #![tactic(auto)]
 
 mod cache;
 mod caches;
 pub mod changes;
-mod earlier;
+mod copies;
 mod searching;
-mod undoing;
 
 pub use cache::Cache;
 pub use caches::Caches;

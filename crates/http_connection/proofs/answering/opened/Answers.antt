@@ -1,4 +1,4 @@
-use Rattle.std.proofs.Common.{rules, Some, refl}
+use Rattle.std.proofs.Common.{rules, Some, refl, false}
 use Rattle.http_connection.specs.declared.watching.Watching.{Watching}
 use Rattle.http_connection.proofs.answering.opened.Goals as goal
 
@@ -13,6 +13,7 @@ returns c =
       taken = 0;
       rest = c.args.watch.opened.rest;
       pieces = 0;
+      is_paused = false;
       later = c.new.result;
     } in
     (w, refl, refl, refl, refl, refl, refl, refl, c.new.ensures.items, search rules)

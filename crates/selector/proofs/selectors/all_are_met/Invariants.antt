@@ -1,6 +1,6 @@
 use Rattle.std.proofs.Common.{◌≡◌, drop}
 use Rattle.spec_api.specs.Selectors.{meets_all}
-use Rattle.selector_requirements.specs.Seen.{requirements_of, labels_in}
+use Rattle.selector.specs.Seen.{requirements_of, labels_in}
 use Rattle.selector.proofs.selectors.all_are_met.Given as goal
 
 abbrev pub invariant-loop-requirement : goal.invariant-loop-requirement

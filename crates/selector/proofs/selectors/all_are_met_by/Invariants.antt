@@ -1,7 +1,7 @@
 use Rattle.std.proofs.Common.{◌≡◌, drop}
 use Rattle.spec_api.specs.Metadata.{labels_of}
 use Rattle.spec_api.specs.Selectors.{meets_all}
-use Rattle.selector_requirements.specs.Seen.{requirements_of}
+use Rattle.selector.specs.Seen.{requirements_of}
 use Rattle.selector.proofs.selectors.all_are_met_by.Given as goal
 
 abbrev pub invariant-loop-requirement : goal.invariant-loop-requirement

@@ -1,5 +1,5 @@
 use Rattle.std.proofs.Common.{◌≡◌, ◌++◌, drop}
-use Rattle.selector_requirements.specs.Seen.{requirements_of}
+use Rattle.selector.specs.Seen.{requirements_of}
 use Rattle.selector.proofs.selectors.copies.Given as goal
 
 -- the copies so far, and those of what is left, are all

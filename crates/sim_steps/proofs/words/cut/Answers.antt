@@ -1,5 +1,5 @@
 use Rattle.std.proofs.Common.{◌≡◌, ◌==◌, ◌<◌, length, take, drop, get_or, true, Some, sym, ap, ◌∙◌, rules}
-use Rattle.sim_steps.proofs.Cuts.{cut-here, cut-nowhere}
+use Rattle.spec_line_protocol.proofs.Cuts.{cut-here, cut-nowhere}
 use Rattle.sim_steps.proofs.words.cut.Goals as goal
 
 pub returns-then-byte-eq32 : goal.returns-then-byte-eq32

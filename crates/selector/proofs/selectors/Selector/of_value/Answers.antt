@@ -4,7 +4,7 @@ use Rattle.serde_json.specs.Written.{has_float}
 use Rattle.spec_api.specs.Reading.{fits, tidied}
 use Rattle.spec_api.specs.SelectorValues.{mistyped, unfit, requirements_in, selector_shape}
 use Rattle.spec_api.specs.Selectors.{Requirement}
-use Rattle.selector_requirements.specs.Seen.{requirements_of}
+use Rattle.selector.specs.Seen.{requirements_of}
 use Rattle.selector.proofs.selectors.Selector.of_value.Goals as goal
 
 said : (fractions shaped : Bool) (found : Option (List Requirement)) (rs : List Requirement) → (not fractions && shaped) ≡ true → found ≡ Some rs

@@ -1,0 +1,6 @@
+-- The definitions, in reading order.
+pub mod Kinds
+pub mod Owing
+pub mod Handled
+pub mod Reconciled
+pub mod Asked

@@ -1,0 +1,75 @@
+//! What most controllers ask of a server.
+ghost use Rattle.std.specs.Prelude.{◌≡◌, IfOk, IfErr, None, Ok};
+ghost use Rattle.keyed_board.specs.declared.outcome.Outcome.TheVariants.{Done, Failed};
+ghost use Rattle.object_keys.specs.Keys.{key_of};
+ghost use Rattle.request_parts.specs.Requests.{request_of};
+ghost use Rattle.controller_runtime.specs.Asked.{outcome_of, AsksOne, deletes};
+
+use api_client::Api;
+use http_client::Answer;
+use keyed_board::Outcome;
+use lifecycle::DeleteOptions;
+use meta::Object;
+use object_keys::Key;
+use request_parts::Request;
+use spec_api::kinds::Kind;
+use std::alloc::{AllocError, Global};
+
+/// Returns the key of the object of a kind that is called as another. The error is running out of memory.
+pub fn namesake(key: &Key, kind: Kind) -> Result<Key, AllocError>
+    ensures { IfOk result (λ k. key_of k ≡ record (key_of key.now) { kind = kind }) }
+{
+    let Key {
+        kind: _,
+        namespace,
+        name,
+    } = key.try_copy()?;
+    Ok(Key {
+        kind,
+        namespace,
+        name,
+    })
+}
+
+/// Returns the request that deletes an object, and none that has come to be called so since it was seen. The error is running out of memory.
+pub fn deletion(alloc: Global, key: Key, object: &Object) -> Result<Request, AllocError>
+    ensures { IfOk result (λ request. request_of request ≡ deletes (key_of key) object.now.value) }
+{
+    let uid = String::from_str(alloc, object.uid().unwrap_or(""))?;
+    let options = DeleteOptions {
+        uid: Some(uid),
+        version: None,
+        policy: None,
+    };
+    Ok(Request::Delete(key, options))
+}
+
+/// Returns how it went with a key, by what became of the request for it: done where the server did it.
+fn outcome_of(answer: &Answer) -> Outcome
+    ensures { result ≡ outcome_of answer.now }
+{
+    match answer {
+        Answer::Replied(reply) => {
+            if reply.code < 300 {
+                Outcome::Done
+            } else {
+                Outcome::Failed
+            }
+        }
+        Answer::NotSent | Answer::Lost => Outcome::Failed,
+    }
+}
+
+/// Asks what is to be asked for a key, if something is, and returns how it went: done where nothing is, or where the server did it; failed where it
+/// refused, as at a conflict, where nothing came back, and where memory ran out.
+pub fn ask<A: Api>(alloc: Global, api: &mut A, next: Result<Option<Request>, AllocError>) -> Outcome
+    ensures nothing { next ≡ Ok None → result ≡ Done }
+    ensures err { IfErr next (λ e. result ≡ Failed) }
+    ensures asked { IfOk next (AsksOne A.answers api.old api.new result) }
+{
+    match next {
+        Ok(Some(request)) => outcome_of(&api.call(alloc, &request)),
+        Ok(None) => Outcome::Done,
+        Err(_) => Outcome::Failed,
+    }
+}

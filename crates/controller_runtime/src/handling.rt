@@ -1,0 +1,120 @@
+//! Published changes, handled.
+ghost use Rattle.std.specs.Prelude.{◌≡◌, IfOk, map};
+ghost use Rattle.indexer.specs.Shifted.{shift_of};
+ghost use Rattle.shared_keyed_board.specs.Passes.{IsPassAt};
+ghost use Rattle.controller_runtime.specs.Owing.{AreOwed};
+ghost use Rattle.controller_runtime.specs.Handled.{is_other};
+
+use crate::reconciler::Reconciler;
+use crate::under_way::UnderWay;
+use indexer::{Indexed, Shift};
+use keyed_queues::Named;
+use list_and_watch::{Onward, Sink, shows_other_server};
+use shared_keyed_board::{BoardPass, SharedKeyedBoard};
+use std::alloc::{AllocError, Global};
+use std::sync::Wait;
+
+/// What handles the changes that an informer publishes: each key that they owe is added to the board. Where they are another server's, the run is
+/// over.
+#[derive(Drop)]
+pub(crate) struct ChangeHandler<'a, R, C, K: Named> {
+    pub(crate) rt: &'a R,
+    pub(crate) alloc: Global,
+    pub(crate) controller: &'a C,
+    pub(crate) board: &'a SharedKeyedBoard<K>,
+    pub(crate) pass: BoardPass<K>,
+    pub(crate) under_way: &'a UnderWay,
+    /// The revision that was published last.
+    pub(crate) revision: u64,
+    ghost sits: { IsPassAt board.now pass },
+}
+
+/// Returns the keys that changes owe, those of each change after those of the ones before it. The error is running out of memory.
+fn owed<K: Named, C: Reconciler<K>>(
+    alloc: Global,
+    controller: &C,
+    changes: &[Shift],
+) -> Result<Vec<K>, AllocError>
+    ensures { IfOk result (λ keys. AreOwed C.owes (map shift_of changes.now) keys.items) }
+{
+    let mut keys = Vec::new(alloc);
+    for change in changes {
+        let mut more = controller.keys_of(alloc, change)?;
+        keys.append(&mut more)?;
+    }
+    Ok(keys)
+}
+
+impl<'a, R, K: Named, C> ChangeHandler<'a, R, C, K> {
+    /// Returns what handles the changes of a kind of which nothing was published yet.
+    pub(crate) fn new(
+        rt: &'a R,
+        alloc: Global,
+        controller: &'a C,
+        board: &'a SharedKeyedBoard<K>,
+        pass: BoardPass<K>,
+        under_way: &'a UnderWay,
+    ) -> ChangeHandler<'a, R, C, K>
+        requires { IsPassAt board.now pass }
+        ensures { result.revision ≡ 0 }
+    {
+        ChangeHandler {
+            rt,
+            alloc,
+            controller,
+            board,
+            pass,
+            under_way,
+            revision: 0,
+        }
+    }
+
+    /// Returns whether what is published is another server's: it is older than what was published before, or its changes show so.
+    fn is_other(&self, changes: &[Shift], objects: &Indexed) -> bool
+        ensures { result ≡ is_other self.now.revision objects.now (map shift_of changes.now) }
+    {
+        objects.revision() < self.revision || shows_other_server(changes)
+    }
+}
+
+impl<R: Wait, K: Named, C: Reconciler<K>> Sink for ChangeHandler<'_, R, C, K> {
+    ghost use Rattle.shared_keyed_board.specs.Passes.{sight};
+    ghost use Rattle.controller_runtime.specs.Handled.{Takes};
+
+    ghost takes = { λ before changes objects is_first after.
+        Takes K.order K.says C.owes before.revision changes objects (sight K.says before.pass) (sight K.says after.pass) after.revision };
+
+    /// Adds the keys that the changes of a publish owe, in one step. Where memory runs out none is added. Where the changes are another
+    /// server's, none is, and the run is over.
+    fn changed(
+        &mut self,
+        shifts: &[Shift],
+        objects: &Indexed,
+        is_first: bool,
+    ) -> Result<(), AllocError> {
+        if self.is_other(shifts, objects) {
+            self.under_way.note_lost();
+            return Ok(());
+        }
+        let keys = owed(self.alloc, self.controller, shifts)?;
+        self.board
+            .add_all(self.rt, &mut self.pass, keys.as_slice())?;
+        self.revision = objects.revision();
+        if is_first {
+            self.under_way.note_listed();
+        }
+        Ok(())
+    }
+
+    /// All that was queued is of a server that is there no more: so the run is over.
+    fn other_server(&mut self) {
+        self.under_way.note_lost();
+    }
+
+    fn goes_on(&mut self) -> Onward {
+        match self.under_way.check() {
+            Ok(()) => Onward::GoOn,
+            Err(_) => Onward::Stop,
+        }
+    }
+}

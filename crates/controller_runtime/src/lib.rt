@@ -1,0 +1,26 @@
+//! Controllers of one's own, after controller-runtime: what a controller says of itself, and what follows, queues, retries and stops for it.
+#![tactic(auto)]
+
+pub mod asking;
+pub mod followed;
+pub(crate) mod following;
+pub(crate) mod handling;
+pub(crate) mod means;
+pub(crate) mod members;
+pub mod programs;
+pub mod reconciler;
+pub mod running;
+pub(crate) mod signs;
+pub(crate) mod stopping;
+pub(crate) mod ticking;
+pub(crate) mod turning;
+pub(crate) mod under_way;
+pub(crate) mod working;
+
+pub use asking::{ask, deletion, namesake};
+pub use followed::Followed;
+pub use keyed_board::Outcome;
+pub use programs::{Watch, run_at, stop_at_end_of_input};
+pub use reconcile_types::Looks;
+pub use reconciler::Reconciler;
+pub use running::{Ended, run_workers};

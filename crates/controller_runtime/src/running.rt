@@ -1,0 +1,316 @@
+//! All threads of a run.
+ghost use Rattle.std.specs.Prelude.{◌≡◌, ◌<◌, ◌≤◌, ◌+◌, ◌^◌, IfOk, OnOk, All, vec_len};
+ghost use Rattle.shared_keyed_board.specs.Passes.{IsNewAt};
+
+use crate::followed::{Followed, apis_of, kinds_in};
+use crate::following::KindFollower;
+use crate::handling::ChangeHandler;
+use crate::means::Means;
+use crate::members::RunThread;
+use crate::reconciler::Reconciler;
+use crate::stopping::Stopper;
+use crate::ticking::Ticker;
+use crate::under_way::UnderWay;
+use crate::working::Worker;
+use api_client::Api;
+use informer::{Informer, Listers, SharedInformer};
+use keyed_queues::Named;
+use list_and_watch::Follower;
+use reconcile_types::Looks;
+use shared_keyed_board::{BoardPass, SharedKeyedBoard};
+use spec_api::kinds::Kind;
+use std::alloc::{AllocError, Global};
+use std::sync::Wait;
+use std::thread::{Threads, for_each_mut};
+use std::time::Clock;
+use tcp_client::StoppableClock;
+use wakeups::Stop;
+
+/// Why a run ended.
+#[derive(Debug, Clone, Copy, PartialEq, Eq)]
+pub enum Ended {
+    /// It was to stop.
+    Stopped,
+    /// Another server answers than before: all that was queued is of one that is there no more. Who runs it again begins anew.
+    OtherServer,
+}
+
+/// How many threads there are beside the workers at most: one for each kind, the ticker, the stopper.
+const OTHER_THREADS: usize = 6;
+
+/// What all threads of a run share.
+#[derive(Drop)]
+struct Ground<'a, R, C, K: Named> {
+    rt: &'a R,
+    alloc: Global,
+    controller: &'a C,
+    board: &'a SharedKeyedBoard<K>,
+    under_way: &'a UnderWay,
+    stop: &'a Stop,
+}
+
+/// Returns an informer of each kind, with room for so many listers. The error is running out of memory.
+fn informers<R: Wait>(
+    rt: &R,
+    alloc: Global,
+    listers: usize,
+) -> Result<Looks<SharedInformer<'_, R>>, AllocError>
+    requires { (0 < listers) × (listers < 2 ^ 32) }
+{
+    Ok(Looks {
+        config_maps: SharedInformer::new(rt, Informer::open(alloc, listers)?),
+        pods: SharedInformer::new(rt, Informer::open(alloc, listers)?),
+        replica_sets: SharedInformer::new(rt, Informer::open(alloc, listers)?),
+        deployments: SharedInformer::new(rt, Informer::open(alloc, listers)?),
+    })
+}
+
+/// Returns the listers of a worker. The error is running out of memory.
+fn listers<R: Wait>(informers: &mut Looks<SharedInformer<'_, R>>) -> Result<Listers, AllocError> {
+    Ok(Listers::new(
+        informers.config_maps.lister()?,
+        informers.pods.lister()?,
+        informers.replica_sets.lister()?,
+        informers.deployments.lister()?,
+    ))
+}
+
+impl<'a, R: Threads + Wait + Clock + Sync, K: Named, C: Reconciler<K>> Ground<'a, R, C, K> {
+    /// Returns the last of the passes.
+    fn next_pass(&self, passes: &mut Vec<BoardPass<K>>) -> BoardPass<K>
+        requires new { All (IsNewAt self.now.board.now) passes.old.items }
+        requires some { 0 < vec_len passes.old }
+        ensures pass { IsNewAt self.now.board.now result }
+        ensures left { All (IsNewAt self.now.board.now) passes.new.items }
+        ensures count { vec_len passes.new + 1 ≡ vec_len passes.old }
+    {
+        let Some(pass) = passes.pop() else {
+            unreachable!()
+        };
+        pass
+    }
+
+    /// Returns what follows a kind.
+    fn follows<A: Api + Drop>(
+        &self,
+        kind: Kind,
+        pass: BoardPass<K>,
+        informer: SharedInformer<'a, R>,
+        api: A,
+    ) -> RunThread<'a, R, C, K, A>
+        requires { IsNewAt self.now.board.now pass }
+    {
+        let handler = ChangeHandler::new(
+            self.rt,
+            self.alloc,
+            self.controller,
+            self.board,
+            pass,
+            self.under_way,
+        );
+        RunThread::Follows(KindFollower {
+            alloc: self.alloc,
+            kind,
+            follower: Follower::streaming(self.alloc, kind, informer),
+            api,
+            handler,
+        })
+    }
+
+    /// Returns a worker.
+    fn works<A: Api + Drop>(
+        &self,
+        pass: BoardPass<K>,
+        listers: Listers,
+        api: A,
+    ) -> RunThread<'a, R, C, K, A>
+        requires { IsNewAt self.now.board.now pass }
+    {
+        let means = Means {
+            rt: self.rt,
+            alloc: self.alloc,
+            controller: self.controller,
+            under_way: self.under_way,
+            clock: StoppableClock::new(self.rt, &self.under_way.over),
+            listers,
+            api,
+        };
+        RunThread::Works(Worker::new(self.board, pass, means))
+    }
+
+    /// Returns what lets time pass.
+    fn ticks<A: Api + Drop>(&self, pass: BoardPass<K>) -> RunThread<'a, R, C, K, A>
+        requires { IsNewAt self.now.board.now pass }
+    {
+        RunThread::Ticks(Ticker::new(self.rt, self.board, pass, self.under_way))
+    }
+
+    /// Returns what ends the run at a stop.
+    fn stops<A: Api + Drop>(&self, pass: BoardPass<K>) -> RunThread<'a, R, C, K, A>
+        requires { IsNewAt self.now.board.now pass }
+    {
+        RunThread::Stops(Stopper::new(self.rt, self.board, pass, self.under_way, self.stop))
+    }
+
+    /// Adds what follows a kind, if it is followed. The informer of one that is not comes back. The error is running out of memory.
+    fn add_follower<A: Api + Drop>(
+        &self,
+        threads: &mut Vec<RunThread<'a, R, C, K, A>>,
+        pass: BoardPass<K>,
+        kind: Kind,
+        informer: SharedInformer<'a, R>,
+        api: Option<A>,
+    ) -> Result<Option<SharedInformer<'a, R>>, AllocError>
+        requires { IsNewAt self.now.board.now pass }
+    {
+        match api {
+            Some(api) => {
+                threads.push(self.follows(kind, pass, informer, api))?;
+                Ok(None)
+            }
+            None => Ok(Some(informer)),
+        }
+    }
+}
+
+/// Returns the workers, one for each way to ask. The error is running out of memory.
+fn workers<'a, R: Threads + Wait + Clock + Sync, K: Named, C: Reconciler<K>, A: Api + Drop>(
+    ground: &Ground<'a, R, C, K>,
+    passes: &mut Vec<BoardPass<K>>,
+    informers: &mut Looks<SharedInformer<'a, R>>,
+    apis: Vec<A>,
+) -> Result<Vec<RunThread<'a, R, C, K, A>>, AllocError>
+    requires passes { All (IsNewAt ground.now.board.now) passes.old.items }
+    requires enough { vec_len passes.old ≡ vec_len apis + 6 }
+    ensures passes { All (IsNewAt ground.now.board.now) passes.new.items }
+    ensures left { OnOk result (vec_len passes.new ≡ 6) }
+    ensures made { IfOk result (λ made. vec_len made ≡ vec_len apis) }
+{
+    let mut made = Vec::with_capacity(ground.alloc, apis.len())?;
+    let mut left = apis;
+    while let Some(api) = left.pop() {
+        let pass = ground.next_pass(passes);
+        made.push(ground.works(pass, listers(informers)?, api))?;
+    }
+    Ok(made)
+}
+
+/// The threads of a run, and the informers of the kinds that nobody follows: they stay open, and empty, until the run ends.
+#[derive(Drop)]
+struct Members<'a, R: Wait, C, K: Named, A: Drop> {
+    threads: Vec<RunThread<'a, R, C, K, A>>,
+    _empty: Looks<Option<SharedInformer<'a, R>>>,
+}
+
+/// Returns what each thread does. The error is running out of memory.
+fn all_members<'a, R: Threads + Wait + Clock + Sync, K: Named, C: Reconciler<K>, A: Api + Drop>(
+    ground: &Ground<'a, R, C, K>,
+    passes: Vec<BoardPass<K>>,
+    informers: Looks<SharedInformer<'a, R>>,
+    apis: Looks<Option<A>>,
+    asking: Vec<A>,
+) -> Result<Members<'a, R, C, K, A>, AllocError>
+    requires passes { All (IsNewAt ground.now.board.now) passes.items }
+    requires enough { vec_len passes ≡ vec_len asking + 6 }
+{
+    let (mut passes, mut informers) = (passes, informers);
+    let mut threads = workers(ground, &mut passes, &mut informers, asking)?;
+    threads.push(ground.ticks(ground.next_pass(&mut passes)))?;
+    threads.push(ground.stops(ground.next_pass(&mut passes)))?;
+    let empty = Looks {
+        config_maps: ground.add_follower(
+            &mut threads,
+            ground.next_pass(&mut passes),
+            Kind::ConfigMap,
+            informers.config_maps,
+            apis.config_maps,
+        )?,
+        pods: ground.add_follower(
+            &mut threads,
+            ground.next_pass(&mut passes),
+            Kind::Pod,
+            informers.pods,
+            apis.pods,
+        )?,
+        replica_sets: ground.add_follower(
+            &mut threads,
+            ground.next_pass(&mut passes),
+            Kind::ReplicaSet,
+            informers.replica_sets,
+            apis.replica_sets,
+        )?,
+        deployments: ground.add_follower(
+            &mut threads,
+            ground.next_pass(&mut passes),
+            Kind::Deployment,
+            informers.deployments,
+            apis.deployments,
+        )?,
+    };
+    Ok(Members {
+        threads,
+        _empty: empty,
+    })
+}
+
+/// Returns why a run has ended.
+fn end_of(under_way: &UnderWay) -> Ended {
+    if under_way.has_lost() {
+        Ended::OtherServer
+    } else {
+        Ended::Stopped
+    }
+}
+
+/// Runs a controller until it is to stop, or another server answers than before, and joins all threads: one for each kind that is followed, which
+/// adds the keys that its changes owe; the workers, one for each way to ask, which reconcile one key after another once each kind has been listed;
+/// one that lets time pass, for keys that are to be looked at again; and one that waits for the stop. A kind that is named twice is followed once,
+/// as it is first named.
+///
+/// A key is in one worker's hands at a time, and is queued once however often it is owed. One that is owed while it is in a worker's hands is
+/// reconciled again after it; one whose reconcile failed after 5 milliseconds, and twice as long after each failure that follows, up to 1,000
+/// seconds. No clause of this call says so, since its board is its own and a caller sees nothing of it: the clauses of what its threads do at the
+/// board say it (`ChangeHandler::changed`, `Means::turn`, `Ticker::tick`, `Stopper::run`), and the laws of `shared_keyed_board` what follows.
+///
+/// The error is running out of memory before a thread was started; where it runs out later, who needs it waits. No clause says that a thread starts
+/// or gets on.
+pub fn run_workers<R, K, C, A>(
+    rt: &R,
+    alloc: Global,
+    controller: &C,
+    followed: Vec<Followed<A>>,
+    asking: Vec<A>,
+    stop: &Stop,
+) -> Result<Ended, AllocError>
+where
+    R: Threads + Wait + Clock + Sync,
+    K: Named + Send,
+    C: Reconciler<K> + Sync,
+    A: Api + Send + Drop,
+    requires { vec_len asking < 2 ^ 16 }
+{
+    let count = asking.len();
+    let (board, passes) = SharedKeyedBoard::open(alloc, count + OTHER_THREADS)?;
+    let apis = apis_of(followed);
+    let under_way = UnderWay::new(kinds_in(&apis));
+    let ground = Ground {
+        rt,
+        alloc,
+        controller,
+        board: &board,
+        under_way: &under_way,
+        stop,
+    };
+    let informers = informers(rt, alloc, count + 1)?;
+    let mut members = all_members(&ground, passes, informers, apis, asking)?;
+    let at_once = members.threads.len().max(1);
+    for_each_mut(
+        rt,
+        members.threads.as_mut_slice(),
+        at_once,
+        &|_, thread| {
+            thread.run();
+        },
+    );
+    Ok(end_of(&under_way))
+}

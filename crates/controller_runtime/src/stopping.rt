@@ -1,0 +1,70 @@
+//! A stop, heeded at the board.
+ghost use Rattle.shared_keyed_board.specs.Passes.{IsPassAt};
+
+use crate::under_way::UnderWay;
+use keyed_queues::Named;
+use shared_keyed_board::{BoardPass, SharedKeyedBoard};
+use std::sync::Wait;
+use std::time::Clock;
+use wakeups::Stop;
+
+/// How many milliseconds it waits for a stop at a time: so soon it sees that the run has ended for another reason.
+const PIECE_MILLISECONDS: u64 = 250;
+
+/// What ends a run once it is to stop, and shuts its board down, so that workers that wait for a key end.
+#[derive(Drop)]
+pub(crate) struct Stopper<'a, R, K: Named> {
+    pub(crate) rt: &'a R,
+    pub(crate) board: &'a SharedKeyedBoard<K>,
+    pub(crate) pass: BoardPass<K>,
+    pub(crate) under_way: &'a UnderWay,
+    /// Tells the run to stop.
+    pub(crate) stop: &'a Stop,
+    ghost sits: { IsPassAt board.now pass },
+}
+
+impl<'a, R: Wait + Clock, K: Named> Stopper<'a, R, K> {
+    ghost use Rattle.std.specs.Prelude.{◌≡◌, ◌++◌, ◌∷◌, []};
+    ghost use Rattle.keyed_board.specs.Steps.{shut_down};
+    ghost use Rattle.shared_keyed_board.specs.Passes.{IsPassAt, sight};
+
+    /// Returns what ends a run at a stop.
+    pub(crate) fn new(
+        rt: &'a R,
+        board: &'a SharedKeyedBoard<K>,
+        pass: BoardPass<K>,
+        under_way: &'a UnderWay,
+        stop: &'a Stop,
+    ) -> Stopper<'a, R, K>
+        requires { IsPassAt board.now pass }
+    {
+        Stopper {
+            rt,
+            board,
+            pass,
+            under_way,
+            stop,
+        }
+    }
+
+    /// Waits until the run is to stop, or has ended.
+    fn await_end(&self) {
+        for _ in self.rt.forever() {
+            if self.under_way.check().is_err() {
+                return;
+            }
+            if self.stop.rest(self.rt, PIECE_MILLISECONDS) {
+                self.under_way.end();
+                return;
+            }
+        }
+    }
+
+    /// Waits for the end of the run, and shuts the board down.
+    pub(crate) fn run(&mut self)
+        ensures { (sight K.says self.new.pass).made ≡ (sight K.says self.old.pass).made ++ shut_down ∷ [] }
+    {
+        self.await_end();
+        self.board.shut_down(self.rt, &mut self.pass);
+    }
+}

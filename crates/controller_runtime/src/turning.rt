@@ -1,0 +1,55 @@
+//! A worker's turns, one after another.
+ghost use Rattle.std.specs.Prelude.{◌≡◌, None};
+ghost use Rattle.shared_keyed_board.specs.Passes.{IsNewAt, IsPassAt, key_in_hand};
+
+use crate::means::Means;
+use crate::reconciler::Reconciler;
+use crate::signs::{Listed, Over};
+use api_client::Api;
+use keyed_queues::Named;
+use shared_keyed_board::{BoardPass, SharedKeyedBoard};
+use std::sync::Wait;
+use std::time::Clock;
+
+/// Takes a key, and reconciles it, and returns whether more may come: none does once the board is shut down. It sleeps while no key waits.
+fn next<R: Wait + Clock, C: Reconciler<K>, K: Named, A: Api + Drop>(
+    board: &SharedKeyedBoard<K>,
+    pass: &mut BoardPass<K>,
+    means: &mut Means<'_, R, C, A>,
+) -> Result<bool, Over>
+    requires pass { IsPassAt board.now pass.old }
+    requires free { key_in_hand K.says pass.old ≡ None }
+    ensures pass { IsPassAt board.now pass.new }
+    ensures free { key_in_hand K.says pass.new ≡ None }
+{
+    match board.take(means.rt, pass) {
+        Ok(Some(hand)) => {
+            means.turn(board, pass, hand)?;
+            Ok(true)
+        }
+        Ok(None) => Ok(false),
+        Err(_) => {
+            means.rest()?;
+            Ok(true)
+        }
+    }
+}
+
+/// Takes one key after another until the board is shut down, and reconciles each, now that the first lists are published.
+pub(crate) fn work<R: Wait + Clock, C: Reconciler<K>, K: Named, A: Api + Drop>(
+    board: &SharedKeyedBoard<K>,
+    pass: BoardPass<K>,
+    means: &mut Means<'_, R, C, A>,
+    listed: &Listed,
+) -> Result<(), Over>
+    requires new { IsNewAt board.now pass }
+    requires listed { listed.now.kinds ≡ means.old.under_way.now.kinds }
+{
+    let mut pass = pass;
+    for _ in means.rt.forever() {
+        if !next(board, &mut pass, means)? {
+            return Ok(());
+        }
+    }
+    unreachable!()
+}

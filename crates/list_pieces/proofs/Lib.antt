@@ -1,3 +1,0 @@
-pub mod AddedItems
-pub mod LastMembers
-pub mod Pages

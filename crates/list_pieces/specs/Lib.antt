@@ -1,3 +1,0 @@
--- The definitions, in reading order.
-pub mod PageTexts
-pub mod ListTexts

@@ -1,0 +1,23 @@
+use Rattle.std.proofs.Common.{inr, sym, subst}
+use Rattle.spec_api.specs.Replacements.{with_status_in}
+use Rattle.spec_api.proofs.VerbSteps.{restate}
+use Rattle.object_keys.specs.Keys.{key_of}
+use Rattle.verb_parts.specs.Serves.{Serves}
+use Rattle.verb_parts.proofs.Replacing.{if_same-other, if_same-same}
+use Rattle.verb_update.proofs.status.restate_with.Goals as goal
+
+pub returns-in-Some : goal.returns-in-Some
+returns-in-Some c =
+    let k = key_of c.args.key in
+    let o = c.args.object.value in
+    let existing = c.args.existing.now.object.value in
+    inr (if_same-other k o existing (restate k existing (with_status_in k.kind existing o) c.args.before) c.mismatch.result c.in-Some.why c.mismatch.ensures c.in-Some.is)
+
+pub returns : goal.returns
+returns c =
+    let k = key_of c.args.key in
+    let o = c.args.object.value in
+    let existing = c.args.existing.now.object.value in
+    let same = if_same-same k o existing (restate k existing (with_status_in k.kind existing o) c.args.before) c.mismatch.result c.mismatch.ensures c.in-None.is in
+    subst (λ next. Serves next c.restate.result) (sym same)
+    (subst (λ d. Serves (restate k existing d c.args.before) c.restate.result) c.in_ok-object-in-None.ensures c.restate.ensures)
