@@ -7,8 +7,8 @@ use Rattle.std.specs.FinMap.{IsAntisymmetric}
 use Rattle.std.specs.List.{filter}
 use Rattle.std.specs.declared.cmp.Ordering.{Ordering}
 use Rattle.keyed_queues.specs.Delays.{KeyAlarm, AreAlarms, alarms, due, first_moment}
-use Rattle.keyed_queues.proofs.Due.{none_due_yet}
-use Rattle.keyed_queues.proofs.DueKeys.{are_alarms}
+use Rattle.spec_client_go.proofs.Due.{none_due_yet}
+use Rattle.spec_client_go.proofs.DueKeys.{are_alarms}
 use Rattle.keyed_board.specs.DueLaws.{IsUntilDue, DueIsTold}
 
 late : (at time passed ms : ℕ) → at - time ≡ ms → passed < ms → nat_le at (time + passed) ≡ false

@@ -20,8 +20,8 @@ use Rattle.keyed_queues.specs.declared.alarm.Alarm.{Alarm}
 use Rattle.keyed_queues.specs.Delays.{KeyDelays, KeyAlarm, AreAlarms, alarm_cmp, alarm_set, delayed, due, still_delayed}
 use Rattle.keyed_queues.specs.Numbers.{said}
 use Rattle.keyed_queues.specs.Said.{alarm_said}
-use Rattle.keyed_queues.proofs.Alarms.{alarm_total, alarm_tells, alarms_begun, alarms_hastened, no_alarms, same_tells}
-use Rattle.keyed_queues.proofs.Due.{rest_are, first_is, due_first, still_without}
+use Rattle.spec_client_go.proofs.Alarms.{alarm_total, alarm_tells, alarms_begun, alarms_hastened, no_alarms, same_tells}
+use Rattle.spec_client_go.proofs.Due.{rest_are, first_is, due_first, still_without}
 use Rattle.keyed_queues.proofs.SeenAlarms.{by_moment, alarms_alike, in_order_seen}
 
 -- the first of a list that has one

@@ -1,14 +1,10 @@
 pub mod Numbers
 pub mod Steps
 pub mod Undone
-pub mod Alarms
-pub mod Due
 pub mod SeenAlarms
 pub mod DelaySteps
 pub mod Counts
 pub mod Powers
-pub mod DueKeys
 pub mod FailureCounts
-pub mod QueueRuns
 pub mod WorkDelays
 pub mod WorkQueues

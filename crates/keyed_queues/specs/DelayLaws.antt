@@ -1,22 +1,10 @@
 -- Which delays of keys of any type are due, and which are left.
-use Rattle.std.specs.Prelude.{◌≡◌, ◌↔◌, ◌<◌, ◌≤◌, ℕ, List, Some, unwrap_or}
+use Rattle.std.specs.Prelude.{◌≡◌, ◌↔◌, ◌<◌, ℕ, List, Some}
 use Rattle.std.specs.FinMap as map
 use Rattle.std.specs.List.{Contains}
-use Rattle.std.specs.List.Sorted.{IsStrictlySortedBy}
 use Rattle.std.specs.declared.cmp.Ordering.{Ordering}
-use Rattle.keyed_queues.specs.Delays.{KeyDelays, KeyAlarm, alarm_cmp, due, still_delayed}
-
--- a key that is delayed to a moment that has come
-abbrev pub IsDue : {N : Type 0} {R : N → N → Ordering} → ℕ → KeyDelays R → N → Type 0
-IsDue now m k = (at : ℕ) × (map.get m k ≡ Some at) × (at ≤ now)
-
--- the moment to which a key is delayed, and the key
-abbrev pub alarm_at : {N : Type 0} {R : N → N → Ordering} → KeyDelays R → N → KeyAlarm N
-alarm_at m k = record { at = unwrap_or (map.get m k) 0; key = k }
-
--- by moment, and keys of one moment in the order of keys, each key once
-abbrev pub AreInTurn : {N : Type 0} {R : N → N → Ordering} → KeyDelays R → List N → Type 0
-AreInTurn {R = R} m ks = IsStrictlySortedBy (λ j k. alarm_cmp R (alarm_at m j) (alarm_at m k)) ks
+use Rattle.keyed_queues.specs.Delays.{KeyDelays, due, still_delayed}
+pub use Rattle.spec_client_go.specs.KeyDelays.{IsDue, alarm_at, AreInTurn}
 
 -- the keys that are due are those whose moment has come, and no others
 abbrev pub DueHaveCome : {N : Type 0} → (N → N → Ordering) → Type 0

@@ -1,17 +1,14 @@
 -- Queues, delays and failures of work keys.
 use Rattle.std.specs.Prelude.{◌≡◌, ℕ, List, [], ◌∷◌}
 use Rattle.spec_client_go.specs.WorkQueues as works
-use Rattle.spec_client_go.specs.WorkQueues.{WorkKey, work_key_cmp, WorkQueue, Call, add, get, finish, shut_down}
+use Rattle.spec_client_go.specs.WorkQueues.{WorkKey, work_key_cmp, Call, add, get, finish, shut_down}
+pub use Rattle.spec_client_go.specs.KeyQueues.{work_queue}
 use Rattle.spec_client_go.specs.Delays as works_delays
 use Rattle.keyed_queues.specs.Queues.{KeyQueue, idle, added, got, done, shut, handed}
 use Rattle.keyed_queues.specs.Delays as keyed_delays
 use Rattle.keyed_queues.specs.Delays.{KeyDelays}
 use Rattle.keyed_queues.specs.Failures as keyed_failures
 use Rattle.keyed_queues.specs.Failures.{KeyFailures}
-
--- the work queue that a queue of work keys is
-abbrev pub work_queue : KeyQueue work_key_cmp → WorkQueue
-work_queue w = record { queue = w.queue; dirty = w.dirty; processing = w.processing; is_shut = w.is_shut }
 
 abbrev pub after : KeyQueue work_key_cmp → Call → KeyQueue work_key_cmp
 after w (add k) = added k w

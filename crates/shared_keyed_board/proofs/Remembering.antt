@@ -17,8 +17,8 @@ use Rattle.baton.specs.Marks.{CanHappen}
 use Rattle.keyed_queues.specs.Failures.{failures}
 use Rattle.keyed_queues.specs.Delays.{KeyDelays, delayed, due, still_delayed}
 use Rattle.keyed_queues.specs.QueueLaws as calls
-use Rattle.keyed_queues.proofs.DueKeys.{have_come, still_later}
-use Rattle.keyed_queues.proofs.QueueRuns.{wanted_is_served, added-wanted, wanted_is_somewhere}
+use Rattle.spec_client_go.proofs.DueKeys.{have_come, still_later}
+use Rattle.spec_client_go.proofs.KeyQueueRuns.{wanted_is_served, added-wanted, wanted_is_somewhere}
 use Rattle.keyed_queues.specs.Queues as queues
 use Rattle.keyed_queues.specs.Queues.{KeyQueue, added, added_all, got, handed}
 use Rattle.keyed_board.specs.Boards.{KeyBoard, moment_in}

@@ -10,7 +10,7 @@ use Rattle.baton.proofs.Entries.{made_here_one, made_else_one, made_none}
 use Rattle.keyed_queues.specs.Queues as queues
 use Rattle.keyed_queues.specs.Queues.{KeyQueue, added, added_all, got, got_from, handed, front}
 use Rattle.keyed_queues.specs.QueueLaws as calls
-use Rattle.keyed_queues.proofs.QueueRuns.{IsSound, after-sound, idle-sound, queued_is_free, front_is_queued}
+use Rattle.spec_client_go.proofs.KeyQueueRuns.{IsSound, after-sound, idle-sound, queued_is_free, front_is_queued}
 use Rattle.keyed_queues.specs.Delays.{due}
 use Rattle.keyed_board.specs.Boards.{KeyBoard, begun}
 use Rattle.keyed_board.specs.Steps.{Step, add, add_after, take, finish, tick, shut_down, after, after_all}

@@ -1,5 +1,9 @@
 pub mod WorkKeyOrder
 pub mod Alarms
 pub mod Due
+pub mod DueKeys
+pub mod KeyQueueRuns
+pub mod WorkQueues
+pub mod WorkDelays
 pub mod Expected
 pub mod KeysInHands

@@ -13,7 +13,7 @@ use Rattle.spec_client_go.specs.WorkQueues.{WorkKey, work_key_cmp}
 use Rattle.spec_client_go.specs.Delays.{Alarm, alarm_cmp, due, failures, delay_after, Delays, delayed, earlier}
 use Rattle.spec_examples.specs.WorkExamples.{work_key_x, work_key_y, work_key_d, failing, both_delayed, KeysWaitOnce, DelaysDouble, KeysComeDue, CreationsAreAwaited}
 use Rattle.spec_client_go.specs.Expectations.{Owner, Table, creations_expected, is_met, satisfied}
-use Rattle.spec_client_go.proofs.Alarms.{alarm_total}
+use Rattle.spec_client_go.proofs.WorkDelays.{alarm_total}
 use Rattle.spec_client_go.proofs.Expected.{get_put, expecting, after_one, after_both}
 use Rattle.spec_client_go.proofs.WorkKeyOrder.{work_key_total}
 

@@ -1,4 +1,4 @@
-use Rattle.keyed_queues.proofs.DueKeys.{in_turn}
+use Rattle.spec_client_go.proofs.DueKeys.{in_turn}
 use Rattle.keyed_queues.proofs.delay_laws.due_are_in_turn.Goals as goal
 
 pub returns : goal.returns

@@ -1,4 +1,4 @@
-use Rattle.keyed_queues.proofs.DueKeys.{only_list}
+use Rattle.spec_client_go.proofs.DueKeys.{only_list}
 use Rattle.keyed_queues.proofs.delay_laws.due_are_the_only_list.Goals as goal
 
 pub returns : goal.returns

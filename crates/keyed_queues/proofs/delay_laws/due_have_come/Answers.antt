@@ -1,4 +1,4 @@
-use Rattle.keyed_queues.proofs.DueKeys.{have_come}
+use Rattle.spec_client_go.proofs.DueKeys.{have_come}
 use Rattle.keyed_queues.proofs.delay_laws.due_have_come.Goals as goal
 
 pub returns : goal.returns

@@ -1,4 +1,4 @@
-use Rattle.keyed_queues.proofs.DueKeys.{still_later}
+use Rattle.spec_client_go.proofs.DueKeys.{still_later}
 use Rattle.keyed_queues.proofs.delay_laws.still_delayed_are_later.Goals as goal
 
 pub returns : goal.returns

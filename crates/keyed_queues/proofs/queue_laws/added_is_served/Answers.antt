@@ -1,6 +1,6 @@
 use Rattle.keyed_queues.specs.Queues.{added}
 use Rattle.keyed_queues.specs.QueueLaws.{made}
-use Rattle.keyed_queues.proofs.QueueRuns.{wanted_is_served, added-wanted}
+use Rattle.spec_client_go.proofs.KeyQueueRuns.{wanted_is_served, added-wanted}
 use Rattle.keyed_queues.proofs.queue_laws.added_is_served.Goals as goal
 
 pub returns : goal.returns

@@ -1,4 +1,4 @@
-use Rattle.keyed_queues.proofs.QueueRuns.{sound, queued_is_free, front_is_queued}
+use Rattle.spec_client_go.proofs.KeyQueueRuns.{sound, queued_is_free, front_is_queued}
 use Rattle.keyed_queues.proofs.queue_laws.hands_apart.Goals as goal
 
 pub returns : goal.returns

@@ -1,4 +1,4 @@
-use Rattle.keyed_queues.proofs.QueueRuns.{sound, wanted_is_somewhere}
+use Rattle.spec_client_go.proofs.KeyQueueRuns.{sound, wanted_is_somewhere}
 use Rattle.keyed_queues.proofs.queue_laws.nothing_is_lost.Goals as goal
 
 pub returns : goal.returns

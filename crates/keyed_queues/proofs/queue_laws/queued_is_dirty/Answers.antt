@@ -1,4 +1,4 @@
-use Rattle.keyed_queues.proofs.QueueRuns.{sound, queued_is_wanted}
+use Rattle.spec_client_go.proofs.KeyQueueRuns.{sound, queued_is_wanted}
 use Rattle.keyed_queues.proofs.queue_laws.queued_is_dirty.Goals as goal
 
 pub returns : goal.returns

@@ -1,4 +1,4 @@
-use Rattle.keyed_queues.proofs.QueueRuns.{sound}
+use Rattle.spec_client_go.proofs.KeyQueueRuns.{sound}
 use Rattle.keyed_queues.proofs.queue_laws.queues_once.Goals as goal
 
 pub returns : goal.returns

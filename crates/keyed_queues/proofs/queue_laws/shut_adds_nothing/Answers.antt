@@ -1,7 +1,7 @@
 use Rattle.std.proofs.Common.{refl}
 use Rattle.keyed_queues.specs.Queues.{shut}
 use Rattle.keyed_queues.specs.QueueLaws.{made}
-use Rattle.keyed_queues.proofs.QueueRuns.{sound, runs_are_sound, queued_is_wanted, front_is_queued, shut-wanted}
+use Rattle.spec_client_go.proofs.KeyQueueRuns.{sound, runs_are_sound, queued_is_wanted, front_is_queued, shut-wanted}
 use Rattle.keyed_queues.proofs.queue_laws.shut_adds_nothing.Goals as goal
 
 pub returns : goal.returns

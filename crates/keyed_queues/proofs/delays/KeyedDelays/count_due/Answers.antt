@@ -2,7 +2,7 @@ use Rattle.std.proofs.Common.{ap, ◌∙◌, length, map}
 use Rattle.keyed_queues.specs.Delays.{due}
 use Rattle.keyed_queues.specs.Numbers.{said}
 use Rattle.keyed_queues.specs.Said.{alarm_said}
-use Rattle.keyed_queues.proofs.Due.{count_first}
+use Rattle.spec_client_go.proofs.Due.{count_first}
 use Rattle.keyed_queues.proofs.DelaySteps.{leading_said}
 use Rattle.keyed_queues.proofs.delays.KeyedDelays.count_due.Goals as goal
 

@@ -4,7 +4,7 @@ use Rattle.std.proofs.lemmas.Bool.Decides.{nat_tests}
 use Rattle.keyed_queues.specs.Delays.{AreAlarms, due}
 use Rattle.keyed_queues.specs.Numbers.{said}
 use Rattle.keyed_queues.specs.Said.{alarm_said}
-use Rattle.keyed_queues.proofs.Due.{rest_are, none_due, none_due_yet}
+use Rattle.spec_client_go.proofs.Due.{rest_are, none_due, none_due_yet}
 use Rattle.keyed_queues.proofs.DelaySteps.{noted, all_noted}
 use Rattle.keyed_queues.proofs.delays.KeyedDelays.due_keys.Goals as goal
 use Rattle.keyed_queues.proofs.delays.KeyedDelays.due_keys.Goals.{in-None, in-Some+then-alarm-now}

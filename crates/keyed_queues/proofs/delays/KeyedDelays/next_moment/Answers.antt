@@ -2,7 +2,7 @@ use Rattle.std.proofs.Common.{ap, sym, ◌∙◌, subst, ◌∷◌, [], map}
 use Rattle.keyed_queues.specs.Delays.{AreAlarms, next_moment}
 use Rattle.keyed_queues.specs.Numbers.{said}
 use Rattle.keyed_queues.specs.Said.{alarm_said}
-use Rattle.keyed_queues.proofs.Due.{next_is_first}
+use Rattle.spec_client_go.proofs.Due.{next_is_first}
 use Rattle.keyed_queues.proofs.DelaySteps.{head_is, no_keys}
 use Rattle.keyed_queues.proofs.delays.KeyedDelays.next_moment.Goals as goal
 

@@ -3,7 +3,7 @@ use Rattle.std.proofs.lemmas.Bool.Decides.{nat_tests}
 use Rattle.keyed_queues.specs.Delays.{AreAlarms, due, still_delayed}
 use Rattle.keyed_queues.specs.Numbers.{said}
 use Rattle.keyed_queues.specs.Said.{alarm_said}
-use Rattle.keyed_queues.proofs.Due.{none_due, all_still, none_due_yet, all_still_delayed}
+use Rattle.spec_client_go.proofs.Due.{none_due, all_still, none_due_yet, all_still_delayed}
 use Rattle.keyed_queues.proofs.DelaySteps.{head_is, no_keys, comes, left_are, first_due, same_left}
 use Rattle.keyed_queues.proofs.delays.KeyedDelays.take_due.Goals as goal
 

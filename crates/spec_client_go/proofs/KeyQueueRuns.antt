@@ -7,8 +7,7 @@ use Rattle.std.specs.Ordering.{eq_by_cmp}
 use Rattle.std.specs.FinSet as set
 use Rattle.std.specs.FinSet.{contains_tied, contains-insert, contains-remove, contains-empty}
 use Rattle.std.proofs.lemmas.Map.Keys.{IsDistinct-push, IsDistinct-head, IsDistinct-tail}
-use Rattle.keyed_queues.specs.Queues.{KeyQueue, idle, added, got_from, done, front}
-use Rattle.keyed_queues.specs.QueueLaws.{Call, add, get, finish, shut_down, after, after_all, made, is_key, hands_out, was_handed}
+use Rattle.spec_client_go.specs.KeyQueues.{KeyQueue, idle, added, got_from, done, front, Call, add, get, finish, shut_down, after, after_all, made, is_key, hands_out, was_handed}
 
 -- a queued key wants a look and is in no hands; another that wants one is in a worker's hands
 abbrev pub fits : Bool → Bool → Bool → Bool

@@ -1,5 +1,5 @@
 -- The keys that are due: those whose moment has come, in their order.
-use Rattle.std.proofs.Common.{◌≡◌, ℕ, ◌<◌, ◌≤◌, List, [], ◌∷◌, ◌&&◌, ◌||◌, T, Bool, true, false, true≢false, not, cond, map, is_some, nat_le, Contains, Option, Some, None, unwrap_or, Ordering, Less, Equal, Greater, arith, refl, sym, ap, ap₂, subst, ◌∙◌}
+use Rattle.std.proofs.Common.{◌≡◌, ◌↔◌, ℕ, ◌<◌, ◌≤◌, List, [], ◌∷◌, ◌&&◌, ◌||◌, T, Bool, true, false, true≢false, not, cond, map, is_some, nat_le, Contains, Option, Some, None, unwrap_or, Ordering, Less, Equal, Greater, arith, refl, sym, ap, ap₂, subst, ◌∙◌}
 use Rattle.std.proofs.lemmas.Bool.Decides.{nat_tests}
 use Rattle.std.proofs.lemmas.Cmp.{eq_by_cmp_equiv}
 use Rattle.std.proofs.lemmas.List.Kept.{IsStrictlySortedBy-filter}
@@ -15,10 +15,9 @@ use Rattle.std.specs.List.Sorted.{IsStrictlySortedBy}
 use Rattle.std.specs.Ordering.{eq_by_cmp, is_eq, is_lt, ordering_reverse}
 use Rattle.spec_client_go.specs.Delays.{has_come}
 use Rattle.spec_client_go.proofs.Alarms.{mark, is_moment, same_at_itself}
-use Rattle.keyed_queues.specs.Delays.{KeyDelays, KeyAlarm, AreAlarms, alarm_cmp, alarm_of, alarms, due}
-use Rattle.keyed_queues.proofs.Alarms as of
-use Rattle.keyed_queues.proofs.Due as due_keys
-use Rattle.keyed_queues.specs.DelayLaws.{IsDue, alarm_at, AreInTurn, DueHaveCome, DueAreInTurn, DueAreTheOnlyList, StillDelayedAreLater}
+use Rattle.spec_client_go.specs.KeyDelays.{KeyDelays, KeyAlarm, AreAlarms, alarm_cmp, alarm_of, alarms, due, still_delayed, IsDue, alarm_at, AreInTurn}
+use Rattle.spec_client_go.proofs.Alarms as of
+use Rattle.spec_client_go.proofs.Due as due_keys
 
 and_parts : (a b : Bool) → T (a && b) → T a × T b
 and_parts true b h = (tt, h)
@@ -229,7 +228,8 @@ module _ {N : Type 0} (R : N → N → Ordering) (total : IsTotalOrder R) (tells
   key_from_any : (k : N) (ks : List N) → list_any (eq_by_cmp R k) ks ≡ true → Contains ks k
   key_from_any k ks = Contains-from_any same_key k ks
 
-  pub have_come : DueHaveCome R
+  -- the keys that are due are those whose moment has come, and no others
+  pub have_come : (now : ℕ) (m : KeyDelays R) (k : N) → Contains (due now m) k ↔ IsDue now m k
   have_come now m k = (λ c. due_from now m k (any_key k (due now m) c), λ d. key_from_any k (due now m) (from_due now m k d))
 
   abbrev IsOwn : KeyDelays R → KeyAlarm N → Type 0
@@ -262,7 +262,8 @@ module _ {N : Type 0} (R : N → N → Ordering) (total : IsTotalOrder R) (tells
   keys_in_turn m [] os h = tt
   keys_in_turn m (a ∷ ks) os h = (below_in_turn m a ks os.0 os.1 h.0, keys_in_turn m ks os.1 h.1)
 
-  pub in_turn : DueAreInTurn R
+  -- in the order of their moments
+  pub in_turn : (now : ℕ) (m : KeyDelays R) → AreInTurn m (due now m)
   in_turn now m =
       keys_in_turn m (filter (comes now) (alarms m)) (all_filter (IsOwn m) (comes now) (alarms m) (all_from (IsOwn m) (alarms m) (own m))) (IsStrictlySortedBy-filter (alarm_cmp R) (comes now) (alarms m) ((are_alarms m).in_order))
 
@@ -276,14 +277,16 @@ module _ {N : Type 0} (R : N → N → Ordering) (total : IsTotalOrder R) (tells
     same_turn : (j k : N) → eq_by_cmp (turn_cmp m) j k ≡ true → j ≡ k
     same_turn j k h = turn_tells j k (equal (turn_cmp m j k) h)
 
-  pub only_list : DueAreTheOnlyList R
+  -- and no other list is both
+  pub only_list : (now : ℕ) (m : KeyDelays R) (ks : List N) → ((k : N) → Contains ks k ↔ IsDue now m k) → AreInTurn m ks → ks ≡ due now m
   only_list now m ks are turn =
       only_one (turn_total m) (turn_tells m) ks (due now m) turn (in_turn now m)
       (λ q. both_or_neither _ _
       (λ h. list_any-from_Contains (eq_by_cmp_equiv (turn_total m)) q (due now m) ((have_come now m q).1 ((are q).0 (Contains-from_any (same_turn m) q ks h))))
       (λ h. list_any-from_Contains (eq_by_cmp_equiv (turn_total m)) q ks ((are q).1 ((have_come now m q).0 (Contains-from_any (same_turn m) q (due now m) h)))))
 
-  pub still_later : StillDelayedAreLater R
+  -- what is still delayed are the keys whose moment is later, at their moments
+  pub still_later : (now : ℕ) (m : KeyDelays R) (k : N) (at : ℕ) → (map_of.get (still_delayed now m) k ≡ Some at) ↔ ((map_of.get m k ≡ Some at) × (now < at))
   still_later now m k at = (
     λ h. left_at now at (map_of.get m k) (sym (due_keys.get-still R total tells now m k) ∙ h),
     λ h. due_keys.get-still R total tells now m k ∙ ap (λ o. cond (not (has_come now o)) o None) h.0 ∙ ap (λ b. cond (not b) (Some at) None) (later_back at now h.1),
