@@ -3,7 +3,7 @@ use Rattle.std.specs.Prelude.{◌≡◌, ◌↔◌, ◌<◌, ℕ, List, Some}
 use Rattle.std.specs.FinMap as map
 use Rattle.std.specs.List.{Contains}
 use Rattle.std.specs.declared.cmp.Ordering.{Ordering}
-use Rattle.keyed_queues.specs.Delays.{KeyDelays, due, still_delayed}
+use Rattle.spec_client_go.specs.KeyDelays.{KeyDelays, due, still_delayed}
 pub use Rattle.spec_client_go.specs.KeyDelays.{IsDue, alarm_at, AreInTurn}
 
 -- the keys that are due are those whose moment has come, and no others

@@ -3,7 +3,7 @@ use Rattle.std.specs.Prelude.{Bool, List, map, refl}
 use Rattle.std.specs.Coded.{Coded, code_by, coded×, coded_list, coded_bool}
 use Rattle.std.specs.FinSet as set
 use Rattle.std.specs.declared.cmp.Ordering.{Ordering}
-use Rattle.keyed_queues.specs.Queues.{KeyQueue}
+use Rattle.spec_client_go.specs.KeyQueues.{KeyQueue}
 
 -- the keys that wait, those that are to be processed, those in workers' hands, and whether the queue is shut
 pub record Lists (K : Type 0) : Type 0 where

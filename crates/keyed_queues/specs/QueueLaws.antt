@@ -4,7 +4,7 @@ use Rattle.std.specs.List.{IsDistinct}
 use Rattle.std.specs.Ordering.{eq_by_cmp}
 use Rattle.std.specs.FinSet as set
 use Rattle.std.specs.declared.cmp.Ordering.{Ordering}
-use Rattle.keyed_queues.specs.Queues.{added, shut, handed}
+use Rattle.spec_client_go.specs.KeyQueues.{added, shut, handed}
 pub use Rattle.spec_client_go.specs.KeyQueues.{Call, add, get, finish, shut_down, after, after_all, made, is_queued, is_key, hands_out, was_handed}
 
 -- a key waits in the queue once

@@ -2,7 +2,7 @@
 use Rattle.std.specs.Prelude.{◌≡◌, List, [], ◌∷◌, false, reverse}
 use Rattle.std.specs.FinSet as set
 use Rattle.std.specs.declared.cmp.Ordering.{Ordering}
-use Rattle.keyed_queues.specs.Queues.{KeyQueue, added}
+use Rattle.spec_client_go.specs.KeyQueues.{KeyQueue, added}
 
 -- a key that may be added, and is not to be processed yet
 abbrev pub IsFresh : {N : Type 0} {R : N → N → Ordering} → N → KeyQueue R → Type 0

@@ -4,9 +4,9 @@ use Rattle.spec_client_go.specs.WorkQueues as works
 use Rattle.spec_client_go.specs.WorkQueues.{WorkKey, work_key_cmp, Call, add, get, finish, shut_down}
 pub use Rattle.spec_client_go.specs.KeyQueues.{work_queue}
 use Rattle.spec_client_go.specs.Delays as works_delays
-use Rattle.keyed_queues.specs.Queues.{KeyQueue, idle, added, got, done, shut, handed}
-use Rattle.keyed_queues.specs.Delays as keyed_delays
-use Rattle.keyed_queues.specs.Delays.{KeyDelays}
+use Rattle.spec_client_go.specs.KeyQueues.{KeyQueue, idle, added, got, done, shut, handed}
+use Rattle.spec_client_go.specs.KeyDelays as keyed_delays
+use Rattle.spec_client_go.specs.KeyDelays.{KeyDelays}
 use Rattle.keyed_queues.specs.Failures as keyed_failures
 use Rattle.keyed_queues.specs.Failures.{KeyFailures}
 

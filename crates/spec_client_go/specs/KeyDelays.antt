@@ -1,4 +1,4 @@
--- Keys of any type that come due, by the names that the keys say and the order of names.
+-- Keys of any type that come due, by moment and then in the order of keys.
 use Rattle.std.specs.Prelude.{◌≡◌, ◌≤◌, ℕ, List, [], ◌∷◌, Option, Some, None, unwrap_or, not, nat_le, map as list_map}
 use Rattle.std.specs.List.{filter}
 use Rattle.std.specs.List.Sorted.{IsStrictlySortedBy}

@@ -1,4 +1,4 @@
--- Work queues of keys of any type, by the names that the keys say and the order of names: which wait, and which are in workers' hands.
+-- Work queues of keys of any type that have an order: which wait, and which are in workers' hands.
 use Rattle.std.specs.Prelude.{◌||◌, Bool, true, false, List, [], ◌∷◌, ◌++◌, Option, Some, None, if◌then◌else◌}
 use Rattle.std.specs.List.{list_any}
 use Rattle.std.specs.Ordering.{eq_by_cmp}
