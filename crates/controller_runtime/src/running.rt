@@ -13,7 +13,7 @@ use crate::ticking::Ticker;
 use crate::under_way::UnderWay;
 use crate::working::Worker;
 use api_client::Api;
-use informer::{Informer, Listers, SharedInformer};
+use informer::{Listers, SharedInformer, listers_of, open_informers};
 use keyed_queues::Named;
 use list_and_watch::Follower;
 use reconcile_types::Looks;
@@ -47,32 +47,6 @@ struct Ground<'a, R, C, K: Named> {
     board: &'a SharedKeyedBoard<K>,
     under_way: &'a UnderWay,
     stop: &'a Stop,
-}
-
-/// Returns an informer of each kind, with room for so many listers. The error is running out of memory.
-fn informers<R: Wait>(
-    rt: &R,
-    alloc: Global,
-    listers: usize,
-) -> Result<Looks<SharedInformer<'_, R>>, AllocError>
-    requires { (0 < listers) × (listers < 2 ^ 32) }
-{
-    Ok(Looks {
-        config_maps: SharedInformer::new(rt, Informer::open(alloc, listers)?),
-        pods: SharedInformer::new(rt, Informer::open(alloc, listers)?),
-        replica_sets: SharedInformer::new(rt, Informer::open(alloc, listers)?),
-        deployments: SharedInformer::new(rt, Informer::open(alloc, listers)?),
-    })
-}
-
-/// Returns the listers of a worker. The error is running out of memory.
-fn listers<R: Wait>(informers: &mut Looks<SharedInformer<'_, R>>) -> Result<Listers, AllocError> {
-    Ok(Listers::new(
-        informers.config_maps.lister()?,
-        informers.pods.lister()?,
-        informers.replica_sets.lister()?,
-        informers.deployments.lister()?,
-    ))
 }
 
 impl<'a, R: Threads + Wait + Clock + Sync, K: Named, C: Reconciler<K>> Ground<'a, R, C, K> {
@@ -190,7 +164,7 @@ fn workers<'a, R: Threads + Wait + Clock + Sync, K: Named, C: Reconciler<K>, A: 
     let mut left = apis;
     while let Some(api) = left.pop() {
         let pass = ground.next_pass(passes);
-        made.push(ground.works(pass, listers(informers)?, api))?;
+        made.push(ground.works(pass, listers_of(informers)?, api))?;
     }
     Ok(made)
 }
@@ -301,7 +275,7 @@ where
         under_way: &under_way,
         stop,
     };
-    let informers = informers(rt, alloc, count + 1)?;
+    let informers = open_informers(rt, alloc, count + 1)?;
     let mut members = all_members(&ground, passes, informers, apis, asking)?;
     let at_once = members.threads.len().max(1);
     for_each_mut(

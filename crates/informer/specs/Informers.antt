@@ -1,5 +1,5 @@
 -- An informer, and the deltas that made what it has published.
-use Rattle.std.specs.Prelude.{◌≡◌, List}
+use Rattle.std.specs.Prelude.{◌≡◌, List, []}
 use Rattle.spec_client_go.specs.Informers as informers
 use Rattle.reflector.specs.Deltas.{deltas_of}
 use Rattle.reflector.specs.declared.deltas.Delta.{Delta}
@@ -22,6 +22,10 @@ published_deltas i = all_of (published_batches i)
 -- the deltas that wait
 abbrev pub pending_deltas : Informer → List Delta
 pending_deltas i = deltas_waiting i.copies
+
+-- nothing was published, and nothing waits to be
+abbrev pub IsNew : Informer → Type 0
+IsNew i = (informer_of i ≡ informers.begun) × (published_batches i ≡ [])
 
 -- nothing has changed
 abbrev pub IsSame : Informer → Informer → Type 0

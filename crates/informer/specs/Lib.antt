@@ -6,3 +6,4 @@ pub mod Listers
 pub mod Looked
 pub mod Informers
 pub mod Shared
+pub mod SharedInformers

@@ -11,6 +11,7 @@ pub(crate) mod rules;
 pub mod seen;
 pub mod shared;
 pub(crate) mod shared_deltas;
+pub mod shared_informers;
 pub(crate) mod views;
 
 pub use indexer::{Indexed, Shift};
@@ -20,3 +21,4 @@ pub use listers::{Lister, Look};
 pub use plain_informer::{PlainInformer, Publishing, keys_of};
 pub use reconcile_types::{Command, Entry, Hand, Looks, Plan, Seen};
 pub use shared::SharedInformer;
+pub use shared_informers::{listers_of, open_informers};

@@ -4,7 +4,7 @@ use crate::listers::Lister;
 use indexer::{Indexed, Shift};
 use plain_informer::Publishing;
 use reflector::Delta;
-use std::alloc::AllocError;
+use std::alloc::{AllocError, Global};
 use std::sync::Wait;
 
 /// An informer whose map is read without waiting, where it is to be published with no word of a runtime. Dropping it closes it,
@@ -15,8 +15,8 @@ pub struct SharedInformer<'a, R: Wait> {
 }
 
 impl<'a, R: Wait> SharedInformer<'a, R> {
-    ghost use Rattle.std.specs.Prelude.{◌≡◌, IfOk};
-    ghost use Rattle.informer.specs.Informers.{published_batches, IsSame};
+    ghost use Rattle.std.specs.Prelude.{◌≡◌, ◌<◌, ◌^◌, IfOk};
+    ghost use Rattle.informer.specs.Informers.{published_batches, IsNew, IsSame};
     ghost use Rattle.informer.specs.Listers.{known_last};
     ghost use Rattle.informer.specs.Shared.{inner};
 
@@ -25,6 +25,19 @@ impl<'a, R: Wait> SharedInformer<'a, R> {
         ensures { inner result ≡ informer }
     {
         SharedInformer { runtime, informer }
+    }
+
+    /// Returns an informer that has published nothing yet, with room for so many listers, and with the runtime by which its publishes
+    /// wait. The error is running out of memory.
+    pub fn open(
+        runtime: &'a R,
+        alloc: Global,
+        listers: usize,
+    ) -> Result<SharedInformer<'a, R>, AllocError>
+        requires { (0 < listers) × (listers < 2 ^ 32) }
+        ensures { IfOk result (λ shared. IsNew (inner shared)) }
+    {
+        Ok(SharedInformer::new(runtime, Informer::open(alloc, listers)?))
     }
 
     /// Returns a reference to the informer. It takes no memory.

@@ -8,7 +8,7 @@ use crate::reflecting::Reflecting;
 use crate::ticking::Ticker;
 use api_client::Api;
 use control_desk::{ControlDesk, WorkPass};
-use informer::{Informer, Listers, SharedInformer};
+use informer::{Listers, SharedInformer, listers_of, open_informers};
 use manager_worker::{Gate, Signals, Tools, Worker};
 use reconcile_types::Looks;
 use spec_api::kinds::Kind;
@@ -37,32 +37,6 @@ struct Floor<'a, R, G> {
     desk: &'a ControlDesk,
     signals: &'a Signals,
     gate: &'a G,
-}
-
-/// Returns an informer of each kind, with room for so many listers. The error is running out of memory.
-fn informers<R: Wait>(
-    rt: &R,
-    alloc: Global,
-    listers: usize,
-) -> Result<Looks<SharedInformer<'_, R>>, AllocError>
-    requires { (0 < listers) × (listers < 2 ^ 32) }
-{
-    Ok(Looks {
-        config_maps: SharedInformer::new(rt, Informer::open(alloc, listers)?),
-        pods: SharedInformer::new(rt, Informer::open(alloc, listers)?),
-        replica_sets: SharedInformer::new(rt, Informer::open(alloc, listers)?),
-        deployments: SharedInformer::new(rt, Informer::open(alloc, listers)?),
-    })
-}
-
-/// Returns the listers of one more thread. The error is running out of memory.
-fn listers<R: Wait>(informers: &mut Looks<SharedInformer<'_, R>>) -> Result<Listers, AllocError> {
-    Ok(Listers::new(
-        informers.config_maps.lister()?,
-        informers.pods.lister()?,
-        informers.replica_sets.lister()?,
-        informers.deployments.lister()?,
-    ))
 }
 
 impl<'a, R: Threads + Wait + Clock + Sync, G: Gate> Floor<'a, R, G> {
@@ -141,7 +115,7 @@ fn workers<'a, R: Threads + Wait + Clock + Sync, A: Api + Drop, G: Gate>(
     let mut left = apis;
     while let Some(api) = left.pop() {
         let pass = floor.next_pass(passes);
-        made.push(floor.works(pass, listers(informers)?, api))?;
+        made.push(floor.works(pass, listers_of(informers)?, api))?;
     }
     Ok(made)
 }
@@ -160,10 +134,10 @@ fn members<'a, R: Threads + Wait + Clock + Sync, A: Api + Drop, G: Gate>(
     let (mut passes, mut informers) = (passes, informers);
     let mut made = workers(floor, &mut passes, &mut informers, apis.workers)?;
     let own = Looks {
-        config_maps: listers(&mut informers)?,
-        pods: listers(&mut informers)?,
-        replica_sets: listers(&mut informers)?,
-        deployments: listers(&mut informers)?,
+        config_maps: listers_of(&mut informers)?,
+        pods: listers_of(&mut informers)?,
+        replica_sets: listers_of(&mut informers)?,
+        deployments: listers_of(&mut informers)?,
     };
     let asking = apis.followers;
     made.push(floor.follows(
@@ -231,7 +205,7 @@ where
         signals,
         gate,
     };
-    let informers = informers(rt, alloc, count + FOLLOWERS)?;
+    let informers = open_informers(rt, alloc, count + FOLLOWERS)?;
     let mut members = members(&floor, passes, informers, apis)?;
     let threads = members.len().max(1);
     for_each_mut(
