@@ -4,41 +4,42 @@ use backoff::{Backoff, Delayed};
 use object_keys::WorkKey;
 use std::alloc::{AllocError, Global};
 
-/// Has a key fail once for each of the delays, and sets them.
-fn fail(backoff: &mut Backoff, key: &WorkKey, delays: &mut [u64]) -> Result<(), AllocError> {
-    for delay in delays {
-        *delay = backoff.delay(key)?;
+/// Returns the delays of a key that fails as often as there are delays to be compared.
+fn delays_of(alloc: Global, backoff: &mut Backoff, key: &WorkKey) -> Result<Vec<u64>, AllocError> {
+    let mut delays = Vec::new(alloc);
+    for _ in DELAYS {
+        delays.push(backoff.delay(key)?)?;
     }
-    Ok(())
-}
-
-/// Returns the delays of a key that fails 39 times.
-fn delays(alloc: Global) -> Result<[u64; 39], AllocError> {
-    let mut delays = [0; 39];
-    let mut backoff = Backoff::new(alloc);
-    let key = work_key(alloc, "web")?;
-    fail(&mut backoff, &key, &mut delays)?;
     Ok(delays)
 }
 
-#[test]
-fn delays_double(rt: HostRuntime) -> Result<(), AllocError> {
-    let delays = delays(rt.alloc())?;
-    assert_eq!(rt; delays, DELAYS);
-    Ok(())
+/// Returns the delays of a key that fails 39 times.
+fn delays(alloc: Global) -> Result<Vec<u64>, AllocError> {
+    let key = work_key(alloc, "web")?;
+    let mut backoff = Backoff::new(alloc);
+    delays_of(alloc, &mut backoff, &key)
 }
 
-const DELAYS: [u64; 39] = [
+#[test]
+fn delays_double(rt: HostRuntime) {
+    let delays = delays(rt.alloc());
+    assert_eq!(rt; delays.as_deref(), Ok(DELAYS));
+}
+
+const DELAYS: &[u64] = &[
     5, 10, 20, 40, 80, 160, 320, 640, 1_280, 2_560, 5_120, 10_240, 20_480, 40_960, 81_920, 163_840,
     327_680, 655_360, 1_000_000, 1_000_000, 1_000_000, 1_000_000, 1_000_000, 1_000_000, 1_000_000,
     1_000_000, 1_000_000, 1_000_000, 1_000_000, 1_000_000, 1_000_000, 1_000_000, 1_000_000,
     1_000_000, 1_000_000, 1_000_000, 1_000_000, 1_000_000, 1_000_000,
 ];
 
+/// The moments at which keys are to come due.
+const MOMENTS: [(&str, u64); 4] = [("web", 20), ("api", 20), ("db", 30), ("db", 10)];
+
 /// Two keys that come due at 20, and one that is to come at 30 and then at 10.
 fn three_keys(alloc: Global) -> Result<Delayed, AllocError> {
     let mut delayed = Delayed::new(alloc);
-    for (name, moment) in [("web", 20), ("api", 20), ("db", 30), ("db", 10)] {
+    for &(name, moment) in &MOMENTS {
         delayed.add_after(work_key(alloc, name)?, moment)?;
     }
     Ok(delayed)
@@ -57,15 +58,14 @@ fn tell_due(text: &mut String, delayed: &mut Delayed, moment: u64) -> Result<(),
 fn due(alloc: Global) -> Result<String, AllocError> {
     let mut text = String::new(alloc);
     let mut delayed = three_keys(alloc)?;
-    for moment in [9, 20, 50] {
-        tell_due(&mut text, &mut delayed, moment)?;
+    for moment in &[9, 20, 50] {
+        tell_due(&mut text, &mut delayed, *moment)?;
     }
     Ok(text)
 }
 
 #[test]
-fn keys_come_due_in_order(rt: HostRuntime) -> Result<(), AllocError> {
-    let text = due(rt.alloc())?;
-    assert_eq!(rt; text.as_str(), ";db api web ;;");
-    Ok(())
+fn keys_come_due_in_order(rt: HostRuntime) {
+    let text = due(rt.alloc());
+    assert_eq!(rt; text.as_deref(), Ok(";db api web ;;"));
 }

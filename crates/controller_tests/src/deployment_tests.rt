@@ -1,12 +1,12 @@
 //! A turn of a Deployment.
-use crate::hands::{hand, look};
-use crate::written::{tell_commands, tell_keys};
+use crate::hands::{answers, show};
+use crate::written::told;
 use deployment::{asks, plan};
 use indexer::Indexed;
 use reconcile_types::Hand;
 use spec_api::kinds::Kind;
+use spec_client_go::controller::Controller;
 use std::alloc::{AllocError, Global};
-use test_fixtures::key;
 
 /// A Deployment of ten that goes on to the image `web:2`, with the default pace: there may be 25% more, and 25% may be unavailable.
 const DEPLOYMENT: &str =
@@ -21,31 +21,33 @@ const NEW: &str =
     r#"{"metadata":{"annotations":{"deployment.kubernetes.io/revision":"2"},"generation":1,"name":"web-2","namespace":"default","ownerReferences":[{"apiVersion":"apps/v1","controller":true,"kind":"Deployment","name":"web","uid":"u-web"}],"resourceVersion":"8","uid":"u-2"},"spec":{"replicas":3,"selector":{"matchLabels":{"app":"web"}},"template":{"metadata":{"labels":{"app":"web"}},"spec":{"containers":[{"image":"web:2","name":"web"}]}}},"status":{"availableReplicas":0,"observedGeneration":1,"readyReplicas":0,"replicas":3}}"#;
 
 /// Has a turn look at the Deployment and its sets.
-fn show(alloc: Global, hand: &mut Hand<Indexed>) -> Result<(), AllocError> {
-    hand.looks.replica_sets = look(alloc, Kind::ReplicaSet, &[OLD, NEW])?;
-    hand.looks.deployments = look(alloc, Kind::Deployment, &[DEPLOYMENT])?;
-    Ok(())
+fn look(alloc: Global, hand: &mut Hand<Indexed>) -> Result<(), AllocError> {
+    let looks = &mut hand.looks;
+    show(
+        alloc,
+        &mut looks.replica_sets,
+        Kind::ReplicaSet,
+        &[OLD, NEW],
+    )?;
+    show(
+        alloc,
+        &mut looks.deployments,
+        Kind::Deployment,
+        &[DEPLOYMENT],
+    )
 }
 
-/// Adds to a text what a turn asks for, and what it commands.
-fn tell(alloc: Global, text: &mut String, hand: &Hand<Indexed>) -> Result<(), AllocError> {
-    tell_keys(text, asks(alloc, hand)?.as_slice())?;
-    tell_commands(text, plan(alloc, hand)?.commands.as_slice())
-}
-
-/// What the turn of the Deployment asks for, and what it commands.
-fn answers(alloc: Global) -> Result<String, AllocError> {
-    let mut text = String::new(alloc);
-    let mut hand = hand(alloc, key(alloc, Kind::Deployment, "web")?);
-    show(alloc, &mut hand)?;
-    tell(alloc, &mut text, &hand)?;
-    Ok(text)
+/// Returns what the turn of the Deployment asks for, and what it commands.
+pub(crate) fn told_of(alloc: Global, hand: &mut Hand<Indexed>) -> Result<String, AllocError> {
+    look(alloc, hand)?;
+    let keys = asks(alloc, hand)?;
+    let plan = plan(alloc, hand)?;
+    told(alloc, keys.as_slice(), plan.commands.as_slice())
 }
 
 // Two of the old pods may be missing, so that is how far the old set shrinks. Nothing is read live.
 #[test]
-fn the_old_set_shrinks(rt: HostRuntime) -> Result<(), AllocError> {
-    let text = answers(rt.alloc())?;
-    assert_eq!(rt; text.as_str(), "update web-1,status web,");
-    Ok(())
+fn the_old_set_shrinks(rt: HostRuntime) {
+    let text = answers(rt.alloc(), Controller::Deployment, Kind::Deployment, "web");
+    assert_eq!(rt; text.as_deref(), Ok("update web-1,status web,"));
 }

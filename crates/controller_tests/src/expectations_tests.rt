@@ -35,36 +35,47 @@ fn waits(alloc: Global) -> Result<([bool; 3], [bool; 2]), AllocError> {
     Ok((creations(alloc, &key)?, deletions(alloc, &key)?))
 }
 
-/// Returns how many ReplicaSets age out from one moment to another, where `web` waits for a pod since moment 0, and `api` saw its own.
-fn aged(alloc: Global, before: u64, now: u64) -> Result<usize, AllocError> {
-    let web = key(alloc, Kind::ReplicaSet, "web")?;
-    let api = key(alloc, Kind::ReplicaSet, "api")?;
-    let mut table = Table::new(alloc);
-    table.expect_creations(&web, "uid-1", 1, 0)?;
-    table.expect_creations(&api, "uid-2", 1, 0)?;
+/// Has a ReplicaSet wait for a pod since moment 0. Returns its key.
+fn expect(alloc: Global, table: &mut Table, name: &str, uid: &str) -> Result<Key, AllocError> {
+    let key = key(alloc, Kind::ReplicaSet, name)?;
+    table.expect_creations(&key, uid, 1, 0)?;
+    Ok(key)
+}
+
+/// Has `web` wait for a pod since moment 0, and `api` too, which then sees its own.
+fn expect_both(alloc: Global, table: &mut Table) -> Result<(), AllocError> {
+    expect(alloc, table, "web", "uid-1")?;
+    let api = expect(alloc, table, "api", "uid-2")?;
     table.created(&api, "uid-2");
-    Ok(table.aged_out(before, now)?.len())
-}
-
-/// Returns how many age out until five minutes have passed, in the millisecond after, and then.
-fn ages(alloc: Global) -> Result<[usize; 3], AllocError> {
-    Ok([
-        aged(alloc, 0, 300_000)?,
-        aged(alloc, 300_000, 300_001)?,
-        aged(alloc, 300_001, 600_000)?,
-    ])
-}
-
-#[test]
-fn who_waits_in_vain_ages_out_once(rt: HostRuntime) -> Result<(), AllocError> {
-    let ages = ages(rt.alloc())?;
-    assert_eq!(rt; ages, [0, 1, 0]);
     Ok(())
 }
 
+/// Returns how many ReplicaSets age out from moment 0 to the first of these, and from each of them to the next.
+fn ages_of(alloc: Global, table: &Table, moments: &[u64]) -> Result<Vec<usize>, AllocError> {
+    let mut ages = Vec::new(alloc);
+    let mut before = 0;
+    for now in moments {
+        ages.push(table.aged_out(before, *now)?.len())?;
+        before = *now;
+    }
+    Ok(ages)
+}
+
+/// Returns how many of the two age out so.
+fn ages(alloc: Global, moments: &[u64]) -> Result<Vec<usize>, AllocError> {
+    let mut table = Table::new(alloc);
+    expect_both(alloc, &mut table)?;
+    ages_of(alloc, &table, moments)
+}
+
+// None until five minutes have passed, one in the millisecond after, and none then.
 #[test]
-fn creations_and_deletions_are_waited_for(rt: HostRuntime) -> Result<(), AllocError> {
-    let seen = waits(rt.alloc())?;
-    assert_eq!(rt; seen, ([false, true, true], [false, true]));
-    Ok(())
+fn who_waits_in_vain_ages_out_once(rt: HostRuntime) {
+    let ages = ages(rt.alloc(), &[300_000, 300_001, 600_000]);
+    assert_eq!(rt; ages.as_deref(), Ok([0, 1, 0].as_slice()));
+}
+
+#[test]
+fn creations_and_deletions_are_waited_for(rt: HostRuntime) {
+    assert_eq!(rt; waits(rt.alloc()), Ok(([false, true, true], [false, true])));
 }

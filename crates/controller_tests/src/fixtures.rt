@@ -1,4 +1,5 @@
 //! Objects for the tests: the ReplicaSet `web`, and Pods that it controls.
+use informer::Informer;
 use meta::Object;
 use object_keys::Key;
 use reconcile_types::Entry;
@@ -6,6 +7,7 @@ use reflector::{Delta, SharedObject};
 use serde_json::Value;
 use spec_api::kinds::Kind;
 use std::alloc::{AllocError, Global};
+use std::sync::Wait;
 
 /// The ReplicaSet `web` of the Deployment `site`.
 pub(crate) const WEB: &str =
@@ -24,14 +26,33 @@ pub(crate) const ELSEWHERE: &str =
     "{\"metadata\":{\"name\":\"q\",\"namespace\":\"other\",\"resourceVersion\":\"7\",\"uid\":\"u-q\",\"ownerReferences\":[{\"apiVersion\":\"apps/v1\",\"controller\":true,\"kind\":\"ReplicaSet\",\"name\":\"web\",\"uid\":\"u-web\"}]}}";
 
 /// The object of a kind that a text says. The text is one that can be read.
-pub(crate) fn shared(alloc: Global, kind: Kind, text: &str) -> Result<SharedObject, AllocError> {
+pub(crate) fn object(alloc: Global, kind: Kind, text: &str) -> Result<Object, AllocError> {
     let Ok(value) = Value::from_str(alloc, text) else {
         return Err(AllocError);
     };
     let Ok(object) = Object::from_value(alloc, kind, value) else {
         return Err(AllocError);
     };
-    SharedObject::new(alloc, object)
+    Ok(object)
+}
+
+/// The object of a kind that a text says, as it is shared.
+pub(crate) fn shared(alloc: Global, kind: Kind, text: &str) -> Result<SharedObject, AllocError> {
+    SharedObject::new(alloc, object(alloc, kind, text)?)
+}
+
+/// The delta that lists the objects of a kind that texts say, at a revision.
+pub(crate) fn listing(
+    alloc: Global,
+    kind: Kind,
+    revision: u64,
+    texts: &[&str],
+) -> Result<Delta, AllocError> {
+    let mut objects = Vec::new(alloc);
+    for text in texts {
+        objects.push(shared(alloc, kind, text)?)?;
+    }
+    Ok(Delta::Replace(revision, objects))
 }
 
 /// The delta that puts the Pod that a text says.
@@ -54,6 +75,24 @@ pub(crate) fn pod(alloc: Global, namespace: &str, name: &str) -> Result<Key, All
         namespace: String::from_str(alloc, namespace)?,
         name: String::from_str(alloc, name)?,
     })
+}
+
+/// Appends a delta to those that an informer publishes next.
+fn append(informer: &mut Informer, delta: Delta) -> Result<(), AllocError> {
+    match informer.append(delta) {
+        Ok(()) => Ok(()),
+        Err(_delta) => Err(AllocError),
+    }
+}
+
+/// Publishes a delta, and returns how many shifts there were.
+pub(crate) fn publish<R: Wait>(
+    rt: &R,
+    informer: &mut Informer,
+    delta: Delta,
+) -> Result<usize, AllocError> {
+    append(informer, delta)?;
+    Ok(informer.publish(rt)?.len())
 }
 
 /// The delta that removes a Pod at a revision.

@@ -1,48 +1,36 @@
 //! What workers have at hand.
+use crate::fixtures::{listing, object};
+use crate::{collector_tests, deployment_tests, replica_set_tests};
 use indexer::Indexed;
-use meta::Object;
 use object_keys::Key;
 use reconcile_types::{Hand, Looks, Read};
-use reflector::{Delta, SharedObject};
-use serde_json::Value;
+use reflector::Delta;
 use spec_api::kinds::Kind;
+use spec_client_go::controller::Controller;
 use std::alloc::{AllocError, Global};
 use test_fixtures::key;
 
-/// Returns the object of a kind that a text says. The text is one that can be read.
-fn object(alloc: Global, kind: Kind, text: &str) -> Result<Object, AllocError> {
-    let Ok(value) = Value::from_str(alloc, text) else {
-        return Err(AllocError);
-    };
-    let Ok(object) = Object::from_value(alloc, kind, value) else {
-        return Err(AllocError);
-    };
-    Ok(object)
-}
-
-/// Returns the objects of a kind that texts say.
-fn objects(alloc: Global, kind: Kind, texts: &[&str]) -> Result<Vec<SharedObject>, AllocError> {
-    let mut objects = Vec::new(alloc);
-    for text in texts {
-        objects.push(SharedObject::new(alloc, object(alloc, kind, text)?)?)?;
+/// Applies a delta to a copy, if it is there.
+fn apply(seen: &mut Option<Indexed>, delta: &Delta) -> Result<(), AllocError> {
+    match seen {
+        Some(seen) => seen.apply(delta),
+        None => Ok(()),
     }
-    Ok(objects)
 }
 
-/// Returns a look at these objects, and no others, as a list at revision 9 gives them.
-pub(crate) fn look(
+/// Has a look show these objects, and no others, as a list at revision 9 gives them.
+pub(crate) fn show(
     alloc: Global,
+    seen: &mut Option<Indexed>,
     kind: Kind,
     texts: &[&str],
-) -> Result<Option<Indexed>, AllocError> {
-    let list = Delta::Replace(9, objects(alloc, kind, texts)?);
-    let mut seen = Indexed::new(alloc);
-    seen.apply(&list)?;
-    Ok(Some(seen))
+) -> Result<(), AllocError> {
+    let list = listing(alloc, kind, 9, texts)?;
+    apply(seen, &list)
 }
 
 /// Returns the turn of a key that looks at no objects, where all that was expected has been seen and nothing was read live.
-pub(crate) fn hand(alloc: Global, key: Key) -> Hand<Indexed> {
+fn hand(alloc: Global, key: Key) -> Hand<Indexed> {
     Hand {
         key,
         looks: Looks {
@@ -56,18 +44,52 @@ pub(crate) fn hand(alloc: Global, key: Key) -> Hand<Indexed> {
     }
 }
 
-/// Returns a live read of a name, which finds the object that a text says.
-pub(crate) fn read(alloc: Global, kind: Kind, name: &str, text: &str) -> Result<Read, AllocError> {
-    Ok(Read {
-        key: key(alloc, kind, name)?,
-        found: Some(object(alloc, kind, text)?),
-    })
+/// Returns what a turn says in the test of its controller.
+fn told(
+    alloc: Global,
+    controller: Controller,
+    hand: &mut Hand<Indexed>,
+) -> Result<String, AllocError> {
+    match controller {
+        Controller::ReplicaSet => replica_set_tests::told_of(alloc, hand),
+        Controller::Deployment => deployment_tests::told_of(alloc, hand),
+        Controller::Collector => collector_tests::told_of(alloc, hand),
+    }
 }
 
-/// Returns a live read of a name, which finds nothing.
-pub(crate) fn read_none(alloc: Global, kind: Kind, name: &str) -> Result<Read, AllocError> {
-    Ok(Read {
-        key: key(alloc, kind, name)?,
-        found: None,
-    })
+/// Returns what the turn of a name says in the test of its controller.
+pub(crate) fn answers(
+    alloc: Global,
+    controller: Controller,
+    kind: Kind,
+    name: &str,
+) -> Result<String, AllocError> {
+    let mut hand = hand(alloc, key(alloc, kind, name)?);
+    told(alloc, controller, &mut hand)
+}
+
+/// Adds a live read of a name, which finds the object that a text says.
+pub(crate) fn read(
+    alloc: Global,
+    reads: &mut Vec<Read>,
+    kind: Kind,
+    name: &str,
+    text: &str,
+) -> Result<(), AllocError> {
+    let key = key(alloc, kind, name)?;
+    let found = Some(object(alloc, kind, text)?);
+    reads.push(Read { key, found })?;
+    Ok(())
+}
+
+/// Adds a live read of a name, which finds nothing.
+pub(crate) fn read_none(
+    alloc: Global,
+    reads: &mut Vec<Read>,
+    kind: Kind,
+    name: &str,
+) -> Result<(), AllocError> {
+    let key = key(alloc, kind, name)?;
+    reads.push(Read { key, found: None })?;
+    Ok(())
 }

@@ -1,18 +1,9 @@
 //! Two Pods that are listed, and what becomes of them.
-use crate::fixtures::{ELSEWHERE, POD, RELEASED, pod, put, remove, shared, tell};
+use crate::fixtures::{ELSEWHERE, POD, RELEASED, listing, pod, put, remove, tell};
 use indexer::Indexed;
-use reflector::{Delta, SharedObject};
+use reflector::Delta;
 use spec_api::kinds::Kind;
 use std::alloc::{AllocError, Global};
-
-/// The Pods that texts say.
-fn objects(alloc: Global, texts: &[&str]) -> Result<Vec<SharedObject>, AllocError> {
-    let mut objects = Vec::new(alloc);
-    for text in texts {
-        objects.push(shared(alloc, Kind::Pod, text)?)?;
-    }
-    Ok(objects)
-}
 
 /// Applies a delta.
 fn apply(indexed: &mut Indexed, delta: Delta) -> Result<(), AllocError> {
@@ -22,7 +13,7 @@ fn apply(indexed: &mut Indexed, delta: Delta) -> Result<(), AllocError> {
 /// A copy with the list of both Pods, at revision 7.
 fn listed(alloc: Global) -> Result<Indexed, AllocError> {
     let mut indexed = Indexed::new(alloc);
-    let list = Delta::Replace(7, objects(alloc, &[ELSEWHERE, POD])?);
+    let list = listing(alloc, Kind::Pod, 7, &[ELSEWHERE, POD])?;
     apply(&mut indexed, list)?;
     Ok(indexed)
 }
@@ -73,10 +64,9 @@ fn followed(alloc: Global) -> Result<String, AllocError> {
 
 // The indexes follow: an owner is left, an object goes, and a mark moves the revision alone. The copy is left alone.
 #[test]
-fn a_copy_follows_its_deltas(rt: HostRuntime) -> Result<(), AllocError> {
-    let text = followed(rt.alloc())?;
-    assert_eq!(rt; text.as_str(), FOLLOWED);
-    Ok(())
+fn a_copy_follows_its_deltas(rt: HostRuntime) {
+    let text = followed(rt.alloc());
+    assert_eq!(rt; text.as_deref(), Ok(FOLLOWED));
 }
 
 const FOLLOWED: &str =
@@ -91,14 +81,12 @@ fn relist(alloc: Global, indexed: &mut Indexed, list: &Delta) -> Result<[usize; 
 
 /// What `relist` returns where `p` alone is listed.
 fn relisted(alloc: Global) -> Result<[usize; 3], AllocError> {
-    let list = Delta::Replace(8, objects(alloc, &[POD])?);
+    let list = listing(alloc, Kind::Pod, 8, &[POD])?;
     let mut indexed = listed(alloc)?;
     relist(alloc, &mut indexed, &list)
 }
 
 #[test]
-fn a_relist_shifts_what_differs(rt: HostRuntime) -> Result<(), AllocError> {
-    let seen = relisted(rt.alloc())?;
-    assert_eq!(rt; seen, [1, 1, 1]);
-    Ok(())
+fn a_relist_shifts_what_differs(rt: HostRuntime) {
+    assert_eq!(rt; relisted(rt.alloc()), Ok([1, 1, 1]));
 }

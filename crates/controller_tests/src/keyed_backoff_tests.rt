@@ -16,9 +16,6 @@ fn delays(alloc: Global) -> Result<([u64; 3], [Option<u32>; 2]), AllocError> {
 }
 
 #[test]
-fn delays_double_until_a_success(rt: HostRuntime) -> Result<(), AllocError> {
-    let (delays, failures) = delays(rt.alloc())?;
-    assert_eq!(rt; delays, [5, 10, 5]);
-    assert_eq!(rt; failures, [Some(2), None]);
-    Ok(())
+fn delays_double_until_a_success(rt: HostRuntime) {
+    assert_eq!(rt; delays(rt.alloc()), Ok(([5, 10, 5], [Some(2), None])));
 }

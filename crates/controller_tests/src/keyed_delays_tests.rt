@@ -2,10 +2,13 @@
 use keyed_queues::KeyedDelays;
 use std::alloc::{AllocError, Global};
 
+/// The moments at which texts are to come due.
+const MOMENTS: [(&str, u64); 4] = [("web", 20), ("api", 20), ("db", 30), ("db", 10)];
+
 /// Two texts that come due at 20, and one that is to come at 30 and then at 10.
 fn three_texts(alloc: Global) -> Result<KeyedDelays<String>, AllocError> {
     let mut delays = KeyedDelays::new(alloc);
-    for (name, moment) in [("web", 20), ("api", 20), ("db", 30), ("db", 10)] {
+    for &(name, moment) in &MOMENTS {
         delays.add_after(String::from_str(alloc, name)?, moment)?;
     }
     Ok(delays)
@@ -28,17 +31,16 @@ fn tell_due(
 fn due(alloc: Global) -> Result<String, AllocError> {
     let mut text = String::new(alloc);
     let mut delays = three_texts(alloc)?;
-    for moment in [9, 20, 50] {
-        tell_due(&mut text, &mut delays, moment)?;
+    for moment in &[9, 20, 50] {
+        tell_due(&mut text, &mut delays, *moment)?;
     }
     Ok(text)
 }
 
 #[test]
-fn texts_come_due_in_order(rt: HostRuntime) -> Result<(), AllocError> {
-    let text = due(rt.alloc())?;
-    assert_eq!(rt; text.as_str(), ";db api web ;;");
-    Ok(())
+fn texts_come_due_in_order(rt: HostRuntime) {
+    let text = due(rt.alloc());
+    assert_eq!(rt; text.as_deref(), Ok(";db api web ;;"));
 }
 
 /// Returns how many of the three texts are due at 20, and how many at 50 once those are dropped.
@@ -50,8 +52,6 @@ fn dropped(alloc: Global) -> Result<[usize; 2], AllocError> {
 }
 
 #[test]
-fn texts_are_dropped_when_due(rt: HostRuntime) -> Result<(), AllocError> {
-    let counts = dropped(rt.alloc())?;
-    assert_eq!(rt; counts, [3, 0]);
-    Ok(())
+fn texts_are_dropped_when_due(rt: HostRuntime) {
+    assert_eq!(rt; dropped(rt.alloc()), Ok([3, 0]));
 }

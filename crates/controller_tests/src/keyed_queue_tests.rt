@@ -29,32 +29,43 @@ fn added_twice(alloc: Global) -> Result<(bool, [usize; 2], bool), AllocError> {
 }
 
 #[test]
-fn a_text_waits_for_its_done(rt: HostRuntime) -> Result<(), AllocError> {
-    let seen = added_twice(rt.alloc())?;
-    assert_eq!(rt; seen, (true, [0, 1], true));
-    Ok(())
+fn a_text_waits_for_its_done(rt: HostRuntime) {
+    assert_eq!(rt; added_twice(rt.alloc()), Ok((true, [0, 1], true)));
 }
 
-/// Adds `web`, `api` and `web` together, shuts the queue and adds `db`. Returns how many wait, and whether the first is `web`.
+/// Returns these texts.
+fn texts(alloc: Global, names: &[&str]) -> Result<Vec<String>, AllocError> {
+    let mut texts = Vec::new(alloc);
+    for name in names {
+        texts.push(String::from_str(alloc, name)?)?;
+    }
+    Ok(texts)
+}
+
+/// Returns whether a text waits first.
+fn is_first(queue: &KeyedQueue<String>, text: &str) -> bool {
+    match queue.first() {
+        Some(first) => first.as_str() == text,
+        None => false,
+    }
+}
+
+/// Adds `web`, `api` and `web` together, shuts the queue and adds `db`.
+fn add_together(alloc: Global, queue: &mut KeyedQueue<String>) -> Result<(), AllocError> {
+    let texts = texts(alloc, &["web", "api", "web"])?;
+    queue.add_all(texts.as_slice())?;
+    queue.shut_down();
+    queue.add(String::from_str(alloc, "db")?)
+}
+
+/// Returns how many wait once those were added, and whether the first is `web`.
 fn added_together(alloc: Global) -> Result<(usize, bool), AllocError> {
     let mut queue = KeyedQueue::new(alloc);
-    let mut keys = Vec::new(alloc);
-    for name in ["web", "api", "web"] {
-        keys.push(String::from_str(alloc, name)?)?;
-    }
-    queue.add_all(keys.as_slice())?;
-    queue.shut_down();
-    queue.add(String::from_str(alloc, "db")?)?;
-    let is_web = match queue.first() {
-        Some(first) => first.as_str() == "web",
-        None => false,
-    };
-    Ok((queue.len(), is_web))
+    add_together(alloc, &mut queue)?;
+    Ok((queue.len(), is_first(&queue, "web")))
 }
 
 #[test]
-fn texts_wait_once_in_their_order(rt: HostRuntime) -> Result<(), AllocError> {
-    let seen = added_together(rt.alloc())?;
-    assert_eq!(rt; seen, (2, true));
-    Ok(())
+fn texts_wait_once_in_their_order(rt: HostRuntime) {
+    assert_eq!(rt; added_together(rt.alloc()), Ok((2, true)));
 }

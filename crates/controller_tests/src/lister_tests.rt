@@ -1,5 +1,5 @@
 //! Each call of an informer that threads look at, once, with ample memory.
-use crate::fixtures::{pod, put_at, remove};
+use crate::fixtures::{pod, publish, put_at, remove};
 use informer::{Informer, Lister, SharedInformer};
 use plain_informer::Publishing;
 use std::alloc::{AllocError, Global};
@@ -45,17 +45,22 @@ fn looked(alloc: Global, lister: Lister) -> Result<(u64, bool), AllocError> {
     }
 }
 
+/// Returns what a new lister looks at.
+fn looked_anew(alloc: Global, informer: &mut Informer) -> Result<(u64, bool), AllocError> {
+    let lister = informer.lister()?;
+    looked(alloc, lister)
+}
+
 /// Returns what a new lister looks at, and whether a lister may look once the informer is closed.
 fn looked_and_closed<R: Wait>(
     rt: &R,
     alloc: Global,
     mut informer: Informer,
 ) -> Result<((u64, bool), bool), AllocError> {
-    let first = informer.lister();
     let second = informer.lister();
-    let seen = first.map(|lister| looked(alloc, lister));
+    let seen = looked_anew(alloc, &mut informer);
     informer.close(rt);
-    Ok((seen??, second?.look().is_ok()))
+    Ok((seen?, second?.look().is_ok()))
 }
 
 /// Returns what `publish_three` does, how many deltas wait then, and what `looked_and_closed` does.
@@ -72,10 +77,11 @@ fn called<R: Wait>(
 }
 
 #[test]
-fn each_call_once(rt: HostRuntime) -> Result<(), AllocError> {
-    let seen = called(&rt, rt.alloc())?;
-    assert_eq!(rt; seen, ((3, 5, 2), 2, ((5, true), false)));
-    Ok(())
+fn each_call_once(rt: HostRuntime) {
+    assert_eq!(rt;
+        called(&rt, rt.alloc()),
+        Ok(((3, 5, 2), 2, ((5, true), false)))
+    );
 }
 
 /// Returns what a lister of a shared informer looks at, and whether a lister may look once the informer is dropped.
@@ -88,10 +94,11 @@ fn looked_and_dropped<R: Wait>(rt: &R, alloc: Global) -> Result<((u64, bool), bo
 }
 
 #[test]
-fn a_shared_informer_closes_as_it_is_dropped(rt: HostRuntime) -> Result<(), AllocError> {
-    let looked = looked_and_dropped(&rt, rt.alloc())?;
-    assert_eq!(rt; looked, ((0, false), false));
-    Ok(())
+fn a_shared_informer_closes_as_it_is_dropped(rt: HostRuntime) {
+    assert_eq!(rt;
+        looked_and_dropped(&rt, rt.alloc()),
+        Ok(((0, false), false))
+    );
 }
 
 /// Publishes one delta, and returns how many shifts there were and the revision that is published then.
@@ -100,10 +107,7 @@ fn publish_one<R: Wait>(
     alloc: Global,
     informer: &mut Informer,
 ) -> Result<(usize, u64), AllocError> {
-    informer
-        .append(put_at(alloc, 7)?)
-        .map_err(|_delta| AllocError)?;
-    let shifts = informer.publish(rt)?.len();
+    let shifts = publish(rt, informer, put_at(alloc, 7)?)?;
     Ok((shifts, informer.published().revision()))
 }
 
@@ -116,8 +120,6 @@ fn published<R: Wait>(rt: &R, alloc: Global) -> Result<(usize, u64), AllocError>
 }
 
 #[test]
-fn a_publish_shifts_what_it_publishes(rt: HostRuntime) -> Result<(), AllocError> {
-    let seen = published(&rt, rt.alloc())?;
-    assert_eq!(rt; seen, (1, 7));
-    Ok(())
+fn a_publish_shifts_what_it_publishes(rt: HostRuntime) {
+    assert_eq!(rt; published(&rt, rt.alloc()), Ok((1, 7)));
 }

@@ -8,16 +8,20 @@ use spec_api::kinds::Kind;
 use spec_client_go::controller::Controller;
 use std::alloc::{AllocError, Global};
 
-/// Looks at which only `web` is there.
-fn looks(alloc: Global) -> Result<Looks<Indexed>, AllocError> {
-    let mut replica_sets = Indexed::new(alloc);
-    replica_sets.apply(&Delta::Put(shared(alloc, Kind::ReplicaSet, WEB)?))?;
-    Ok(Looks {
+/// Looks at which nothing is there.
+fn no_looks(alloc: Global) -> Looks<Indexed> {
+    Looks {
         config_maps: Indexed::new(alloc),
         pods: Indexed::new(alloc),
-        replica_sets,
+        replica_sets: Indexed::new(alloc),
         deployments: Indexed::new(alloc),
-    })
+    }
+}
+
+/// Puts `web` into a copy.
+fn put_web(alloc: Global, replica_sets: &mut Indexed) -> Result<(), AllocError> {
+    let web = Delta::Put(shared(alloc, Kind::ReplicaSet, WEB)?);
+    replica_sets.apply(&web)
 }
 
 /// The word of a controller.
@@ -60,19 +64,25 @@ fn owed_by(
     said(alloc, keys.as_slice())
 }
 
-/// What the release of the Pod owes.
-fn owed(alloc: Global) -> Result<String, AllocError> {
+/// What the release of the Pod owes, where `web` alone is looked at.
+fn owed_at(alloc: Global, looks: &mut Looks<Indexed>) -> Result<String, AllocError> {
+    put_web(alloc, &mut looks.replica_sets)?;
     let old = shared(alloc, Kind::Pod, POD)?;
     let new = shared(alloc, Kind::Pod, RELEASED)?;
-    owed_by(alloc, &old, &new, &looks(alloc)?)
+    owed_by(alloc, &old, &new, looks)
+}
+
+/// What the release of the Pod owes.
+fn owed(alloc: Global) -> Result<String, AllocError> {
+    let mut looks = no_looks(alloc);
+    owed_at(alloc, &mut looks)
 }
 
 // Its old owner, the sets that may adopt it, and the Deployment over its old owner.
 #[test]
-fn a_released_pod_owes_its_old_owner(rt: HostRuntime) -> Result<(), AllocError> {
-    let keys = owed(rt.alloc())?;
-    assert_eq!(rt; keys.as_str(), OWED);
-    Ok(())
+fn a_released_pod_owes_its_old_owner(rt: HostRuntime) {
+    let keys = owed(rt.alloc());
+    assert_eq!(rt; keys.as_deref(), Ok(OWED));
 }
 
 const OWED: &str = "rs ReplicaSet web,deploy Deployment site,gc Pod p,gc ReplicaSet web,";

@@ -1,12 +1,12 @@
 //! A turn of a ReplicaSet.
-use crate::hands::{hand, look};
-use crate::written::{tell_commands, tell_keys};
+use crate::hands::{answers, show};
+use crate::written::told;
 use indexer::Indexed;
 use reconcile_types::Hand;
 use replicaset::{asks, plan};
 use spec_api::kinds::Kind;
+use spec_client_go::controller::Controller;
 use std::alloc::{AllocError, Global};
-use test_fixtures::key;
 
 /// A pod that is ready.
 const P3: &str =
@@ -25,31 +25,28 @@ const ONE_OF_TWO: &str =
     r#"{"metadata":{"generation":1,"name":"web","namespace":"default","resourceVersion":"8","uid":"u-web"},"spec":{"replicas":1,"selector":{"matchLabels":{"app":"web"}},"template":{"metadata":{"labels":{"app":"web"}},"spec":{}}},"status":{"availableReplicas":2,"observedGeneration":1,"readyReplicas":2,"replicas":2}}"#;
 
 /// Has a turn look at the set and the pods.
-fn show(alloc: Global, hand: &mut Hand<Indexed>) -> Result<(), AllocError> {
-    hand.looks.pods = look(alloc, Kind::Pod, &[P4, P3, ORPHAN])?;
-    hand.looks.replica_sets = look(alloc, Kind::ReplicaSet, &[ONE_OF_TWO])?;
-    Ok(())
+fn look(alloc: Global, hand: &mut Hand<Indexed>) -> Result<(), AllocError> {
+    let looks = &mut hand.looks;
+    show(alloc, &mut looks.pods, Kind::Pod, &[P4, P3, ORPHAN])?;
+    show(
+        alloc,
+        &mut looks.replica_sets,
+        Kind::ReplicaSet,
+        &[ONE_OF_TWO],
+    )
 }
 
-/// Adds to a text what a turn asks for, and what it commands.
-fn tell(alloc: Global, text: &mut String, hand: &Hand<Indexed>) -> Result<(), AllocError> {
-    tell_keys(text, asks(alloc, hand)?.as_slice())?;
-    tell_commands(text, plan(alloc, hand)?.commands.as_slice())
-}
-
-/// What the turn of the set asks for, and what it commands.
-fn answers(alloc: Global) -> Result<String, AllocError> {
-    let mut text = String::new(alloc);
-    let mut hand = hand(alloc, key(alloc, Kind::ReplicaSet, "web")?);
-    show(alloc, &mut hand)?;
-    tell(alloc, &mut text, &hand)?;
-    Ok(text)
+/// Returns what the turn of the set asks for, and what it commands.
+pub(crate) fn told_of(alloc: Global, hand: &mut Hand<Indexed>) -> Result<String, AllocError> {
+    look(alloc, hand)?;
+    let keys = asks(alloc, hand)?;
+    let plan = plan(alloc, hand)?;
+    told(alloc, keys.as_slice(), plan.commands.as_slice())
 }
 
 // Among like pods the name decides. The orphan is not adopted, since the set was not read live.
 #[test]
-fn one_pod_too_many_goes(rt: HostRuntime) -> Result<(), AllocError> {
-    let text = answers(rt.alloc())?;
-    assert_eq!(rt; text.as_str(), "ReplicaSet web,delete p3,u-3 none,");
-    Ok(())
+fn one_pod_too_many_goes(rt: HostRuntime) {
+    let text = answers(rt.alloc(), Controller::ReplicaSet, Kind::ReplicaSet, "web");
+    assert_eq!(rt; text.as_deref(), Ok("ReplicaSet web,delete p3,u-3 none,"));
 }

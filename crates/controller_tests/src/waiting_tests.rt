@@ -1,4 +1,4 @@
-//! Threads that wait for a text at a board.
+//! Threads that wait at a board: for a text, or until one comes due.
 ghost use Rattle.shared_keyed_board.specs.Passes.{IsNewAt};
 
 use shared_keyed_board::{BoardPass, SharedKeyedBoard};
@@ -15,33 +15,68 @@ enum Cause {
     ComesDue,
     GivenBack,
     ShutDown,
+    Delay,
 }
 
-/// Waits for a text from a while on, and gives it back. Returns whether one came, and whether the wait was short.
-fn wait<R: Wait + Clock>(
+/// Waits for a text, and gives it back. Returns whether one came.
+fn take<R: Wait + Clock>(
     rt: &R,
     board: &SharedKeyedBoard<String>,
     mut pass: BoardPass<String>,
-) -> (bool, bool)
+) -> bool
     requires { IsNewAt board.now pass }
 {
-    thread::sleep(rt, Duration::from_millis(100));
-    let start = Instant::now(rt);
-    let has_come = match board.take(rt, &mut pass) {
+    match board.take(rt, &mut pass) {
         Ok(Some(hand)) => {
             board.done(rt, &mut pass, hand);
             true
         }
         Ok(None) => false,
         Err(_) => false,
-    };
-    (has_come, is_short(rt, start.ok()))
+    }
+}
+
+/// Rests at a board on which nothing is delayed yet, where a delay is to end that, and else waits for a text. Returns whether one came.
+fn rest_or_take<R: Wait + Clock>(
+    rt: &R,
+    board: &SharedKeyedBoard<String>,
+    mut pass: BoardPass<String>,
+    cause: Cause,
+) -> bool
+    requires { IsNewAt board.now pass }
+{
+    if cause == Cause::Delay {
+        board.rest_until_due(rt, &mut pass);
+        false
+    } else {
+        take(rt, board, pass)
+    }
+}
+
+/// Waits from a while on. Returns whether a text came, and whether the wait was short.
+fn wait<R: Wait + Clock>(
+    rt: &R,
+    board: &SharedKeyedBoard<String>,
+    pass: BoardPass<String>,
+    cause: Cause,
+) -> (bool, bool)
+    requires { IsNewAt board.now pass }
+{
+    thread::sleep(rt, Duration::from_millis(100));
+    let start = Instant::now(rt).ok();
+    let has_come = rest_or_take(rt, board, pass, cause);
+    (has_come, is_short(rt, start))
 }
 
 /// Returns whether less than half a minute has passed since a moment.
 fn is_short<R: Clock>(rt: &R, start: Option<Instant>) -> bool {
-    let passed = start.and_then(|start| start.elapsed(rt).ok());
-    passed.is_some_and(|passed| passed < Duration::from_secs(30))
+    let Some(start) = start else {
+        return false;
+    };
+    match start.elapsed(rt).ok() {
+        Some(passed) => passed < Duration::from_secs(30),
+        None => false,
+    }
 }
 
 /// Does what is to wake who waits, once that sleeps.
@@ -59,16 +94,16 @@ fn wake<R: Wait + Clock>(
             pause(rt);
             board.add(rt, &mut pass, key)
         }
-        Cause::ComesDue => {
-            board.add_after(rt, &mut pass, key, 5)?;
-            pause(rt);
-            board.tick(rt, &mut pass, 5)
-        }
+        Cause::ComesDue => come_due(rt, board, pass, key),
         Cause::GivenBack => give_back(rt, board, pass, key),
         Cause::ShutDown => {
             pause(rt);
             board.shut_down(rt, &mut pass);
             Ok(())
+        }
+        Cause::Delay => {
+            pause(rt);
+            board.add_after(rt, &mut pass, key, 5)
         }
     }
 }
@@ -76,6 +111,20 @@ fn wake<R: Wait + Clock>(
 /// Rests until who waits sleeps.
 fn pause<R: Clock>(rt: &R) {
     thread::sleep(rt, Duration::from_millis(400));
+}
+
+/// Delays a text before who waits looks for one, and has it come due.
+fn come_due<R: Wait + Clock>(
+    rt: &R,
+    board: &SharedKeyedBoard<String>,
+    mut pass: BoardPass<String>,
+    key: &String,
+) -> Result<(), AllocError>
+    requires { IsNewAt board.now pass }
+{
+    board.add_after(rt, &mut pass, key, 5)?;
+    pause(rt);
+    board.tick(rt, &mut pass, 5)
 }
 
 /// Takes a text before who waits looks for one, adds it again, and gives it back.
@@ -112,7 +161,7 @@ fn woken<R: Threads + Wait + Clock + Sync>(
         rt,
         || -> (bool, bool)
             requires { IsNewAt board first }
-        { wait(rt, &board, first) },
+        { wait(rt, &board, first, cause) },
         || -> Result<(), AllocError>
             requires { IsNewAt board second }
         { wake(rt, &board, second, &key, cause) },
@@ -122,82 +171,26 @@ fn woken<R: Threads + Wait + Clock + Sync>(
 }
 
 #[test]
-fn an_add_wakes_who_waits(rt: HostRuntime) -> Result<(), AllocError> {
-    let told = woken(&rt, rt.alloc(), Cause::Add)?;
-    assert_eq!(rt; told, (true, true));
-    Ok(())
+fn an_add_wakes_who_waits(rt: HostRuntime) {
+    assert_eq!(rt; woken(&rt, rt.alloc(), Cause::Add), Ok((true, true)));
 }
 
 #[test]
-fn a_text_that_comes_due_wakes_who_waits(rt: HostRuntime) -> Result<(), AllocError> {
-    let told = woken(&rt, rt.alloc(), Cause::ComesDue)?;
-    assert_eq!(rt; told, (true, true));
-    Ok(())
+fn a_text_that_comes_due_wakes_who_waits(rt: HostRuntime) {
+    assert_eq!(rt; woken(&rt, rt.alloc(), Cause::ComesDue), Ok((true, true)));
 }
 
 #[test]
-fn a_text_that_is_given_back_wakes_who_waits(rt: HostRuntime) -> Result<(), AllocError> {
-    let told = woken(&rt, rt.alloc(), Cause::GivenBack)?;
-    assert_eq!(rt; told, (true, true));
-    Ok(())
+fn a_text_that_is_given_back_wakes_who_waits(rt: HostRuntime) {
+    assert_eq!(rt; woken(&rt, rt.alloc(), Cause::GivenBack), Ok((true, true)));
 }
 
 #[test]
-fn a_shut_down_wakes_who_waits(rt: HostRuntime) -> Result<(), AllocError> {
-    let told = woken(&rt, rt.alloc(), Cause::ShutDown)?;
-    assert_eq!(rt; told, (false, true));
-    Ok(())
-}
-
-/// Rests at a board on which nothing is delayed yet. Returns whether the rest was short.
-fn rest<R: Wait + Clock>(
-    rt: &R,
-    board: &SharedKeyedBoard<String>,
-    mut pass: BoardPass<String>,
-) -> bool
-    requires { IsNewAt board.now pass }
-{
-    let start = Instant::now(rt);
-    board.rest_until_due(rt, &mut pass);
-    is_short(rt, start.ok())
-}
-
-/// Delays a text once who rests sleeps.
-fn delay<R: Wait + Clock>(
-    rt: &R,
-    board: &SharedKeyedBoard<String>,
-    mut pass: BoardPass<String>,
-    key: &String,
-) -> Result<(), AllocError>
-    requires { IsNewAt board.now pass }
-{
-    pause(rt);
-    board.add_after(rt, &mut pass, key, 5)
-}
-
-/// Has one thread rest while another delays a text. Returns whether the rest was short.
-fn rested<R: Threads + Wait + Clock + Sync>(rt: &R, alloc: Global) -> Result<bool, AllocError> {
-    let (board, mut passes) = SharedKeyedBoard::<String>::open(alloc, 2)?;
-    let key = String::from_str(alloc, "web")?;
-    let (Some(first), Some(second)) = (passes.pop(), passes.pop()) else {
-        return Ok(false);
-    };
-    let (is_short, delayed) = thread::join(
-        rt,
-        || -> bool
-            requires { IsNewAt board first }
-        { rest(rt, &board, first) },
-        || -> Result<(), AllocError>
-            requires { IsNewAt board second }
-        { delay(rt, &board, second, &key) },
-    );
-    delayed?;
-    Ok(is_short)
+fn a_shut_down_wakes_who_waits(rt: HostRuntime) {
+    assert_eq!(rt; woken(&rt, rt.alloc(), Cause::ShutDown), Ok((false, true)));
 }
 
 #[test]
-fn a_delay_ends_a_rest(rt: HostRuntime) -> Result<(), AllocError> {
-    let is_short = rested(&rt, rt.alloc())?;
-    assert_eq!(rt; is_short, true);
-    Ok(())
+fn a_delay_ends_a_rest(rt: HostRuntime) {
+    assert_eq!(rt; woken(&rt, rt.alloc(), Cause::Delay), Ok((false, true)));
 }

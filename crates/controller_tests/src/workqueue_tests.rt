@@ -36,19 +36,25 @@ fn add_and_end(alloc: Global, queue: &mut Queue, key: &WorkKey) -> Result<[usize
     Ok([meanwhile, queue.len()])
 }
 
-/// Adds the key `web` twice, where it is taken in between. Returns whether it was handed out, how many keys wait before and after it is done,
-/// and whether it is handed out once more.
-fn added_twice(alloc: Global) -> Result<(bool, [usize; 2], bool), AllocError> {
-    let mut queue = Queue::new(alloc);
+/// What is seen of a key that is added twice: whether it was handed out, how many keys wait before and after it is done, and whether it is
+/// handed out once more.
+type Seen = (bool, [usize; 2], bool);
+
+/// Adds the key `web` twice, where it is taken in between.
+fn add_twice(alloc: Global, queue: &mut Queue, key: &WorkKey) -> Result<Seen, AllocError> {
+    let first = add_and_take(alloc, queue, key)?;
+    let waiting = add_and_end(alloc, queue, key)?;
+    Ok((first, waiting, is_handed_out(queue, key)?))
+}
+
+/// Returns what is seen as the key `web` is added twice.
+fn added_twice(alloc: Global) -> Result<Seen, AllocError> {
     let key = work_key(alloc, "web")?;
-    let first = add_and_take(alloc, &mut queue, &key)?;
-    let waiting = add_and_end(alloc, &mut queue, &key)?;
-    Ok((first, waiting, is_handed_out(&mut queue, &key)?))
+    let mut queue = Queue::new(alloc);
+    add_twice(alloc, &mut queue, &key)
 }
 
 #[test]
-fn a_key_waits_for_its_done(rt: HostRuntime) -> Result<(), AllocError> {
-    let seen = added_twice(rt.alloc())?;
-    assert_eq!(rt; seen, (true, [0, 1], true));
-    Ok(())
+fn a_key_waits_for_its_done(rt: HostRuntime) {
+    assert_eq!(rt; added_twice(rt.alloc()), Ok((true, [0, 1], true)));
 }

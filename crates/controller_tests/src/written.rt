@@ -1,7 +1,7 @@
 //! Keys and commands as texts, to be compared.
 use object_keys::Key;
 use reconcile_types::{Command, Version};
-use std::alloc::AllocError;
+use std::alloc::{AllocError, Global};
 
 /// Adds two words to a text, with a blank between them and a comma in the end.
 fn tell(text: &mut String, first: &str, second: &str) -> Result<(), AllocError> {
@@ -60,4 +60,16 @@ pub(crate) fn tell_commands(text: &mut String, commands: &[Command]) -> Result<(
         tell_command(text, command)?;
     }
     Ok(())
+}
+
+/// Returns the keys that a turn asks for, and the commands of its plan.
+pub(crate) fn told(
+    alloc: Global,
+    keys: &[Key],
+    commands: &[Command],
+) -> Result<String, AllocError> {
+    let mut text = String::new(alloc);
+    tell_keys(&mut text, keys)?;
+    tell_commands(&mut text, commands)?;
+    Ok(text)
 }
