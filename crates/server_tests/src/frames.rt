@@ -28,7 +28,7 @@ fn filled(alloc: Global, len: usize) -> Result<Vec<u8>, AllocError> {
 /// Returns whether bytes are a frame, where there is no fault, and else none for this fault.
 fn is_decoded(alloc: Global, bytes: &[u8], fault: Option<FrameFault>) -> bool {
     let mut decoder = Decoder::new(alloc);
-    match decoder.feed(alloc, bytes) {
+    match &decoder.feed(alloc, bytes) {
         Ok(found) => found.frames.len() == usize::from(fault.is_none()) && found.fault == fault,
         Err(_) => false,
     }
@@ -62,13 +62,18 @@ fn a_frame_has_two_mebibytes(rt: HostRuntime) {
 const TOO_NEW: &str =
     "{\"object\":{\"apiVersion\":\"v1\",\"code\":504,\"kind\":\"Status\",\"message\":\"Timeout: Too large resource version: 9, current: 5\",\"metadata\":{},\"reason\":\"Timeout\",\"status\":\"Failure\"},\"type\":\"ERROR\"}\n";
 
+/// Returns whether the frame of a fault is this text.
+fn is_text(alloc: Global, fault: &Fault, text: &str) -> Result<bool, AllocError> {
+    Ok(error_text(alloc, fault)?.as_str() == text)
+}
+
 /// Returns whether the frame is written so.
 fn is_written(alloc: Global) -> Result<bool, AllocError> {
     let fault = Fault::TooNew {
         asked: 9,
         present: 5,
     };
-    Ok(error_text(alloc, &fault)?.as_str() == TOO_NEW)
+    is_text(alloc, &fault, TOO_NEW)
 }
 
 #[test]

@@ -27,16 +27,25 @@ const FRAMES: [(&str, Option<End>, Ask); 3] = [
     ),
 ];
 
+/// Gives a reflector the list. Returns whether it was taken in.
+fn is_listed(alloc: Global, reflector: &mut Reflector) -> bool {
+    reflector.on_list(alloc, LIST.as_bytes()).is_ok()
+}
+
+/// Gives a reflector a frame. Returns whether it was taken in, and ends the watch so.
+fn is_ended(alloc: Global, reflector: &mut Reflector, text: &str, end: Option<End>) -> bool {
+    match &reflector.feed(alloc, text.as_bytes()) {
+        Ok(fed) => fed.end == end,
+        Err(_) => false,
+    }
+}
+
 /// Returns whether a frame ends the watch so, and this is asked for next.
 fn ends_so(alloc: Global, text: &str, end: Option<End>, next: Ask) -> bool {
     let mut reflector = Reflector::new(alloc, Kind::ConfigMap);
-    if reflector.on_list(alloc, LIST.as_bytes()).is_err() {
-        return false;
-    }
-    match reflector.feed(alloc, text.as_bytes()) {
-        Ok(fed) => fed.end == end && reflector.next() == next,
-        Err(_) => false,
-    }
+    is_listed(alloc, &mut reflector)
+        && is_ended(alloc, &mut reflector, text, end)
+        && reflector.next() == next
 }
 
 /// Returns the first frame that does not end the watch as it has to.
@@ -61,13 +70,17 @@ const OTHERS: [&str; 3] = [
     "{\"apiVersion\":\"v1\",\"items\":[{}],\"kind\":\"ConfigMapList\",\"metadata\":{\"resourceVersion\":\"2\"}}",
 ];
 
+/// Returns whether a body is refused, as one that is no list of ConfigMaps.
+fn is_refused(alloc: Global, body: &str) -> bool {
+    let mut reflector = Reflector::new(alloc, Kind::ConfigMap);
+    reflector.on_list(alloc, body.as_bytes()).err() == Some(ListFault::Unreadable)
+}
+
 /// Returns the first body that is not refused.
 fn first_accepted(alloc: Global) -> Option<usize> {
     for (place, body) in OTHERS.iter().enumerate() {
-        let mut reflector = Reflector::new(alloc, Kind::ConfigMap);
-        match reflector.on_list(alloc, body.as_bytes()) {
-            Err(ListFault::Unreadable) => {}
-            _ => return Some(place),
+        if !is_refused(alloc, body) {
+            return Some(place);
         }
     }
     None

@@ -6,17 +6,39 @@ use spec_api::kinds::Kind;
 use std::alloc::{AllocError, Global};
 use std::mem::size_of;
 
+/// Returns the array of a value alone.
+fn array_of(alloc: Global, value: Value) -> Result<Value, AllocError> {
+    let mut items = Vec::new(alloc);
+    items.push(value)?;
+    Ok(Value::Array(items))
+}
+
+/// Returns the object whose only member is a value.
+fn object_of(alloc: Global, value: Value) -> Result<Value, AllocError> {
+    let mut members = Map::new(alloc);
+    members.insert(String::from_str(alloc, "deep")?, value)?;
+    Ok(Value::Object(members))
+}
+
 /// Returns a value that nests deeper than a text that is read back.
 fn deep(alloc: Global) -> Result<Value, AllocError> {
     let mut value = Value::Null;
     for _ in 0..200u32 {
-        let mut items = Vec::new(alloc);
-        items.push(value)?;
-        value = Value::Array(items);
+        value = array_of(alloc, value)?;
     }
-    let mut members = Map::new(alloc);
-    members.insert(String::from_str(alloc, "deep")?, value)?;
-    Ok(Value::Object(members))
+    object_of(alloc, value)
+}
+
+/// Returns whether what was stored has the same text once it is opened.
+fn is_opened_again(alloc: Global, stored: &StoredObject) -> Result<bool, AllocError> {
+    let object = stored.open(alloc)?;
+    Ok(object.text(alloc)?.as_str() == stored.text())
+}
+
+/// Returns whether an object is the same after it was stored and opened, by its text.
+fn is_the_same(alloc: Global, object: &Object) -> Result<bool, AllocError> {
+    let stored = StoredObject::new(alloc, object)?;
+    is_opened_again(alloc, &stored)
 }
 
 /// Returns whether an object that nests deep is the same after it was stored and opened, by its text.
@@ -26,9 +48,7 @@ fn is_opened(alloc: Global) -> Result<bool, AllocError> {
         return Ok(false);
     }
     let object = Object::from_whole(Kind::ConfigMap, value);
-    let stored = StoredObject::new(alloc, &object)?;
-    let text = stored.open(alloc)?.text(alloc)?;
-    Ok(text.as_str() == stored.text())
+    is_the_same(alloc, &object)
 }
 
 // No body nests as deep, but an object that does is opened all the same.
