@@ -10,58 +10,83 @@ fn turn(board: &mut KeyedBoard<String>, outcome: Outcome) -> Result<Option<u64>,
     Ok(board.until_due())
 }
 
-/// Returns a board on which a text waits.
-fn board(alloc: Global) -> Result<KeyedBoard<String>, AllocError> {
-    let mut board = KeyedBoard::new(alloc);
-    board.add_all(&[String::from_str(alloc, "web")?])?;
-    Ok(board)
+/// Adds a text that is to wait.
+fn add(alloc: Global, board: &mut KeyedBoard<String>, name: &str) -> Result<(), AllocError> {
+    let key = String::from_str(alloc, name)?;
+    board.add_all(std::slice::from_ref(&key))
 }
 
-/// Has a text fail twice, the second time once its delay is over. Returns how long it waits after each, and 6 milliseconds later.
-fn failed_twice(alloc: Global) -> Result<[Option<u64>; 3], AllocError> {
-    let mut board = board(alloc)?;
-    let first = turn(&mut board, Outcome::Failed)?;
-    board.tick(5)?;
-    let second = turn(&mut board, Outcome::Failed)?;
-    board.tick(11)?;
-    Ok([first, second, board.until_due()])
+/// Takes a turn for each of these, as it went, and has the time after it come. Returns how long it is until a text comes due after each turn.
+fn take_turns(
+    alloc: Global,
+    board: &mut KeyedBoard<String>,
+    turns: &[(Outcome, u64)],
+) -> Result<Vec<Option<u64>>, AllocError> {
+    let mut waits = Vec::new(alloc);
+    for (outcome, now) in turns {
+        waits.push(turn(board, *outcome)?)?;
+        board.tick(*now)?;
+    }
+    Ok(waits)
 }
+
+/// Has a text go so. Returns how long it waits after each turn.
+fn waits(alloc: Global, turns: &[(Outcome, u64)]) -> Result<Vec<Option<u64>>, AllocError> {
+    let mut board = KeyedBoard::new(alloc);
+    add(alloc, &mut board, "web")?;
+    take_turns(alloc, &mut board, turns)
+}
+
+/// A text that fails twice, the second time once its delay is over; 6 milliseconds later none is taken.
+const FAILED_TWICE: [(Outcome, u64); 3] = [
+    (Outcome::Failed, 5),
+    (Outcome::Failed, 11),
+    (Outcome::Failed, 11),
+];
 
 #[test]
 fn a_text_that_fails_comes_due_again(rt: HostRuntime) {
-    assert_eq!(rt; failed_twice(rt.alloc()), Ok([Some(5), Some(10), Some(4)]));
-}
-
-/// Has a text fail, succeed for now, and fail again. Returns how long it waits after each.
-fn failed_anew(alloc: Global) -> Result<[Option<u64>; 3], AllocError> {
-    let mut board = board(alloc)?;
-    let first = turn(&mut board, Outcome::Failed)?;
-    board.tick(5)?;
-    let second = turn(
-        &mut board,
-        Outcome::LookAgain {
-            milliseconds: 1_000,
-        },
-    )?;
-    board.tick(1_005)?;
-    Ok([first, second, turn(&mut board, Outcome::Failed)?])
-}
-
-#[test]
-fn a_success_forgets_failures(rt: HostRuntime) {
+    let delays = waits(rt.alloc(), &FAILED_TWICE);
     assert_eq!(rt;
-        failed_anew(rt.alloc()),
-        Ok([Some(5), Some(1_000), Some(5)])
+        delays.as_deref(),
+        Ok([Some(5), Some(10), Some(4)].as_slice())
     );
 }
 
-/// Has a text done, and one added after the shut-down. Returns how many wait in the end, and how long it is until one comes due.
-fn ended(alloc: Global) -> Result<(usize, Option<u64>), AllocError> {
-    let mut board = board(alloc)?;
-    let left = turn(&mut board, Outcome::Done)?;
+/// A text that fails, succeeds for now, and fails again.
+const FAILED_ANEW: [(Outcome, u64); 3] = [
+    (Outcome::Failed, 5),
+    (
+        Outcome::LookAgain {
+            milliseconds: 1_000,
+        },
+        1_005,
+    ),
+    (Outcome::Failed, 1_005),
+];
+
+#[test]
+fn a_success_forgets_failures(rt: HostRuntime) {
+    let delays = waits(rt.alloc(), &FAILED_ANEW);
+    assert_eq!(rt;
+        delays.as_deref(),
+        Ok([Some(5), Some(1_000), Some(5)].as_slice())
+    );
+}
+
+/// Has a text done, and adds one after the shut-down. Returns how many wait in the end, and how long it is until one comes due.
+fn end(alloc: Global, board: &mut KeyedBoard<String>) -> Result<(usize, Option<u64>), AllocError> {
+    add(alloc, board, "web")?;
+    let left = turn(board, Outcome::Done)?;
     board.shut_down();
-    board.add_all(&[String::from_str(alloc, "api")?])?;
+    add(alloc, board, "api")?;
     Ok((board.len(), left))
+}
+
+/// Returns what `end` does of a new board.
+fn ended(alloc: Global) -> Result<(usize, Option<u64>), AllocError> {
+    let mut board = KeyedBoard::new(alloc);
+    end(alloc, &mut board)
 }
 
 #[test]
