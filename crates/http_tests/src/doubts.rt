@@ -1,6 +1,7 @@
 //! How a follower knows a server again, after a watch that was cut.
 use crate::scenes::{
-    EMPTY, EXPIRED, FollowerScene, LATER, LIST, SAME, SAME_LATER, UNTIL_NINE, first_unlike,
+    EMPTY, EXPIRED, FollowerScene, LATER, LIST, Relisting, SAME, SAME_LATER, UNTIL_NINE,
+    first_unlike, first_unlisted,
 };
 use crate::scripts::{First, ScriptedWatch};
 use api_client::Opened;
@@ -74,93 +75,67 @@ const FALLS: ScriptedWatch<'static> = ScriptedWatch {
     ends: false,
 };
 
-const SCENES: [FollowerScene; 10] = [
+/// What leads to a list: what is said of the first object after a watch that was cut, or what the watch itself says.
+const RELISTINGS: [Relisting; 8] = [
     // another first object, or none, is another server's
-    FollowerScene {
-        lists: &[LIST, LATER],
+    Relisting {
+        watch: EMPTY,
         firsts: &[CREATED_ANEW],
-        watches: &[EMPTY],
-        refusals: 0,
-        most: usize::MAX,
-        asked: &[0, 5, 105, 0],
-        published: &[5, 9],
-        pauses: &[800, 1_600],
-        counts: (2, 1, 0),
+        pauses: 2,
         told: (0, 1),
     },
-    FollowerScene {
-        lists: &[LIST, LATER],
+    Relisting {
+        watch: EMPTY,
         firsts: &[WRITTEN_LATER],
-        watches: &[EMPTY],
-        refusals: 0,
-        most: usize::MAX,
-        asked: &[0, 5, 105, 0],
-        published: &[5, 9],
-        pauses: &[800, 1_600],
-        counts: (2, 1, 0),
+        pauses: 2,
         told: (0, 1),
     },
-    FollowerScene {
-        lists: &[LIST, LATER],
+    Relisting {
+        watch: EMPTY,
         firsts: &[NONE],
-        watches: &[EMPTY],
-        refusals: 0,
-        most: usize::MAX,
-        asked: &[0, 5, 105, 0],
-        published: &[5, 9],
-        pauses: &[800, 1_600],
-        counts: (2, 1, 0),
+        pauses: 2,
         told: (0, 1),
     },
     // where the revision is not known there, a list is asked for
-    FollowerScene {
-        lists: &[LIST, LATER],
+    Relisting {
+        watch: EMPTY,
         firsts: &[GONE],
-        watches: &[EMPTY],
-        refusals: 0,
-        most: usize::MAX,
-        asked: &[0, 5, 105, 0],
-        published: &[5, 9],
-        pauses: &[800],
-        counts: (2, 1, 0),
+        pauses: 1,
         told: (0, 0),
     },
-    FollowerScene {
-        lists: &[LIST, LATER],
+    Relisting {
+        watch: EMPTY,
         firsts: &[FORBIDDEN],
-        watches: &[EMPTY],
-        refusals: 0,
-        most: usize::MAX,
-        asked: &[0, 5, 105, 0],
-        published: &[5, 9],
-        pauses: &[800],
-        counts: (2, 1, 0),
+        pauses: 1,
         told: (0, 0),
     },
-    FollowerScene {
-        lists: &[LIST, LATER],
+    Relisting {
+        watch: EMPTY,
         firsts: &[TOO_NEW],
-        watches: &[EMPTY],
-        refusals: 0,
-        most: usize::MAX,
-        asked: &[0, 5, 105, 0],
-        published: &[5, 9],
-        pauses: &[800],
-        counts: (2, 1, 0),
+        pauses: 1,
         told: (0, 0),
     },
-    FollowerScene {
-        lists: &[LIST, LATER],
+    Relisting {
+        watch: EMPTY,
         firsts: &[SAME_LATER],
-        watches: &[EMPTY],
-        refusals: 0,
-        most: usize::MAX,
-        asked: &[0, 5, 105, 0],
-        published: &[5, 9],
-        pauses: &[800],
-        counts: (2, 1, 0),
+        pauses: 1,
         told: (0, 0),
     },
+    // a revision below the last one is another server's
+    Relisting {
+        watch: FALLS,
+        firsts: &[SAME],
+        pauses: 1,
+        told: (0, 1),
+    },
+];
+
+#[test]
+fn who_is_not_known_again_is_listed_anew(rt: HostRuntime) {
+    assert_eq!(rt; first_unlisted(rt.alloc(), &RELISTINGS), None);
+}
+
+const SCENES: [FollowerScene; 2] = [
     // it is asked again until it is said
     FollowerScene {
         lists: &[LIST],
@@ -186,19 +161,6 @@ const SCENES: [FollowerScene; 10] = [
         pauses: &[800, 1_600],
         counts: (2, 1, 0),
         told: (0, 0),
-    },
-    // a revision below the last one is another server's
-    FollowerScene {
-        lists: &[LIST, LATER],
-        firsts: &[SAME],
-        watches: &[FALLS],
-        refusals: 0,
-        most: usize::MAX,
-        asked: &[0, 5, 105, 0],
-        published: &[5, 9],
-        pauses: &[800],
-        counts: (2, 1, 0),
-        told: (0, 1),
     },
 ];
 

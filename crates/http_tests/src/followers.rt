@@ -1,10 +1,11 @@
 //! What a follower asks, publishes and waits, of which no contract speaks.
 use crate::scenes::{
-    EMPTY, EXPIRED, FollowerScene, LATER, LIST, SAME, SAME_LATER, SEVEN_AND_HALF, UNTIL_NINE,
-    first_unlike,
+    EMPTY, EXPIRED, FollowerScene, LATER, LIST, Relisting, SAME, SAME_LATER, SEVEN_AND_HALF,
+    UNTIL_NINE, first_unlike, first_unlisted, is_followed,
 };
-use crate::scripts::ScriptedWatch;
+use crate::scripts::{First, ScriptedWatch};
 use api_client::Opened;
+use std::alloc::Global;
 
 /// A watch that is not opened.
 const LOST: ScriptedWatch<'static> = ScriptedWatch {
@@ -50,118 +51,102 @@ const ENDED: ScriptedWatch<'static> = ScriptedWatch {
     ends: true,
 };
 
-const SCENES: [FollowerScene; 12] = [
-    // a watch goes on after a cut
-    FollowerScene {
+/// Watches that lead to a list.
+const RELISTINGS: [Relisting; 4] = [
+    Relisting {
+        watch: EXPIRES,
+        firsts: &[],
+        pauses: 1,
+        told: (0, 0),
+    },
+    Relisting {
+        watch: NO_FRAMES,
+        firsts: &[SAME],
+        pauses: 1,
+        told: (1, 0),
+    },
+    Relisting {
+        watch: GONE,
+        firsts: &[],
+        pauses: 1,
+        told: (0, 0),
+    },
+    Relisting {
+        watch: TOO_NEW,
+        firsts: &[],
+        pauses: 1,
+        told: (0, 0),
+    },
+];
+
+#[test]
+fn an_expiry_leads_to_a_list(rt: HostRuntime) {
+    assert_eq!(rt; first_unlisted(rt.alloc(), &RELISTINGS), None);
+}
+
+/// Watches that give nothing.
+const BARREN: [ScriptedWatch<'static>; 4] = [EMPTY, ENDED, LOST, REFUSED_FOR_NOW];
+
+/// What is said after those of the first object at their revision; nothing is asked after one that ended.
+const ALWAYS_THE_SAME: [First; 2] = [SAME, SAME];
+
+/// Returns whether a watch that gives nothing, twice, is asked for after a pause.
+fn is_opened_again(alloc: Global, watch: ScriptedWatch<'static>) -> bool {
+    let firsts: &'static [First<'static>] = if watch.ends { &[] } else { &ALWAYS_THE_SAME };
+    let asked: &[u64] = if watch.ends {
+        &[0, 5, 5, 5]
+    } else {
+        &[0, 5, 105, 5, 105, 5]
+    };
+    let watches = [watch, watch, UNTIL_NINE];
+    let scene = FollowerScene {
+        lists: &[LIST],
+        firsts,
+        watches: &watches,
+        refusals: 0,
+        most: usize::MAX,
+        asked,
+        published: &[5, 9],
+        pauses: &[800, 1_600],
+        counts: (1, 1, 1),
+        told: (0, 0),
+    };
+    is_followed(alloc, &scene, false)
+}
+
+/// Returns the first of these watches that is not asked for so.
+fn first_given_up(alloc: Global) -> Option<usize> {
+    for (place, &watch) in BARREN.iter().enumerate() {
+        if !is_opened_again(alloc, watch) {
+            return Some(place);
+        }
+    }
+    None
+}
+
+#[test]
+fn a_watch_that_gives_nothing_is_asked_for_again(rt: HostRuntime) {
+    assert_eq!(rt; first_given_up(rt.alloc()), None);
+}
+
+/// Returns whether a watch goes on after a cut, where so many changes are not taken at first: those are given again after these pauses.
+fn goes_on(alloc: Global, refusals: u64, pauses: &[u64]) -> bool {
+    let scene = FollowerScene {
         lists: &[LIST],
         firsts: &[SAME_LATER],
         watches: &[SEVEN_AND_HALF, UNTIL_NINE],
-        refusals: 0,
+        refusals,
         most: usize::MAX,
         asked: &[0, 5, 107, 7],
         published: &[5, 7, 9],
-        pauses: &[],
+        pauses,
         counts: (1, 1, 1),
         told: (0, 0),
-    },
-    // an expiry leads to a list
-    FollowerScene {
-        lists: &[LIST, LATER],
-        firsts: &[],
-        watches: &[EXPIRES],
-        refusals: 0,
-        most: usize::MAX,
-        asked: &[0, 5, 0],
-        published: &[5, 9],
-        pauses: &[800],
-        counts: (2, 1, 0),
-        told: (0, 0),
-    },
-    FollowerScene {
-        lists: &[LIST, LATER],
-        firsts: &[SAME],
-        watches: &[NO_FRAMES],
-        refusals: 0,
-        most: usize::MAX,
-        asked: &[0, 5, 105, 0],
-        published: &[5, 9],
-        pauses: &[800],
-        counts: (2, 1, 0),
-        told: (1, 0),
-    },
-    FollowerScene {
-        lists: &[LIST, LATER],
-        firsts: &[],
-        watches: &[GONE],
-        refusals: 0,
-        most: usize::MAX,
-        asked: &[0, 5, 0],
-        published: &[5, 9],
-        pauses: &[800],
-        counts: (2, 1, 0),
-        told: (0, 0),
-    },
-    FollowerScene {
-        lists: &[LIST, LATER],
-        firsts: &[],
-        watches: &[TOO_NEW],
-        refusals: 0,
-        most: usize::MAX,
-        asked: &[0, 5, 0],
-        published: &[5, 9],
-        pauses: &[800],
-        counts: (2, 1, 0),
-        told: (0, 0),
-    },
-    // a watch that gives nothing is asked for after a pause
-    FollowerScene {
-        lists: &[LIST],
-        firsts: &[SAME, SAME],
-        watches: &[EMPTY, EMPTY, UNTIL_NINE],
-        refusals: 0,
-        most: usize::MAX,
-        asked: &[0, 5, 105, 5, 105, 5],
-        published: &[5, 9],
-        pauses: &[800, 1_600],
-        counts: (1, 1, 1),
-        told: (0, 0),
-    },
-    FollowerScene {
-        lists: &[LIST],
-        firsts: &[],
-        watches: &[ENDED, ENDED, UNTIL_NINE],
-        refusals: 0,
-        most: usize::MAX,
-        asked: &[0, 5, 5, 5],
-        published: &[5, 9],
-        pauses: &[800, 1_600],
-        counts: (1, 1, 1),
-        told: (0, 0),
-    },
-    FollowerScene {
-        lists: &[LIST],
-        firsts: &[SAME, SAME],
-        watches: &[LOST, LOST, UNTIL_NINE],
-        refusals: 0,
-        most: usize::MAX,
-        asked: &[0, 5, 105, 5, 105, 5],
-        published: &[5, 9],
-        pauses: &[800, 1_600],
-        counts: (1, 1, 1),
-        told: (0, 0),
-    },
-    FollowerScene {
-        lists: &[LIST],
-        firsts: &[SAME, SAME],
-        watches: &[REFUSED_FOR_NOW, REFUSED_FOR_NOW, UNTIL_NINE],
-        refusals: 0,
-        most: usize::MAX,
-        asked: &[0, 5, 105, 5, 105, 5],
-        published: &[5, 9],
-        pauses: &[800, 1_600],
-        counts: (1, 1, 1),
-        told: (0, 0),
-    },
+    };
+    is_followed(alloc, &scene, false)
+}
+
+const SCENES: [FollowerScene; 2] = [
     // lists that fail are asked for after longer pauses
     FollowerScene {
         lists: &["", "{}", "", "", "", "", "", LATER],
@@ -174,19 +159,6 @@ const SCENES: [FollowerScene; 12] = [
         pauses: &[800, 1_600, 3_200, 6_400, 12_800, 25_600, 30_000],
         counts: (0, 1, 0),
         told: (1, 0),
-    },
-    // changes that were not taken are given again
-    FollowerScene {
-        lists: &[LIST],
-        firsts: &[SAME_LATER],
-        watches: &[SEVEN_AND_HALF, UNTIL_NINE],
-        refusals: 2,
-        most: usize::MAX,
-        asked: &[0, 5, 107, 7],
-        published: &[5, 7, 9],
-        pauses: &[800, 1_600],
-        counts: (1, 1, 1),
-        told: (0, 0),
     },
     // a clock stops a follower that waits
     FollowerScene {
@@ -203,7 +175,21 @@ const SCENES: [FollowerScene; 12] = [
     },
 ];
 
+/// How many changes are not taken at first, and the pauses after these.
+const REFUSALS: [(u64, &[u64]); 2] = [(0, &[]), (2, &[800, 1_600])];
+
+/// Returns the place of the first script that is not followed as it says, those with refusals before the others.
+fn first_unfollowed(alloc: Global) -> Option<usize> {
+    for (place, &(refusals, pauses)) in REFUSALS.iter().enumerate() {
+        if !goes_on(alloc, refusals, pauses) {
+            return Some(place);
+        }
+    }
+    let place = first_unlike(alloc, &SCENES, false)?;
+    Some(place.saturating_add(REFUSALS.len()))
+}
+
 #[test]
 fn scripts_are_followed(rt: HostRuntime) {
-    assert_eq!(rt; first_unlike(rt.alloc(), &SCENES, false), None);
+    assert_eq!(rt; first_unfollowed(rt.alloc()), None);
 }

@@ -1,9 +1,8 @@
 //! Initial streams of watches that are longer than what is made of them at once.
-use crate::steps::{asked, sink, written};
+use crate::sites::empty;
+use crate::steps::{asked, looked, sink, written};
 use api::Solo;
-use http_connection::{ConnectionPhase, look_on};
 use request_parts::table::Routes;
-use server::Server;
 use std::alloc::{AllocError, Global};
 
 /// The names of the ConfigMaps that are there.
@@ -46,13 +45,19 @@ fn create(alloc: Global, name: u8) -> Result<Vec<u8>, AllocError> {
     Ok(text)
 }
 
-/// Returns a server where these ConfigMaps are.
-fn filled(alloc: Global, routes: &Routes) -> Result<Solo, AllocError> {
-    let mut site = Solo::new(Server::new(alloc, 1024)?);
+/// Creates these ConfigMaps.
+fn fill(alloc: Global, routes: &Routes, site: &mut Solo) -> Result<(), AllocError> {
     for name in NAMES {
         let text = create(alloc, *name)?;
-        let _replied = asked(alloc, routes, &mut site, &text, READ, &mut sink(alloc));
+        let _replied = asked(alloc, routes, site, &text, READ, &mut sink(alloc));
     }
+    Ok(())
+}
+
+/// Returns a server where these ConfigMaps are.
+fn filled(alloc: Global, routes: &Routes) -> Result<Solo, AllocError> {
+    let mut site = empty(alloc)?;
+    fill(alloc, routes, &mut site)?;
     Ok(site)
 }
 
@@ -68,13 +73,18 @@ fn count(text: &[u8], word: &[u8]) -> usize {
 }
 
 /// Returns what is written of a watch.
+fn watched(alloc: Global, routes: &Routes, site: &mut Solo) -> Vec<u8> {
+    let mut taken = sink(alloc);
+    let phase = asked(alloc, routes, site, WATCH, READ, &mut taken);
+    let _watching = written(alloc, routes, phase, WRITES, &mut taken);
+    taken.written
+}
+
+/// Returns what is written of a watch at a server where the ConfigMaps are.
 fn streamed(alloc: Global) -> Result<Vec<u8>, AllocError> {
     let routes = Routes::new(alloc)?;
     let mut site = filled(alloc, &routes)?;
-    let mut taken = sink(alloc);
-    let phase = asked(alloc, &routes, &mut site, WATCH, READ, &mut taken);
-    let _watching = written(alloc, &routes, phase, WRITES, &mut taken);
-    Ok(taken.written)
+    Ok(watched(alloc, &routes, &mut site))
 }
 
 /// Returns whether a watch is written all that is there, and then one bookmark.
@@ -89,21 +99,29 @@ fn an_initial_stream_comes_whole(rt: HostRuntime) {
     assert_eq!(rt; is_all_streamed(rt.alloc()), Ok(true));
 }
 
-/// Returns whether what is written after a watch has opened is told after all that was there, though it is looked at before that is made.
-fn is_told_last(alloc: Global) -> Result<bool, AllocError> {
+/// Returns what is written of a watch that is given a look, before its initial stream is made, at what is created after it has opened.
+fn looked_on(alloc: Global, routes: &Routes, site: &mut Solo, create: &[u8]) -> Vec<u8> {
+    let mut taken = sink(alloc);
+    let opened = asked(alloc, routes, site, WATCH, READ, &mut taken);
+    let _replied = asked(alloc, routes, site, create, READ, &mut sink(alloc));
+    let phase = looked(alloc, opened, site);
+    let _watching = written(alloc, routes, phase, WRITES, &mut taken);
+    taken.written
+}
+
+/// Returns what is written of such a watch, where one more ConfigMap is created.
+fn streamed_and_told(alloc: Global) -> Result<Vec<u8>, AllocError> {
+    let create = create(alloc, b'z')?;
     let routes = Routes::new(alloc)?;
     let mut site = filled(alloc, &routes)?;
-    let mut taken = sink(alloc);
-    let opened = asked(alloc, &routes, &mut site, WATCH, READ, &mut taken);
-    let text = create(alloc, b'z')?;
-    let _replied = asked(alloc, &routes, &mut site, &text, READ, &mut sink(alloc));
-    let looked = match opened {
-        ConnectionPhase::Watching(watching) => look_on(alloc, watching, &mut site),
-        other => other,
-    };
-    let _watching = written(alloc, &routes, looked, WRITES, &mut taken);
-    let is_last = taken.written.ends_with(ADDED) && count(&taken.written, BOOKMARK) == 1;
-    Ok(is_last && count(&taken.written, ADDED) == NAMES.len() + 1)
+    Ok(looked_on(alloc, &routes, &mut site, &create))
+}
+
+/// Returns whether what is written after a watch has opened is told after all that was there, though it is looked at before that is made.
+fn is_told_last(alloc: Global) -> Result<bool, AllocError> {
+    let text = streamed_and_told(alloc)?;
+    let is_last = text.ends_with(ADDED) && count(&text, BOOKMARK) == 1;
+    Ok(is_last && count(&text, ADDED) == NAMES.len() + 1)
 }
 
 #[test]

@@ -31,6 +31,8 @@ mod scripts;
 #[cfg(test)]
 mod serving;
 #[cfg(test)]
+mod sites;
+#[cfg(test)]
 mod stepping;
 #[cfg(test)]
 mod steps;

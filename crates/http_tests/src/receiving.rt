@@ -1,5 +1,6 @@
 //! Requests over readers of whose bytes no contract speaks: no byte is read beyond what decides, and who is interrupted reads again.
 use chunked::Watched;
+use http_request_head::ReadFault;
 use http_request_reader::{Received, receive};
 use object_keys::Fault;
 use request_decoding::Asked;
@@ -33,17 +34,38 @@ const TEXTS: [(&[u8], &str, usize); 6] = [
     (b"", "nothing", 0),
 ];
 
+/// Returns whether a request is a create of a pod.
+fn is_create(request: &Request) -> bool {
+    matches!(request, Request::Create(Kind::Pod, _, _))
+}
+
+/// Returns what is asked, in a word.
+fn asked_in_a_word(asked: &Asked) -> &'static str {
+    match asked {
+        Asked::Request(request) if is_create(request) => "create",
+        Asked::List { .. } => "list",
+        _ => "something else",
+    }
+}
+
 /// Returns what was received, in a word.
 fn in_a_word(received: &Received) -> &'static str {
     match received {
-        Received::Asked(Asked::Request(Request::Create(Kind::Pod, _, _))) => "create",
-        Received::Asked(Asked::List { .. }) => "list",
-        Received::Asked(_) => "something else",
+        Received::Asked(asked) => asked_in_a_word(asked),
         Received::Refused(Fault::TooLarge) => "too large",
         Received::Refused(Fault::BadRequest(_)) => "bad request",
         Received::Refused(_) => "another refusal",
         Received::Ended => "nothing",
     }
+}
+
+/// Returns what is received, in a word.
+fn word_received(
+    alloc: Global,
+    routes: &Routes,
+    reader: &mut Watched<Source<'_>>,
+) -> Result<&'static str, ReadFault> {
+    Ok(in_a_word(&receive(alloc, routes, reader)?))
 }
 
 /// Returns whether this is received of a text that comes a byte a call, with this call interrupted, and so many bytes are left.
@@ -57,10 +79,8 @@ fn is_received(
     source.bad = interrupted;
     source.kind = ErrorKind::Interrupted;
     let mut reader = Watched::new(source);
-    match receive(alloc, routes, &mut reader) {
-        Ok(received) => in_a_word(&received) == text.1 && reader.into_inner().left.len() == text.2,
-        Err(_) => false,
-    }
+    let word = word_received(alloc, routes, &mut reader);
+    word == Ok(text.1) && reader.into_inner().left.len() == text.2
 }
 
 /// Returns the first text of which something else is received.

@@ -85,22 +85,52 @@ fn delete(alloc: Global, name: &str) -> Result<Request, AllocError> {
     Ok(Request::Delete(key, options))
 }
 
-/// Returns whether these requests, each over a connection of its own, are answered as they have to be.
-fn are_answered(alloc: Global) -> Result<bool, AllocError> {
-    let streams: [&[u8]; 6] = [LIST, &LIST[..LIST.len() - 1], GONE, LIST, GONE, LIST];
-    let mut server = remote(alloc, &streams);
+/// Returns what becomes of a list, in a word.
+fn listed<A: Api>(alloc: Global, server: &mut A, kind: Kind) -> &'static str {
+    word(&server.list(alloc, kind))
+}
+
+/// Returns whether three lists are answered as they have to be.
+fn are_listed<A: Api>(alloc: Global, server: &mut A) -> bool {
     let mut same = true;
     for wanted in ["replied", "lost", "another reply"] {
-        same = same && word(&server.list(alloc, Kind::Deployment)) == wanted;
+        same = same && listed(alloc, server, Kind::Deployment) == wanted;
     }
+    same
+}
+
+/// Returns whether two requests for the first object at a revision are answered as they have to be.
+fn are_looked_at<A: Api>(alloc: Global, server: &mut A) -> bool {
+    let mut same = true;
     for wanted in ["replied", "another reply"] {
         same = same && word(&server.first_at(alloc, Kind::Pod, 7)) == wanted;
     }
-    for (name, wanted) in [("a/b", "not sent"), ("b", "replied")] {
-        let request = delete(alloc, name)?;
-        same = same && word(&server.call(alloc, &request)) == wanted;
-    }
-    Ok(same && word(&server.list(alloc, Kind::Pod)) == "not sent")
+    same
+}
+
+/// Returns what becomes of a delete of a pod of this name, in a word.
+fn deleted<A: Api>(alloc: Global, server: &mut A, name: &str) -> Result<&'static str, AllocError> {
+    let request = delete(alloc, name)?;
+    Ok(word(&server.call(alloc, &request)))
+}
+
+/// Returns whether the delete of a pod that has no such name is not sent, and another is answered.
+fn are_deleted<A: Api>(alloc: Global, server: &mut A) -> Result<bool, AllocError> {
+    let is_kept = deleted(alloc, server, "a/b")? == "not sent";
+    Ok(is_kept && deleted(alloc, server, "b")? == "replied")
+}
+
+/// Returns whether these requests, and a list over a connection that is refused, are answered as they have to be.
+fn all_are_answered<A: Api>(alloc: Global, server: &mut A) -> Result<bool, AllocError> {
+    let are_read = are_listed(alloc, server) && are_looked_at(alloc, server);
+    let are_answered = are_read && are_deleted(alloc, server)?;
+    Ok(are_answered && listed(alloc, server, Kind::Pod) == "not sent")
+}
+
+/// Returns whether requests, each over a connection of its own, are answered as they have to be.
+fn are_answered(alloc: Global) -> Result<bool, AllocError> {
+    let streams: [&[u8]; 6] = [LIST, &LIST[..LIST.len() - 1], GONE, LIST, GONE, LIST];
+    all_are_answered(alloc, &mut remote(alloc, &streams))
 }
 
 #[test]
@@ -108,23 +138,29 @@ fn each_request_has_a_connection_of_its_own(rt: HostRuntime) {
     assert_eq!(rt; are_answered(rt.alloc()), Ok(true));
 }
 
-/// Returns the first of five watches, over four streams, that does not open as it has to.
-fn first_unlike(alloc: Global) -> Option<usize> {
-    let streams: [&[u8]; 4] = [GONE, TOO_NEW, &WATCH[..20], WATCH];
-    let mut server = remote(alloc, &streams);
-    let wanted = [
-        Opened::Expired,
-        Opened::Refused(504),
-        Opened::Lost,
-        Opened::Open,
-        Opened::Lost,
-    ];
-    for (place, &opened) in wanted.iter().enumerate() {
+/// What becomes of five watches.
+const OPENED: [Opened; 5] = [
+    Opened::Expired,
+    Opened::Refused(504),
+    Opened::Lost,
+    Opened::Open,
+    Opened::Lost,
+];
+
+/// Returns the first of these watches that does not open as it has to.
+fn first_opened<A: Api>(alloc: Global, server: &mut A) -> Option<usize> {
+    for (place, &opened) in OPENED.iter().enumerate() {
         if server.open_watch(alloc, Kind::Pod, 7) != opened {
             return Some(place);
         }
     }
     None
+}
+
+/// Returns the first of five watches, over four streams, that does not open as it has to.
+fn first_unlike(alloc: Global) -> Option<usize> {
+    let streams: [&[u8]; 4] = [GONE, TOO_NEW, &WATCH[..20], WATCH];
+    first_opened(alloc, &mut remote(alloc, &streams))
 }
 
 #[test]
@@ -152,16 +188,20 @@ fn is_read<A: Api>(alloc: Global, server: &mut A, last: More, count: usize) -> b
     is_open && is_cut && read(server) == (last, count) && read(server) == (last, 0)
 }
 
-/// Returns whether watches are read to their ends, and nothing is read before the first, and after one that is not opened.
-fn are_read(alloc: Global) -> bool {
-    let streams: [&[u8]; 3] = [WATCH, &WATCH[..WATCH.len() - 9], WATCH];
-    let mut server = remote(alloc, &streams);
-    let mut same = read(&mut server) == (More::Cut, 0);
+/// Returns whether three watches are read to their ends, and nothing is read before the first, and after one that is not opened.
+fn all_are_read<A: Api>(alloc: Global, server: &mut A) -> bool {
+    let mut same = read(server) == (More::Cut, 0);
     for (last, count) in [(More::End, 8), (More::Cut, 6), (More::End, 8)] {
-        same = same && is_read(alloc, &mut server, last, count);
+        same = same && is_read(alloc, server, last, count);
     }
     let is_lost = server.open_watch(alloc, Kind::Pod, 7) == Opened::Lost;
-    same && is_lost && read(&mut server) == (More::Cut, 0)
+    same && is_lost && read(server) == (More::Cut, 0)
+}
+
+/// Returns the same of a server over three streams, of which the second is cut.
+fn are_read(alloc: Global) -> bool {
+    let streams: [&[u8]; 3] = [WATCH, &WATCH[..WATCH.len() - 9], WATCH];
+    all_are_read(alloc, &mut remote(alloc, &streams))
 }
 
 #[test]

@@ -58,15 +58,16 @@ pub const UNTIL_NINE: ScriptedWatch<'static> = ScriptedWatch {
 /// A script that is followed until revision 9: what is answered, how many changes the sink refuses, and at how many pauses the clock stops
 /// it; then what was asked, published and waited, how many changes, first ones and objects there were, and how often it was told that something
 /// is not understood, and that there is another server.
-pub struct FollowerScene {
-    pub lists: &'static [&'static str],
-    pub firsts: &'static [First<'static>],
-    pub watches: &'static [ScriptedWatch<'static>],
+#[derive(Drop)]
+pub struct FollowerScene<'a> {
+    pub lists: &'a [&'a str],
+    pub firsts: &'a [First<'a>],
+    pub watches: &'a [ScriptedWatch<'a>],
     pub refusals: u64,
     pub most: usize,
-    pub asked: &'static [u64],
-    pub published: &'static [u64],
-    pub pauses: &'static [u64],
+    pub asked: &'a [u64],
+    pub published: &'a [u64],
+    pub pauses: &'a [u64],
     pub counts: (usize, usize, usize),
     pub told: (usize, usize),
 }
@@ -81,9 +82,9 @@ fn begin(alloc: Global, is_streaming: bool) -> Follower<PlainInformer> {
     }
 }
 
-/// Returns whether a script is followed as it says.
-fn is_followed(alloc: Global, scene: &FollowerScene, is_streaming: bool) -> bool {
-    let mut script = Script {
+/// Returns a server that answers as a scene says.
+fn server<'a>(alloc: Global, scene: &FollowerScene<'a>) -> Script<'a> {
+    Script {
         lists: scene.lists,
         firsts: scene.firsts,
         watches: scene.watches,
@@ -94,21 +95,50 @@ fn is_followed(alloc: Global, scene: &FollowerScene, is_streaming: bool) -> bool
         asked: Vec::new(alloc),
         understood: 0,
         not_understood: 0,
-    };
-    let mut waits = Waits {
+    }
+}
+
+/// Returns a clock that stops the follower at a pause.
+fn clock(alloc: Global, most: usize) -> Waits {
+    Waits {
         now: 1_000_000,
-        most: scene.most,
+        most,
         pauses: Vec::new(alloc),
-    };
-    let mut seen = RecordingSink {
+    }
+}
+
+/// Returns a sink that refuses so many changes, and stops the follower at revision 9.
+fn sink(alloc: Global, refusals: u64) -> RecordingSink {
+    RecordingSink {
         until: 9,
-        refusals: scene.refusals,
+        refusals,
         changes: 0,
         firsts: 0,
         revisions: Vec::new(alloc),
         objects: 0,
         others: 0,
-    };
+    }
+}
+
+/// Returns whether what was asked, waited and published is what a scene says.
+fn is_as_said(
+    scene: &FollowerScene<'_>,
+    script: &Script<'_>,
+    waits: &Waits,
+    seen: &RecordingSink,
+) -> bool {
+    script.asked.as_slice() == scene.asked
+        && seen.revisions.as_slice() == scene.published
+        && waits.pauses.as_slice() == scene.pauses
+        && (seen.changes, seen.firsts, seen.objects) == scene.counts
+        && (script.not_understood, seen.others) == scene.told
+}
+
+/// Returns whether a script is followed as it says.
+pub fn is_followed(alloc: Global, scene: &FollowerScene<'_>, is_streaming: bool) -> bool {
+    let mut script = server(alloc, scene);
+    let mut waits = clock(alloc, scene.most);
+    let mut seen = sink(alloc, scene.refusals);
     let mut follower = begin(alloc, is_streaming);
     follow(
         alloc,
@@ -118,17 +148,62 @@ fn is_followed(alloc: Global, scene: &FollowerScene, is_streaming: bool) -> bool
         &mut waits,
         &mut seen,
     );
-    script.asked.as_slice() == scene.asked
-        && seen.revisions.as_slice() == scene.published
-        && waits.pauses.as_slice() == scene.pauses
-        && (seen.changes, seen.firsts, seen.objects) == scene.counts
-        && (script.not_understood, seen.others) == scene.told
+    is_as_said(scene, &script, &waits, &seen)
 }
 
 /// Returns the first script that is not followed as it says, with streams of initial events or with lists.
-pub fn first_unlike(alloc: Global, scenes: &[FollowerScene], is_streaming: bool) -> Option<usize> {
+pub fn first_unlike(
+    alloc: Global,
+    scenes: &[FollowerScene<'_>],
+    is_streaming: bool,
+) -> Option<usize> {
     for (place, scene) in scenes.iter().enumerate() {
         if !is_followed(alloc, scene, is_streaming) {
+            return Some(place);
+        }
+    }
+    None
+}
+
+/// A watch at revision 5 after which a list is asked for: what is said before of the first object there, where that is asked for, how many
+/// pauses there are, and how often it was told that something is not understood, and that there is another server.
+pub struct Relisting<'a> {
+    pub watch: ScriptedWatch<'a>,
+    pub firsts: &'a [First<'a>],
+    pub pauses: usize,
+    pub told: (usize, usize),
+}
+
+/// The pauses before the first tries that follow on one that failed.
+const PAUSES: [u64; 2] = [800, 1_600];
+
+/// Returns whether a list is asked for after a watch, as it says.
+fn is_relisted(alloc: Global, row: &Relisting<'_>) -> bool {
+    let asked: &[u64] = if row.firsts.is_empty() {
+        &[0, 5, 0]
+    } else {
+        &[0, 5, 105, 0]
+    };
+    let watches = [row.watch];
+    let scene = FollowerScene {
+        lists: &[LIST, LATER],
+        firsts: row.firsts,
+        watches: &watches,
+        refusals: 0,
+        most: usize::MAX,
+        asked,
+        published: &[5, 9],
+        pauses: PAUSES.get(..row.pauses).unwrap_or(&PAUSES),
+        counts: (2, 1, 0),
+        told: row.told,
+    };
+    is_followed(alloc, &scene, false)
+}
+
+/// Returns the first watch after which no list is asked for as it says.
+pub fn first_unlisted(alloc: Global, rows: &[Relisting<'_>]) -> Option<usize> {
+    for (place, row) in rows.iter().enumerate() {
+        if !is_relisted(alloc, row) {
             return Some(place);
         }
     }

@@ -1,6 +1,6 @@
 //! Connections over memory that go on in steps.
 use api::Solo;
-use http_connection::{Arriving, ConnectionPhase, answer, turn};
+use http_connection::{Arriving, ConnectionPhase, answer, look_on, turn};
 use metadata_values::moments::Moment;
 use request_parts::table::Routes;
 use std::alloc::Global;
@@ -57,4 +57,12 @@ pub fn written(
         phase = turn::<Solo, Source<'_>, TestSink>(alloc, routes, phase, &mut source, sink);
     }
     phase
+}
+
+/// Takes a look, if the connection is one of a watch.
+pub fn looked(alloc: Global, phase: ConnectionPhase, site: &mut Solo) -> ConnectionPhase {
+    match phase {
+        ConnectionPhase::Watching(watching) => look_on(alloc, watching, site),
+        other => other,
+    }
 }
