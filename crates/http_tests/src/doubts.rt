@@ -1,10 +1,11 @@
 //! How a follower knows a server again, after a watch that was cut.
 use crate::scenes::{
-    EMPTY, EXPIRED, FollowerScene, LATER, LIST, Relisting, SAME, SAME_LATER, UNTIL_NINE,
+    EMPTY, EXPIRED, FollowerScene, LATER, LIST, Relisting, SAME, SAME_LATER, UNTIL_NINE, first_of,
     first_unlike, first_unlisted,
 };
 use crate::scripts::{First, ScriptedWatch};
 use api_client::Opened;
+use std::alloc::Global;
 
 /// The first object at revision 5, created at another moment; written at another revision; and none.
 const CREATED_ANEW: First<'static> = First {
@@ -79,61 +80,56 @@ const FALLS: ScriptedWatch<'static> = ScriptedWatch {
 const RELISTINGS: [Relisting; 8] = [
     // another first object, or none, is another server's
     Relisting {
-        watch: EMPTY,
+        watches: &[EMPTY],
         firsts: &[CREATED_ANEW],
         pauses: 2,
         told: (0, 1),
     },
     Relisting {
-        watch: EMPTY,
+        watches: &[EMPTY],
         firsts: &[WRITTEN_LATER],
         pauses: 2,
         told: (0, 1),
     },
     Relisting {
-        watch: EMPTY,
+        watches: &[EMPTY],
         firsts: &[NONE],
         pauses: 2,
         told: (0, 1),
     },
     // where the revision is not known there, a list is asked for
     Relisting {
-        watch: EMPTY,
+        watches: &[EMPTY],
         firsts: &[GONE],
         pauses: 1,
         told: (0, 0),
     },
     Relisting {
-        watch: EMPTY,
+        watches: &[EMPTY],
         firsts: &[FORBIDDEN],
         pauses: 1,
         told: (0, 0),
     },
     Relisting {
-        watch: EMPTY,
+        watches: &[EMPTY],
         firsts: &[TOO_NEW],
         pauses: 1,
         told: (0, 0),
     },
     Relisting {
-        watch: EMPTY,
+        watches: &[EMPTY],
         firsts: &[SAME_LATER],
         pauses: 1,
         told: (0, 0),
     },
     // a revision below the last one is another server's
     Relisting {
-        watch: FALLS,
+        watches: &[FALLS],
         firsts: &[SAME],
         pauses: 1,
         told: (0, 1),
     },
 ];
-
-#[test]
-fn who_is_not_known_again_is_listed_anew(rt: HostRuntime) {
-    assert_eq!(rt; first_unlisted(rt.alloc(), &RELISTINGS), None);
-}
 
 const SCENES: [FollowerScene; 2] = [
     // it is asked again until it is said
@@ -164,7 +160,16 @@ const SCENES: [FollowerScene; 2] = [
     },
 ];
 
+/// Returns the table, and the place in it, of the first script that is not followed as it says: those that lead to a list, then the others.
+fn first_unfollowed(alloc: Global) -> Option<(usize, usize)> {
+    let firsts = [
+        first_unlisted(alloc, &RELISTINGS),
+        first_unlike(alloc, &SCENES, false),
+    ];
+    first_of(&firsts)
+}
+
 #[test]
 fn servers_are_known_again(rt: HostRuntime) {
-    assert_eq!(rt; first_unlike(rt.alloc(), &SCENES, false), None);
+    assert_eq!(rt; first_unfollowed(rt.alloc()), None);
 }

@@ -1,7 +1,7 @@
 //! What a follower asks, publishes and waits, of which no contract speaks.
 use crate::scenes::{
     EMPTY, EXPIRED, FollowerScene, LATER, LIST, Relisting, SAME, SAME_LATER, SEVEN_AND_HALF,
-    UNTIL_NINE, first_unlike, first_unlisted, is_followed,
+    UNTIL_NINE, first_of, first_unlike, first_unlisted, is_followed,
 };
 use crate::scripts::{First, ScriptedWatch};
 use api_client::Opened;
@@ -54,35 +54,30 @@ const ENDED: ScriptedWatch<'static> = ScriptedWatch {
 /// Watches that lead to a list.
 const RELISTINGS: [Relisting; 4] = [
     Relisting {
-        watch: EXPIRES,
+        watches: &[EXPIRES],
         firsts: &[],
         pauses: 1,
         told: (0, 0),
     },
     Relisting {
-        watch: NO_FRAMES,
+        watches: &[NO_FRAMES],
         firsts: &[SAME],
         pauses: 1,
         told: (1, 0),
     },
     Relisting {
-        watch: GONE,
+        watches: &[GONE],
         firsts: &[],
         pauses: 1,
         told: (0, 0),
     },
     Relisting {
-        watch: TOO_NEW,
+        watches: &[TOO_NEW],
         firsts: &[],
         pauses: 1,
         told: (0, 0),
     },
 ];
-
-#[test]
-fn an_expiry_leads_to_a_list(rt: HostRuntime) {
-    assert_eq!(rt; first_unlisted(rt.alloc(), &RELISTINGS), None);
-}
 
 /// Watches that give nothing.
 const BARREN: [ScriptedWatch<'static>; 4] = [EMPTY, ENDED, LOST, REFUSED_FOR_NOW];
@@ -124,11 +119,6 @@ fn first_given_up(alloc: Global) -> Option<usize> {
     None
 }
 
-#[test]
-fn a_watch_that_gives_nothing_is_asked_for_again(rt: HostRuntime) {
-    assert_eq!(rt; first_given_up(rt.alloc()), None);
-}
-
 /// Returns whether a watch goes on after a cut, where so many changes are not taken at first: those are given again after these pauses.
 fn goes_on(alloc: Global, refusals: u64, pauses: &[u64]) -> bool {
     let scene = FollowerScene {
@@ -144,6 +134,19 @@ fn goes_on(alloc: Global, refusals: u64, pauses: &[u64]) -> bool {
         told: (0, 0),
     };
     is_followed(alloc, &scene, false)
+}
+
+/// How many changes are not taken at first, and the pauses after these.
+const REFUSALS: [(u64, &[u64]); 2] = [(0, &[]), (2, &[800, 1_600])];
+
+/// Returns the first number of refusals at which a watch does not go on so.
+fn first_stopped(alloc: Global) -> Option<usize> {
+    for (place, &(refusals, pauses)) in REFUSALS.iter().enumerate() {
+        if !goes_on(alloc, refusals, pauses) {
+            return Some(place);
+        }
+    }
+    None
 }
 
 const SCENES: [FollowerScene; 2] = [
@@ -175,18 +178,15 @@ const SCENES: [FollowerScene; 2] = [
     },
 ];
 
-/// How many changes are not taken at first, and the pauses after these.
-const REFUSALS: [(u64, &[u64]); 2] = [(0, &[]), (2, &[800, 1_600])];
-
-/// Returns the place of the first script that is not followed as it says, those with refusals before the others.
-fn first_unfollowed(alloc: Global) -> Option<usize> {
-    for (place, &(refusals, pauses)) in REFUSALS.iter().enumerate() {
-        if !goes_on(alloc, refusals, pauses) {
-            return Some(place);
-        }
-    }
-    let place = first_unlike(alloc, &SCENES, false)?;
-    Some(place.saturating_add(REFUSALS.len()))
+/// Returns the table, and the place in it, of the first script that is not followed as it says, in the order in which the tables stand above.
+fn first_unfollowed(alloc: Global) -> Option<(usize, usize)> {
+    let firsts = [
+        first_unlisted(alloc, &RELISTINGS),
+        first_given_up(alloc),
+        first_stopped(alloc),
+        first_unlike(alloc, &SCENES, false),
+    ];
+    first_of(&firsts)
 }
 
 #[test]

@@ -1,6 +1,6 @@
 //! Initial streams of watches that are longer than what is made of them at once.
 use crate::sites::empty;
-use crate::steps::{asked, looked, sink, written};
+use crate::steps::{asked, close, looked, sink, written};
 use api::Solo;
 use request_parts::table::Routes;
 use std::alloc::{AllocError, Global};
@@ -45,11 +45,16 @@ fn create(alloc: Global, name: u8) -> Result<Vec<u8>, AllocError> {
     Ok(text)
 }
 
+/// Asks a server for what a text says, and reads no reply.
+fn ask(alloc: Global, routes: &Routes, site: &mut Solo, text: &[u8]) {
+    close(asked(alloc, routes, site, text, READ, &mut sink(alloc)));
+}
+
 /// Creates these ConfigMaps.
 fn fill(alloc: Global, routes: &Routes, site: &mut Solo) -> Result<(), AllocError> {
     for name in NAMES {
         let text = create(alloc, *name)?;
-        let _replied = asked(alloc, routes, site, &text, READ, &mut sink(alloc));
+        ask(alloc, routes, site, &text);
     }
     Ok(())
 }
@@ -76,7 +81,7 @@ fn count(text: &[u8], word: &[u8]) -> usize {
 fn watched(alloc: Global, routes: &Routes, site: &mut Solo) -> Vec<u8> {
     let mut taken = sink(alloc);
     let phase = asked(alloc, routes, site, WATCH, READ, &mut taken);
-    let _watching = written(alloc, routes, phase, WRITES, &mut taken);
+    close(written(alloc, routes, phase, WRITES, &mut taken));
     taken.written
 }
 
@@ -103,9 +108,9 @@ fn an_initial_stream_comes_whole(rt: HostRuntime) {
 fn looked_on(alloc: Global, routes: &Routes, site: &mut Solo, create: &[u8]) -> Vec<u8> {
     let mut taken = sink(alloc);
     let opened = asked(alloc, routes, site, WATCH, READ, &mut taken);
-    let _replied = asked(alloc, routes, site, create, READ, &mut sink(alloc));
+    ask(alloc, routes, site, create);
     let phase = looked(alloc, opened, site);
-    let _watching = written(alloc, routes, phase, WRITES, &mut taken);
+    close(written(alloc, routes, phase, WRITES, &mut taken));
     taken.written
 }
 

@@ -165,10 +165,10 @@ pub fn first_unlike(
     None
 }
 
-/// A watch at revision 5 after which a list is asked for: what is said before of the first object there, where that is asked for, how many
+/// What leads to a list after a watch at revision 5: the watch, what is said after it of the first object there, where that is asked for, how many
 /// pauses there are, and how often it was told that something is not understood, and that there is another server.
 pub struct Relisting<'a> {
-    pub watch: ScriptedWatch<'a>,
+    pub watches: &'a [ScriptedWatch<'a>],
     pub firsts: &'a [First<'a>],
     pub pauses: usize,
     pub told: (usize, usize),
@@ -184,11 +184,10 @@ fn is_relisted(alloc: Global, row: &Relisting<'_>) -> bool {
     } else {
         &[0, 5, 105, 0]
     };
-    let watches = [row.watch];
     let scene = FollowerScene {
         lists: &[LIST, LATER],
         firsts: row.firsts,
-        watches: &watches,
+        watches: row.watches,
         refusals: 0,
         most: usize::MAX,
         asked,
@@ -205,6 +204,16 @@ pub fn first_unlisted(alloc: Global, rows: &[Relisting<'_>]) -> Option<usize> {
     for (place, row) in rows.iter().enumerate() {
         if !is_relisted(alloc, row) {
             return Some(place);
+        }
+    }
+    None
+}
+
+/// Returns the first table in which there is something, and its place there.
+pub fn first_of(firsts: &[Option<usize>]) -> Option<(usize, usize)> {
+    for (table, &first) in firsts.iter().enumerate() {
+        if let Some(place) = first {
+            return Some((table, place));
         }
     }
     None

@@ -1,6 +1,6 @@
 //! Connections that go on in steps, a byte read and four written at a time: they are written what `serve_one` writes.
 use crate::sites::{CREATE, LIST, empty, serve};
-use crate::steps::{asked, looked, sink, written};
+use crate::steps::{asked, close, looked, sink, written};
 use api::Solo;
 use http_connection::ConnectionPhase;
 use request_parts::table::Routes;
@@ -26,7 +26,7 @@ fn at_once(alloc: Global, routes: &Routes, site: &mut Solo, text: &[u8]) -> Vec<
 fn in_steps(alloc: Global, routes: &Routes, site: &mut Solo, text: &[u8]) -> Vec<u8> {
     let mut taken = sink(alloc);
     let phase = asked(alloc, routes, site, text, 1, &mut taken);
-    let _over = written(alloc, routes, phase, 1, &mut taken);
+    close(written(alloc, routes, phase, 1, &mut taken));
     taken.written
 }
 
@@ -111,7 +111,7 @@ fn is_ended(
     for _ in 0..1025 {
         phase = looked(alloc, phase, site);
     }
-    written(alloc, routes, phase, 1, taken).is_over()
+    close(written(alloc, routes, phase, 1, taken))
 }
 
 /// Returns whether a watch that was given a look after each of two creates, and more up to its end, has ended, and what was written of it.

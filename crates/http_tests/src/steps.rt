@@ -66,3 +66,8 @@ pub fn looked(alloc: Global, phase: ConnectionPhase, site: &mut Solo) -> Connect
         other => other,
     }
 }
+
+/// Lets a connection go, and returns whether it is over. No other function lets one go: what that takes is proved where it stands.
+pub fn close(phase: ConnectionPhase) -> bool {
+    phase.is_over()
+}
