@@ -117,13 +117,16 @@ def text_of(of):
 
 
 def brief(of):
-    """Returns the figures that no one can know without a run as a few lines, those of crates in the order of crates.txt."""
+    """Returns the figures that no one can know without a run as a few lines: of crates in the order of crates.txt how long each proof took, and when
+    it ended; for the other kinds of work those that took any time."""
     named = {name: of["crates"][name] for name in libraries() if name in of["crates"]}
-    lists = {kind: [it[kind] for it in named.values()] for kind in SHOWN}
-    lists["proved"] = [it["proved"] for it in named.values()]
-    whole = {part: of[part] for part in ("commit", "processors", "seconds", "passed", "used", "spans")}
-    rounded = {what: [None if it is None else round(it) for it in figures] for what, figures in lists.items()}
-    return [BRIEFLY + json.dumps({what: it}, separators=(",", ":")) for what, it in {"whole": whole, **rounded}.items()]
+    said = {"proofs": [round(it["proofs"]) for it in named.values()]}
+    said |= {kind: {name: round(it[kind]) for name, it in named.items() if round(it[kind])} for kind in SHOWN[1:]}
+    said["proved"] = [None if it["proved"] is None else round(it["proved"]) for it in named.values()]
+    said["whole"] = {part: of[part] for part in ("commit", "processors", "passed")} | {"used": round(of["used"])}
+    said["whole"] |= {part: {what: it and [round(second) for second in it] for what, it in of[part].items()} for part in ("spans",)}
+    said["whole"] |= {"seconds": {stage: round(it) for stage, it in of["seconds"].items()}}
+    return [BRIEFLY + json.dumps({what: it}, separators=(",", ":")) for what, it in said.items()]
 
 
 def read_briefly(text):
@@ -134,8 +137,11 @@ def read_briefly(text):
         said |= json.loads(found[1]) if found else {}
     if not {"whole", "proved", *SHOWN} <= said.keys():
         raise SystemExit("the brief lines of the figures are not all there")
-    lists = {what: dict(zip(libraries(), said[what])) for what in ("proved", *SHOWN)}
+    lists = {what: dict(zip(libraries(), said[what])) for what in ("proofs", "proved")}
     crates = {name: {**known, **dict.fromkeys(KINDS, 0), **{what: it[name] for what, it in lists.items()}} for name, known in known_of_tree().items()}
+    for kind in SHOWN[1:]:
+        for name, seconds in said[kind].items():
+            crates[name][kind] = seconds
     return {**said["whole"], "crates": crates}
 
 

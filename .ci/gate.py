@@ -1,10 +1,10 @@
 """Runs the gate: whether the negative tests still apply and the made documents are the present ones, `rt ci`, negative tests over the
 libraries that it built, and with the program that it built the conformance cases, one after another, whatever the others say.
 
-It shows what they print, then what went wrong in each that failed, tables of what took how long, what the first of them named, and
-whether each passed. The last lines name those that failed, with the last that went wrong in each, and say 'N passed, M failed'.
-What was printed, with the second of each line, and the figures are kept in a temporary folder, whose name it says; it writes
-nothing into the repository. The status is 0 only where all passed.
+It shows what they print, then what went wrong in each that failed, what took how long, what the first of them named, and whether each
+passed. The last lines name those that failed, with the last that went wrong in each, and say 'N passed, M failed'. What was printed, with
+the second of each line, and the figures are kept in a temporary folder, whose name it says; it writes nothing into the repository. The
+status is 0 only where all passed.
 """
 import json
 import os
@@ -22,13 +22,14 @@ PROGRAM = "crates/kcp/out/kcp"
 FOLLOWER = "crates/watch_example/out/watch_example"
 BENCHMARKS = "crates/benchmarks/out/benchmarks"
 CONTROLLER = "crates/controller_example/out/controller_example"
-SECONDS_FOR_NEGATIVE_TESTS = 900
+# How long negative tests may take, the least and the most, and by which second they are to be over, so that what follows has its time too.
+SECONDS_FOR_NEGATIVE_TESTS, FEWEST_SECONDS, NEGATIVE_TESTS_END = 900, 120, 9000
 RANDOM_HEADS = 5000
 RANDOM_BYTES = 100_000
 RANDOM_SCHEDULES = 200
 RANDOM_TURNS = 100
 # What `rt ci` says of a proof, a negative test, a test or a program that is not as it has to be, and the scripts of a case.
-WRONG = re.compile("NOT PROVED|NOT REFUSED|NOT TRIED|BAD EDIT|FAILED|not what|ended with status")
+WRONG = re.compile(r"NOT PROVED|NOT REFUSED|NOT TRIED|BAD EDIT|FAILED|not what|ended with status|^fn \S+: (?:not proved|no proof|could not tell)|^error\b")
 # How many of these lines are shown before the tables, and how many at the end; and how many where a script said none.
 MOST_WRONG, FEW_WRONG, LAST_LINES = 40, 5, 5
 sys.path[:0] = [str(ROOT / ".ci"), str(ROOT / "conformance")]
@@ -153,15 +154,19 @@ def asked_of_program(log):
     return ran
 
 
+def seconds_for_negative_tests(passed):
+    """Returns how many seconds negative tests may take, so many after the gate began."""
+    return int(max(FEWEST_SECONDS, min(SECONDS_FOR_NEGATIVE_TESTS, NEGATIVE_TESTS_END - passed)))
+
+
 def show(room, *what):
-    """Keeps the figures, prints them, and returns the brief lines of them. Where that fails, it says so, and the gate goes on."""
+    """Keeps the figures, and prints them briefly, as figures.py reads them, and as one table. Where that fails, it says so, and the gate goes on."""
     try:
         found = figures_of(*what)
         (room / "figures.json").write_text(json.dumps(found, indent=1))
-        print(f"\n{figures.text_of(found)}")
-        return figures.brief(found)
+        print("", *figures.brief(found), "", *figures.whole_table(found), sep="\n")
     except Exception as error:
-        return [f"no figures: {error!r}"]
+        print(f"no figures: {error!r}")
 
 
 def failed(runs):
@@ -188,7 +193,7 @@ def tell_end(runs):
 
 def main():
     sys.stdout.reconfigure(encoding="utf-8", errors="replace")
-    room = pathlib.Path(tempfile.mkdtemp(prefix="kcp-gate-"))
+    began, room = time.monotonic(), pathlib.Path(tempfile.mkdtemp(prefix="kcp-gate-"))
     with open(room / "output.txt", "w", encoding="utf-8") as log:
         first = asked_first(log)
         looking, before = sampler.Sampler(), used_by_children()
@@ -196,15 +201,15 @@ def main():
         proved = Run([sys.executable, "-B", ".ci/rt.py", "ci", "--edits-later"], log)
         used = used_by_children() - before
         looking.stage = "negative tests"
-        tried = Run([sys.executable, "-B", "conformance/wrong_code.py", "--within", str(SECONDS_FOR_NEGATIVE_TESTS)], log)
+        within = seconds_for_negative_tests(time.monotonic() - began)
+        tried = Run([sys.executable, "-B", "conformance/wrong_code.py", "--within", str(within)], log)
         looking.is_ended.set()
         asked = asked_of_program(log)
     runs = {**first, "rt ci": proved, "negative tests": tried, **asked}
     tell_wrong(runs, MOST_WRONG)
-    briefly = show(room, proved, tried, asked, looking, used)
+    show(room, proved, tried, asked, looking, used)
     print(f"kept: {room}/output.txt, {room}/figures.json\n")
     print("\n".join(line for _, line in first["negative tests apply"].lines))
-    print(*briefly, sep="\n")
     tell_end(runs)
     sys.exit(1 if any(run.status for run in runs.values()) else 0)
 

@@ -1,9 +1,12 @@
-"""Loads the toolchain's `rt` as a module that computes the stamp of each crate once.
+"""Loads the toolchain's `rt` as a module that computes the stamp of each crate once, and keeps the processors at work.
 
 A stamp is a hash of a crate's files and of the stamps of all that it uses: `rt` asks for several in each proof. It computes them, and the
 lists of the crates below, anew along every path through the graph of crates, which for `kcp` are 72,000 folders and 10 GB to be read for
 one stamp, on the one thread that also starts the provers. Here a folder is read once, and again only where a file of it has changed. The
 values are the same.
+
+As many checks run side by side as there are processors and memory. `rt` reckons with two to four times the memory that they take, as
+measured: by that, two of the late crates would fill a machine of 24 GB, and half of its four processors would wait.
 """
 import hashlib
 import importlib.machinery
@@ -12,6 +15,8 @@ import os
 import sys
 
 sys.dont_write_bytecode = True
+# What part of the memory that `rt` reckons with a check takes at most.
+PART_OF_MEMORY = 0.5
 
 
 def load():
@@ -23,6 +28,7 @@ def load():
     loader.exec_module(module)
     keep_below(module.rtlib.Crate)
     keep_stamps(module.rtlib)
+    fill_lanes(module)
     return module
 
 
@@ -69,6 +75,12 @@ def keep_stamps(rtlib):
         return known[self.folder]
 
     rtlib.Crate.stamp = stamp
+
+
+def fill_lanes(rt):
+    """Has the lanes of `rt` filled, as far as memory lasts by what checks take."""
+    need = rt.need
+    rt.need = lambda crate: PART_OF_MEMORY * need(crate)
 
 
 def bytes_of(file):

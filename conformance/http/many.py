@@ -45,8 +45,14 @@ def within(seconds, most, what):
     return f"{what} {seconds * 1000:.1f} ms"
 
 
-def connected(port):
-    return socket.create_connection(("127.0.0.1", port), timeout=Limit.seconds)
+def connected(port, buffer=None):
+    """Returns a connection, with so many bytes of room for what comes, if that is said."""
+    connection = socket.socket()
+    connection.settimeout(Limit.seconds)
+    if buffer:
+        connection.setsockopt(socket.SOL_SOCKET, socket.SO_RCVBUF, buffer)
+    connection.connect(("127.0.0.1", port))
+    return connection
 
 
 def read_to_end(connection):
@@ -76,9 +82,9 @@ def created(port, name, text=""):
     check(came.startswith(b"HTTP/1.1 201 Created\r\n"), f"a create was answered {came[:200]!r}")
 
 
-def opened_watch(port):
+def opened_watch(port, buffer=None):
     """Returns a connection over which a watch has begun."""
-    connection = connected(port)
+    connection = connected(port, buffer)
     connection.sendall(WATCH)
     head = b""
     while b"\r\n\r\n" not in head:
@@ -338,6 +344,20 @@ def writes_wake_watches(program, asked):
         return within(statistics.median(times), 0.01, "an event to an idle watch, at the median,")
 
 
+def large_changes(program, asked):
+    """A peer that reads nothing for a while, and then all that comes: each change is told, however many bytes a look takes in."""
+    count, event, came, told = 150, b'"type":"ADDED"', b"", 0
+    with serving(program) as server, opened_watch(server.port, 65536) as watch:
+        for number in range(count):
+            created(server.port, f"map-{number:03}", "x" * 100_000)
+        while told < count:
+            some = watch.recv(1 << 20)
+            check(some, f"a watch was cut after {told} of {count} events")
+            told += (came + some).count(event)
+            came = (came + some)[-len(event) + 1 :]
+    return f"{count} events of 100 KB"
+
+
 def crowd(server):
     """Makes many connections at once, and closes them."""
     with contextlib.ExitStack() as held:
@@ -413,6 +433,7 @@ SCENARIOS = {
     "lists-pause": lists_pause,
     "idle-watches-end": idle_watches_end,
     "writes-wake-watches": writes_wake_watches,
+    "large-changes": large_changes,
     "out-of-descriptors": out_of_descriptors,
     "ends-after-requests": ends_after_requests,
     "ends-with-input": ends_with_input,

@@ -108,7 +108,7 @@ module _ {S : Type 0} (calls : S → Request → List ℕ → Outcome → S → 
   adds_stand : (w : Watching) (more : List ℕ) (at : Option WatchStanding) (result : ConnectionPhase) (read written : List ℕ)
       → IsWatch calls lists begins watches read (view_of w.view) w.bookmarks at ((written ++ unwritten w) ++ more) → Adds w more at result
       → Stands calls lists begins watches result read written
-  adds_stand w more at (phase.Watching u) read written watch ((view, bookmarks, opened), is, out, bounded) =
+  adds_stand w more at (phase.Watching u) read written watch ((view, bookmarks, at_once), is, out, bounded) =
       let all : written ++ unwritten u ≡ (written ++ unwritten w) ++ more = ap (λ t. written ++ t) out ∙ sym (append_assoc written (unwritten w) more) in
       let now = subst (λ x. IsWatch calls lists begins watches read (view_of x) u.bookmarks u.at (written ++ unwritten u)) (sym view)
       (subst (λ b. IsWatch calls lists begins watches read (view_of w.view) b u.at (written ++ unwritten u)) (sym bookmarks)

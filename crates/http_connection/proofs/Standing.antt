@@ -71,7 +71,7 @@ module _ {S : Type 0} (calls : S → Request → List ℕ → Outcome → S → 
 
   -- a watch that has opened
   opens_stand : (a : targets.Asked) (moment : List ℕ) (s t : S) (read : List ℕ) (w : OpenWatch) (u : Watching) → Asks read (Some (Ok a)) → OpensWatch calls lists begins watches moment s t (Ok a) w
-      → u.view ≡ w.view → u.bookmarks ≡ w.bookmarks → u.at ≡ Some w.opened.at → u.out.items ≡ w.opened.text.items → u.taken ≡ 0 → u.rest ≡ w.opened.rest → u.later.items ≡ [] → u.opened ≡ length u.out.items
+      → u.view ≡ w.view → u.bookmarks ≡ w.bookmarks → u.at ≡ Some w.opened.at → u.out.items ≡ w.opened.text.items → u.taken ≡ 0 → u.rest ≡ w.opened.rest → u.later.items ≡ [] → u.at_once ≡ length u.out.items
       → AtPhase (phase.Watching u) read []
   opens_stand (targets.request q) moment s t read w u asks opens view marks at out none same_rest nothing size = absurd opens
   opens_stand (targets.list v options) moment s t read w u asks opens view marks at out none same_rest nothing size = absurd opens

@@ -73,7 +73,7 @@ written_none a w = record { put = []; appends = Appends-nil a; rest = refl; same
 -- ---- what is made
 
 -- bytes that are written as far as this
-pub written_to : (a b : Option (List ℕ)) (w u : Watching) (n : ℕ) → IsSent a b w.out.items w.taken n → u ≡ record { view = w.view; bookmarks = w.bookmarks; at = w.at; opened = w.opened; out = w.out; taken = n; rest = w.rest; pieces = w.pieces; later = w.later; is_paused = false }
+pub written_to : (a b : Option (List ℕ)) (w u : Watching) (n : ℕ) → IsSent a b w.out.items w.taken n → u ≡ record { view = w.view; bookmarks = w.bookmarks; at = w.at; at_once = w.at_once; out = w.out; taken = n; rest = w.rest; pieces = w.pieces; later = w.later; is_paused = false }
     → IsWritten a b w u
 written_to a b w u n (put, appends, is) same = subst (IsWritten a b w) (sym same) (record {
   put = put;

@@ -27,9 +27,9 @@ ListWrites before after l sent.Whole = IsListBegun before after l []
 ListWrites before after l (sent.Left m) = IsListBegun before after l (list_left m)
 ListWrites before after l sent.Failed = (left : List ℕ) × IsListBegun before after l left
 
--- the same is to be written
+-- the same is to be written, and where nothing of it is made, nothing is still to be made
 abbrev pub IsRefilled : Listing → Result Listing Listing → Type 0
-IsRefilled l (Ok m) = list_left m ≡ list_left l
+IsRefilled l (Ok m) = (list_left m ≡ list_left l) × (drop m.taken m.out.items ≡ [] → m.rest ≡ [])
 IsRefilled l (Err m) = list_left m ≡ list_left l
 
 -- where a connection stands once some more of its list is written

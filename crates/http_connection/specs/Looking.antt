@@ -10,11 +10,11 @@ use Rattle.api.specs.declared.served.Served.TheVariants as served
 use Rattle.http_connection.specs.declared.phase.ConnectionPhase.{ConnectionPhase}
 use Rattle.http_connection.specs.declared.phase.ConnectionPhase.TheVariants as phase
 use Rattle.http_connection.specs.declared.watching.Watching.{Watching}
-use Rattle.http_connection.specs.Watches.{unwritten, IsBounded, IsSameWatch}
+use Rattle.http_connection.specs.Watches.{unwritten, IsBounded, IsGivenAtOnce}
 
 -- there is more to be written of a watch, which then stands here; or it is left
 abbrev pub Adds : Watching → List ℕ → Option WatchStanding → ConnectionPhase → Type 0
-Adds w more at (phase.Watching u) = IsSameWatch w u × (u.at ≡ at) × (unwritten u ≡ unwritten w ++ more) × IsBounded u
+Adds w more at (phase.Watching u) = IsGivenAtOnce more w u × (u.at ≡ at) × (unwritten u ≡ unwritten w ++ more) × IsBounded u
 Adds w more at (phase.Closing s) = s ≡ served.Asked
 Adds w more at (phase.Reading a) = ⊥
 Adds w more at (phase.Asked a) = ⊥

@@ -38,7 +38,7 @@ IsToBeWritten (response.Reply x) result = (r : Replying) × (result ≡ phase.Re
 IsToBeWritten (response.List x) result = (l : Listing) × (result ≡ phase.Listing l) × (l.out.items ≡ []) × (l.taken ≡ 0) × (l.rest ≡ x)
 IsToBeWritten (response.Watch x) result =
     (w : Watching) × (result ≡ phase.Watching w) × (w.view ≡ x.view) × (w.bookmarks ≡ x.bookmarks) × (w.at ≡ Some x.opened.at)
-    × (w.out ≡ x.opened.text) × (w.taken ≡ 0) × (w.rest ≡ x.opened.rest) × (w.later.items ≡ []) × (w.opened ≡ length w.out.items)
+    × (w.out ≡ x.opened.text) × (w.taken ≡ 0) × (w.rest ≡ x.opened.rest) × (w.later.items ≡ []) × (w.at_once ≡ length w.out.items)
 
 module _ {S : Type 0} (calls : S → Request → List ℕ → Outcome → S → Type 0) (lists : S → View → ListOptions → Outcome → S → Type 0)
     (begins : S → View → Option ℕ → Result Listed Refusal → S → Type 0) (watches : S → View → ℕ → ℕ → Look → S → Type 0) where

@@ -1,5 +1,5 @@
 -- A watch that goes on as its bytes are taken, with others served between its looks.
-use Rattle.std.specs.Prelude.{◌≡◌, ◌≤◌, ◌<◌, ◌+◌, ◌⊎◌, ℕ, List, [], ◌∷◌, ◌++◌, length, drop, Bool, Option, Some, None, Result, Ok, Err, ⊤}
+use Rattle.std.specs.Prelude.{◌≡◌, ◌≤◌, ◌<◌, ◌+◌, ◌⊎◌, ℕ, List, [], ◌∷◌, ◌++◌, length, drop, max, Bool, Option, Some, None, Result, Ok, Err, ⊤}
 use Rattle.spec_api.specs.declared.kinds.Kind.{Kind}
 use Rattle.spec_api.specs.declared.versions.Start.{Start}
 use Rattle.spec_api.specs.History.{View}
@@ -61,13 +61,17 @@ unwritten w = drop w.taken w.out.items ++ (w.rest ++ w.later.items)
 abbrev pub made : Watching → List ℕ
 made w = drop w.taken w.out.items ++ w.later.items
 
--- the most bytes that may be made and left unwritten, beside those that were made as a watch opened
+-- the most bytes that may be made and left unwritten, beside the most that were made at once
 abbrev pub most_unwritten : ℕ
 most_unwritten = 4194304
 
 abbrev pub IsBounded : Watching → Type 0
-IsBounded w = length (made w) ≤ w.opened + most_unwritten
+IsBounded w = length (made w) ≤ w.at_once + most_unwritten
 
 -- it is the same watch, wherever it stands
 abbrev pub IsSameWatch : Watching → Watching → Type 0
-IsSameWatch w u = (u.view ≡ w.view) × (u.bookmarks ≡ w.bookmarks) × (u.opened ≡ w.opened)
+IsSameWatch w u = (u.view ≡ w.view) × (u.bookmarks ≡ w.bookmarks) × (u.at_once ≡ w.at_once)
+
+-- the same, of which so much more was made at once
+abbrev pub IsGivenAtOnce : List ℕ → Watching → Watching → Type 0
+IsGivenAtOnce more w u = (u.view ≡ w.view) × (u.bookmarks ≡ w.bookmarks) × (u.at_once ≡ max w.at_once (length more))

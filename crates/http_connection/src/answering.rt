@@ -46,7 +46,7 @@ fn opened(alloc: Global, watch: OpenWatch) -> ConnectionPhase
         view: watch.view,
         bookmarks: watch.bookmarks,
         at: Some(watch.opened.at),
-        opened: watch.opened.text.len(),
+        at_once: watch.opened.text.len(),
         out: watch.opened.text,
         taken: 0,
         rest: watch.opened.rest,

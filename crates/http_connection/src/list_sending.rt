@@ -34,7 +34,7 @@ fn list_sent<W: Write>(listing: Listing, writer: &mut W) -> Option<Listing>
     }
 }
 
-/// Returns a list whose next piece is made; as it was, where there is no memory for it.
+/// Returns a list whose next piece is made, which is empty only where nothing is left to make; as it was, where there is no memory for it.
 fn refilled(alloc: Global, listing: Listing) -> Result<Listing, Listing>
     requires written { length listing.out.items ≤ listing.taken }
     ensures { IsRefilled listing result }

@@ -31,6 +31,10 @@ fn joined(first: Vec<u8>, second: Vec<u8>) -> Option<Vec<u8>>
 fn with_text(watching: Watching, text: Vec<u8>, at: Option<WatchStanding>) -> ConnectionPhase
     ensures { Adds watching text.items at result }
 {
+    let watching = Watching {
+        at_once: watching.at_once.max(text.len()),
+        ..watching
+    };
     if !watching.has_room(watching.left(), text.len()) {
         return ConnectionPhase::Closing(Served::Asked);
     }
@@ -39,7 +43,7 @@ fn with_text(watching: Watching, text: Vec<u8>, at: Option<WatchStanding>) -> Co
             view: watching.view,
             bookmarks: watching.bookmarks,
             at,
-            opened: watching.opened,
+            at_once: watching.at_once,
             out: watching.out,
             taken: watching.taken,
             rest: watching.rest,
@@ -85,7 +89,7 @@ fn look_from<S: Site>(
 
 /// Takes one look of a watch, and returns where its connection then stands: its frames are to be written, and after a refusal, or 1,024
 /// looks in a row that gave no line, its end. A watch that is over looks no more. It is left, unfinished, where memory runs out, and
-/// where its peer leaves more than 4 MiB of frames unwritten.
+/// where its peer leaves more than 4 MiB unwritten beside what it was given at once.
 pub fn look_on<S: Site>(alloc: Global, watching: Watching, source: &mut S) -> ConnectionPhase
     ensures looks { LooksFrom S.Watches watching source.old source.new watching.at result }
     ensures stands { (read written : List ℕ) → Stands S.Calls S.Lists S.Begins S.Watches (phase.Watching watching) read written

@@ -5,7 +5,7 @@ ghost use Rattle.http_connection.specs.Watches.{made, most_unwritten, unwritten}
 use http_watch::{FirstFrames, WatchStanding};
 use selector::View;
 
-/// How many bytes of the frames of a watch may be left unwritten. A watch whose peer leaves more is left.
+/// How many bytes of the frames of a watch may be left unwritten, beside as many as one look gave. A watch whose peer leaves more is left.
 pub const MOST_UNWRITTEN: usize = 4_194_304;
 
 /// A watch that is being written.
@@ -17,8 +17,9 @@ pub struct Watching {
     pub bookmarks: bool,
     /// Where it stands: nowhere once it is over.
     pub at: Option<WatchStanding>,
-    /// How many bytes were made as it opened, which may be left unwritten beside those of frames.
-    pub opened: usize,
+    /// The most bytes that were made at once, as it opened or by one look: so many may be left unwritten beside others, since who takes all that
+    /// comes takes no less than it is given.
+    pub at_once: usize,
     /// What is being written.
     pub out: Vec<u8>,
     /// How many of these bytes were written.
@@ -50,9 +51,9 @@ impl Watching {
 
     /// Returns whether so many bytes may be left unwritten, and so many more.
     pub(crate) fn has_room(&self, left: usize, more: usize) -> bool
-        ensures { result ≡ true → left + more ≤ self.now.opened + most_unwritten }
+        ensures { result ≡ true → left + more ≤ self.now.at_once + most_unwritten }
     {
-        let most = self.opened.saturating_add(MOST_UNWRITTEN);
+        let most = self.at_once.saturating_add(MOST_UNWRITTEN);
         left <= most && more <= most - left
     }
 }

@@ -1,10 +1,10 @@
 //! How many loops are given connections.
-ghost use Rattle.std.specs.Prelude.{◌≤◌};
+ghost use Rattle.std.specs.Prelude.{◌≤◌, ◌<◌};
 
 use std::thread::{Threads, available_parallelism};
 
-/// How many of some loops, from the first on, are given connections by one that accepts: no more than there are processors besides its own, since
-/// more would only take these from one another.
+/// How many of some loops, from the first on, are given connections by one that accepts, itself among them: no more than there are processors
+/// but one, since more would only take these from one another.
 #[derive(Debug, Clone, Copy, PartialEq, Eq)]
 pub(crate) struct AtWork {
     /// How many are given those that ask for what takes long.
@@ -22,6 +22,7 @@ impl AtWork {
     pub(crate) fn of<R: Threads>(rt: &R, count: usize) -> AtWork
         ensures long { result.long ≤ count }
         ensures unread { result.unread ≤ result.long }
+        ensures some { 0 < count → 0 < result.unread }
     {
         match available_parallelism(rt) {
             Ok(processors) => AtWork::among(count, processors.get()),
@@ -36,6 +37,7 @@ impl AtWork {
     fn among(count: usize, processors: usize) -> AtWork
         ensures long { result.long ≤ count }
         ensures unread { result.unread ≤ result.long }
+        ensures some { 0 < count → 0 < result.unread }
     {
         let long = count.min(processors.saturating_sub(1).max(1));
         let unread = long.min((processors / PROCESSORS).max(1));

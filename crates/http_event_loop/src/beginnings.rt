@@ -112,16 +112,19 @@ impl Connections<'_> {
         }
     }
 
-    /// Holds a connection that is not over, and returns its key. From then on what is written is sent at once, as the frames of a watch; what
-    /// was written of a reply that is whole by now its end has sent.
+    /// Holds a connection that is not over, and returns its key.
     fn held_at(&mut self, registry: &Registry, held: Held, now: Instant) -> Option<usize> {
         let mut held = held;
-        if !held.goes_on(now) || held.stream.set_nodelay(true).is_err() {
-            return None;
+        if held.is_to_be_held(now) {
+            self.inserted(registry, held)
+        } else {
+            None
         }
-        let Ok(key) = self.held.insert(held) else {
-            return None;
-        };
+    }
+
+    /// Holds a connection, and returns its key, if there is room and the system takes it.
+    fn inserted(&mut self, registry: &Registry, held: Held) -> Option<usize> {
+        let key = self.held.insert(held).ok()?;
         if self.is_registered(registry, key) {
             return Some(key);
         }

@@ -8,9 +8,10 @@ use crate::deadlines::seconds;
 use crate::given::Given;
 use crate::ticks::Tick;
 use api::{Served, Site};
-use http_connection::{ConnectionPhase, end_watch, turn};
+use http_connection::{ConnectionPhase, Watching, end_watch, turn};
 use mio::event::Event;
 use mio::net::TcpStream;
+use request_decoding::Asked;
 use request_parts::table::Routes;
 use spec_api::kinds::Kind;
 use std::alloc::Global;
@@ -100,7 +101,7 @@ impl Held {
         match Begun::of_phase(held.take_phase()) {
             Ok(begun) => Ok(held.begun(begun)),
             Err(phase) => {
-                held.phase = phase;
+                held.stand(phase);
                 Err(held)
             }
         }
@@ -120,6 +121,33 @@ impl Held {
         std::mem::replace(&mut self.phase, ConnectionPhase::Answering)
     }
 
+    /// Takes note of where the connection stands.
+    fn stand(&mut self, phase: ConnectionPhase) {
+        self.phase = phase;
+    }
+
+    /// Takes a request that is whole and not yet asked, if there is one.
+    fn take_asked(&mut self) -> Option<Asked> {
+        match self.take_phase() {
+            ConnectionPhase::Asked(asked) => Some(asked),
+            phase => {
+                self.stand(phase);
+                None
+            }
+        }
+    }
+
+    /// Takes the watch, if the connection has one.
+    fn take_watching(&mut self) -> Option<Watching> {
+        match self.take_phase() {
+            ConnectionPhase::Watching(watching) => Some(watching),
+            phase => {
+                self.stand(phase);
+                None
+            }
+        }
+    }
+
     /// Reads and writes as far as that goes now, and asks nothing.
     pub(crate) fn turn<S: Site>(&mut self, alloc: Global, routes: &Routes, now: Instant) {
         if self.phase.is_over() {
@@ -127,12 +155,23 @@ impl Held {
         }
         let before = extent(&self.phase);
         let phase = self.take_phase();
-        let mut reader = &self.stream;
-        let mut writer = &self.stream;
-        self.phase = turn::<S, _, _>(alloc, routes, phase, &mut reader, &mut writer);
+        let phase = self.moved::<S>(alloc, routes, phase);
+        self.stand(phase);
         if has_taken(before, extent(&self.phase)) {
             self.took = now;
         }
+    }
+
+    /// Reads and writes from where a connection stands, as far as that goes now, and returns where it then stands.
+    fn moved<S: Site>(
+        &self,
+        alloc: Global,
+        routes: &Routes,
+        phase: ConnectionPhase,
+    ) -> ConnectionPhase {
+        let mut reader = &self.stream;
+        let mut writer = &self.stream;
+        turn::<S, _, _>(alloc, routes, phase, &mut reader, &mut writer)
     }
 
     /// Reads and writes as far as that goes now. A request that is whole is asked.
@@ -149,13 +188,11 @@ impl Held {
         ensures taken { asker.new.taken ≡ asker.old.taken }
     {
         self.turn::<S>(alloc, routes, tick.now);
-        match self.take_phase() {
-            ConnectionPhase::Asked(asked) => {
-                self.phase = asker.answer(alloc, asked, tick.moment);
-                self.took = tick.now;
-                self.turn::<S>(alloc, routes, tick.now);
-            }
-            phase => self.phase = phase,
+        if let Some(asked) = self.take_asked() {
+            let phase = asker.answer(alloc, asked, tick.moment);
+            self.stand(phase);
+            self.took = tick.now;
+            self.turn::<S>(alloc, routes, tick.now);
         }
     }
 
@@ -170,16 +207,14 @@ impl Held {
     )
         ensures { HasAsked S.Calls S.Lists S.Begins S.Watches asker.old asker.new }
     {
-        match self.take_phase() {
-            ConnectionPhase::Watching(watching) => {
-                if !watching.has_more() {
-                    self.took = now;
-                }
-                self.phase = asker.look(alloc, watching);
-                self.is_due = self.phase.is_behind();
-                self.turn::<S>(alloc, routes, now);
+        if let Some(watching) = self.take_watching() {
+            if !watching.has_more() {
+                self.took = now;
             }
-            phase => self.phase = phase,
+            let phase = asker.look(alloc, watching);
+            self.is_due = phase.is_behind();
+            self.stand(phase);
+            self.turn::<S>(alloc, routes, now);
         }
     }
 
@@ -219,20 +254,17 @@ impl Held {
 
     /// Leaves the connection as it is.
     pub(crate) fn leave(&mut self) {
-        self.phase = ConnectionPhase::Closing(Served::Asked);
+        self.stand(ConnectionPhase::Closing(Served::Asked));
     }
 
     /// Ends the connection as far as that goes without its peer, as at a stop: a watch is written its end, a reply or a list is written on,
     /// and what is no whole request is left.
     pub(crate) fn stop<S: Site>(&mut self, alloc: Global, routes: &Routes, now: Instant) {
-        match self.take_phase() {
-            ConnectionPhase::Watching(watching) => {
-                self.phase = end_watch::<S>(alloc, watching);
-                self.turn::<S>(alloc, routes, now);
-            }
-            ConnectionPhase::Replying(replying) => self.phase = ConnectionPhase::Replying(replying),
-            ConnectionPhase::Listing(listing) => self.phase = ConnectionPhase::Listing(listing),
-            _ => self.leave(),
+        if let Some(watching) = self.take_watching() {
+            self.stand(end_watch::<S>(alloc, watching));
+            self.turn::<S>(alloc, routes, now);
+        } else if !self.phase.is_unwritten() {
+            self.leave();
         }
     }
 
@@ -269,6 +301,12 @@ impl Held {
             ConnectionPhase::Closing(Served::NotAsked) => self.reads_away(now),
             _ => true,
         }
+    }
+
+    /// Returns whether the connection goes on, and is to be held. What it is written from then on is sent at once, as the frames of a watch; what
+    /// was written of a reply that is whole by now its end has sent.
+    pub(crate) fn is_to_be_held(&mut self, now: Instant) -> bool {
+        self.goes_on(now) && self.stream.set_nodelay(true).is_ok()
     }
 
     /// Reads away what is there, and returns whether more may come.

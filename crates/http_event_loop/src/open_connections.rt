@@ -13,6 +13,7 @@ use request_parts::table::Routes;
 use slab::Slab;
 use spec_api::kinds::Kind;
 use std::alloc::Global;
+use std::collections::VecDeque;
 use std::sync::ledger::Ledger;
 use std::time::Instant;
 
@@ -31,8 +32,8 @@ pub(crate) struct Connections<'a> {
     wakes: &'a Wakes,
     pub(crate) held: Slab<Held>,
     rota: Rota,
-    /// Those that stopped writing so that others go on meanwhile.
-    paused: Vec<usize>,
+    /// Those that stopped writing so that others go on meanwhile, the one first that stopped first.
+    paused: VecDeque<usize>,
     /// Whether some watch is to be looked at once more before the loop waits.
     is_behind: bool,
 }
@@ -52,7 +53,7 @@ impl<'a> Connections<'a> {
             wakes,
             held: Slab::new(alloc),
             rota: Rota::new(alloc),
-            paused: Vec::new(alloc),
+            paused: VecDeque::new(alloc),
             is_behind: false,
         }
     }
@@ -77,16 +78,17 @@ impl<'a> Connections<'a> {
         !self.paused.is_empty()
     }
 
-    /// Lets those write on that stopped so that others go on meanwhile.
+    /// Lets one write on of those that stopped so that others go on meanwhile, the one that stopped first: however many there are, others wait for
+    /// no more than that one writes at once.
     pub(crate) fn write_paused<S: Site>(&mut self, now: Instant) {
-        let paused = std::mem::replace(&mut self.paused, Vec::new(self.alloc));
-        for key in &paused {
-            if let Some(held) = self.held.get_mut(*key) {
-                held.is_writing_on = false;
-                held.write_on::<S>(self.alloc, self.routes, now);
-            }
-            self.settle(*key, now);
+        let Some(key) = self.paused.pop_front() else {
+            return;
+        };
+        if let Some(held) = self.held.get_mut(key) {
+            held.is_writing_on = false;
+            held.write_on::<S>(self.alloc, self.routes, now);
         }
+        self.settle(key, now);
     }
 
     /// Lets a connection go on of which the system reports something.
@@ -100,11 +102,16 @@ impl<'a> Connections<'a> {
         ensures { HasAsked S.Calls S.Lists S.Begins S.Watches asker.old asker.new }
     {
         let key = event.token().0;
+        self.go_on_at(key, asker, tick);
+        self.leave_if_closed(key, event);
+        self.settle(key, tick.now);
+    }
+
+    /// Leaves a watch whose peer takes or sends no more, as the system reports.
+    fn leave_if_closed(&mut self, key: usize, event: &Event) {
         if let Some(held) = self.held.get_mut(key) {
-            held.go_on(self.alloc, self.routes, asker, tick);
             held.leave_if_closed(event);
         }
-        self.settle(key, tick.now);
     }
 
     /// Takes note of where a connection stands: a watch that has opened takes turns, and one that is over no longer; who is over is let go. What
@@ -120,7 +127,7 @@ impl<'a> Connections<'a> {
         held.watched = is;
         self.is_behind = self.is_behind || (held.is_due && held.can_look());
         if goes_on && held.is_paused() && !held.is_writing_on {
-            held.is_writing_on = self.paused.push(key).is_ok();
+            held.is_writing_on = self.paused.push_back(key).is_ok();
         }
         match (was, is) {
             (None, Some(kind)) => self.watch(key, kind),
@@ -136,7 +143,7 @@ impl<'a> Connections<'a> {
     fn let_go(&mut self, key: usize) {
         let _ = self.held.try_remove(key);
         if let Some(place) = self.paused.iter().position(|paused| *paused == key) {
-            let _ = self.paused.swap_remove(place);
+            let _ = self.paused.remove(place);
         }
         self.loops.leave();
     }

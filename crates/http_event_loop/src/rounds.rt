@@ -255,7 +255,7 @@ impl<'a> Rounds<'a> {
         is_called
     }
 
-    /// Writes on what stopped so that others go on meanwhile, looks at the watches that may have something to see, and at times at those whose turn
+    /// Writes on what stopped first so that others go on meanwhile, looks at the watches that may have something to see, and at times at those whose turn
     /// it is; looks at deadlines at times.
     #[tactic(auto, using(crate::proofs::Chains::asks_on, crate::proofs::Chains::asks_nothing))]
     fn tend<S: Site, L: Ledger>(&mut self, asker: &mut Asker<'_, S, L>)

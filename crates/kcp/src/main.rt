@@ -155,19 +155,23 @@ fn main(rt: HostRuntime) -> io::Result<ExitCode> {
             served(serve(&rt, rt.alloc(), options, &mut writer))
         }
         Ok(Ok(Subcommand::Control(options))) => { controlled(control(&rt, rt.alloc(), options)) }
-        Ok(Ok(Subcommand::All(options))) => {
-            let mut reader = BufReader::new(rt.alloc(), rt.reader())?;
-            let mut writer = BufWriter::new(rt.alloc(), io::writer(&rt))?;
-            let mut told = rt.stderr();
-            ended(all(
-                &rt,
-                rt.alloc(),
-                options,
-                &mut reader,
-                &mut writer,
-                &mut told,
-            ))
-        }
+        Ok(Ok(Subcommand::All(options))) => match (
+            BufReader::new(rt.alloc(), rt.reader()),
+            BufWriter::new(rt.alloc(), io::writer(&rt)),
+        ) {
+            (Ok(mut reader), Ok(mut writer)) => {
+                let mut told = rt.stderr();
+                ended(all(
+                    &rt,
+                    rt.alloc(),
+                    options,
+                    &mut reader,
+                    &mut writer,
+                    &mut told,
+                ))
+            }
+            _ => Err(fault_name(RunFault::Want)),
+        },
         Ok(Err(usage)) => return refuse(&rt, usage),
         Err(_) => Err(fault_name(RunFault::Want)),
     };

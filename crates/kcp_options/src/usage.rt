@@ -81,7 +81,7 @@ const SERVE: &str = "usage: kcp serve [OPTION VALUE]..
 
   --port P      the port to listen on, at most 65535; 0 takes a free one (8080)
   --window W    how many changes of each kind are recorded, 1 to 65536 (1024)
-  --threads N   how many requests are answered at a time, 1 to 128 (16)
+  --threads N   how many threads answer requests, 1 to 128 (16)
   --requests M  ends after M connections
 ";
 
@@ -96,6 +96,6 @@ const ALL: &str = "usage: kcp all [OPTION VALUE].. < LINES
 
   --port P     the port to listen on, at most 65535; 0 takes a free one (8080)
   --window W   how many changes of each kind are recorded, 1 to 65536 (1024)
-  --threads N  how many requests are answered at a time, 1 to 128 (16)
+  --threads N  how many threads answer requests, 1 to 128 (16)
   --workers N  how many keys are worked on at a time, 1 to 64 (4)
 ";

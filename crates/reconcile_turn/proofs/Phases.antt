@@ -1,5 +1,5 @@
 -- What is known of a turn by where it is.
-use Rattle.std.proofs.Common.{◌≡◌, ◌∙◌, ◌≤◌, ◌<◌, ◌^◌, ◌&&◌, ℕ, List, [], ◌∷◌, length, map, filter, drop, Option, Some, None, option_map, is_some, not, Bool, true, false, refl, sym, ap, subst, arith}
+use Rattle.std.proofs.Common.{◌≡◌, ◌∙◌, ◌≤◌, ◌<◌, ◌^◌, ◌&&◌, ℕ, List, [], ◌∷◌, length, map, filter, drop, Option, Some, None, is_some, not, Bool, true, false, refl, sym, ap, subst, arith}
 use Rattle.std.specs.List.{slice_get}
 use Rattle.spec_client_go.specs.declared.controller.Controller.{Controller}
 use Rattle.spec_client_go.specs.declared.controller.Controller.TheVariants.{ReplicaSet, Deployment, Collector}
@@ -14,37 +14,19 @@ use Rattle.object_keys.specs.declared.key.Key.{Key}
 use Rattle.spec_laws.proofs.PlanLaws.{turns_are_bounded}
 use Rattle.spec_laws.specs.ReplicaSetLaws.{created}
 use Rattle.spec_reconcile.specs.ReplicaSets as replica_sets
-use Rattle.spec_sim.specs.NextSteps as steps
-use Rattle.spec_sim.specs.NextSteps.{NextStep, Sighting, of_kind, of_expectations, next, seeing, expect, issue, finish, look, ask_satisfied, first, unseen, expecting, issuing}
+use Rattle.spec_sim.specs.NextSteps.{next, expect, first, unseen, expecting, issuing}
 use Rattle.spec_sim.specs.Turns.{Turn, Sight, Answer, Issue, Expected, asks, asks_by, plan_by, commands, creates_pod, expected, expected_by, hand, owner, owner_by, looks, was_satisfied, all_accepted, left}
 use Rattle.reconcile_turn.specs.NextCommands.{IsCommandNext}
 use Rattle.reconcile_turn.specs.Pods.{makes_pods}
 use Rattle.reconcile_turn.specs.Seen.{IsNext}
-use Rattle.reconcile_turn.specs.Sightings.{sighting_of}
 use Rattle.reconcile_turn.specs.Stages as phase
 use Rattle.reconcile_turn.specs.Stages.{Phase, IsPlanned, IsIn, IsTurn, commands_in, issued, turn_of}
-use Rattle.reconcile_turn.specs.declared.sightings.Sighting.{Sighting as Seen}
 use Rattle.reconcile_turn.specs.declared.next_steps.NextStep.{NextStep as Step}
 use Rattle.reconcile_turn.specs.declared.next_steps.NextStep.TheVariants as step
 use Rattle.reconcile_turn.proofs.Firsts.{first_left_as}
 use Rattle.reconcile_turn.proofs.Issues.{length-issued}
 use Rattle.reconcile_turn.proofs.PodCounts.{expects, creates_fewer}
 use Rattle.reconcile_turn.proofs.Steps.{next_planned, step_by}
-
--- ---- all that is to be seen
-
-none_first : {A : Type 0} (xs : List A) → is_some (first xs) ≡ false → xs ≡ []
-none_first [] none = refl
-none_first (x ∷ xs) none = absurd (cc)
-
-is_some-map : {A B : Type 0} (f : A → B) (o : Option A) → is_some (option_map f o) ≡ is_some o
-is_some-map f None = refl
-is_some-map f (Some a) = refl
-
-pub all_seen : (t : Turn) (n : ℕ) (o : Option Seen) (b : Bool) → n ≡ length t.sights → option_map sighting_of o ≡ first (drop n (steps.order t.work_key.controller)) → b ≡ is_some o → b ≡ false → unseen t ≡ []
-all_seen t n o b len is same none =
-    none_first (unseen t)
-    (ap (λ (m : ℕ). is_some (first (drop m (steps.order t.work_key.controller)))) (sym len) ∙ ap is_some (sym is) ∙ is_some-map sighting_of o ∙ sym same ∙ none)
 
 -- ---- where a turn is
 

@@ -1,5 +1,6 @@
 //! The plan of a turn.
 ghost use Rattle.std.specs.Prelude.{◌≡◌, ◌&&◌, [], IfOk, is_some, map};
+ghost use Rattle.spec_sim.specs.NextSteps.{unseen};
 ghost use Rattle.spec_sim.specs.Turns.{hand, asks_by, owner, plan_by};
 ghost use Rattle.reconcile_types.specs.Commands.{commands_of};
 ghost use Rattle.reconcile_types.specs.Hands.{hand_of, reads_of, read_of};
@@ -93,6 +94,27 @@ fn expects_pods(key: &WorkKey, sights: &[Sight], plan: &Plan) -> bool
     has_owner(key, sights) && makes_pods(plan.commands.as_slice())
 }
 
+/// Returns where a turn is that has seen all, of what its plan is made of; the plan is made where nothing is to be read live any more. The error is
+/// running out of memory.
+fn stage_by(
+    alloc: Global,
+    key: &WorkKey,
+    sights: &[Sight],
+    known: &Hand<Indexed>,
+) -> Result<Stage, AllocError>
+    requires seen { unseen (turn_of (work_key_of key.now) (map sight_of sights.now) (reads_of known.now.reads.items)) ≡ [] }
+    requires same { hand_of (λ i. i) known.now ≡ hand (turn_of (work_key_of key.now) (map sight_of sights.now) (reads_of known.now.reads.items)) }
+    ensures { IfOk result (λ s. IsIn (phase_of s) (turn_of (work_key_of key.now) (map sight_of sights.now) (reads_of known.now.reads.items))) }
+{
+    let asked = asks(alloc, key.controller, known)?;
+    if let Some(first) = asked.first() {
+        return Ok(Stage::Reading(first.try_copy()?));
+    }
+    let plan = plan(alloc, key.controller, known)?;
+    let expects_pods = expects_pods(key, sights, &plan);
+    Ok(Stage::Planned(Arc::new(alloc, plan)?, expects_pods))
+}
+
 /// Returns where a turn is, of its key, its sights and its live reads; the plan is made where all is in. The error is running
 /// out of memory.
 pub fn stage_of(
@@ -108,11 +130,5 @@ pub fn stage_of(
         return Ok(Stage::Seeing);
     }
     let hand = hand(alloc, key, sights, reads)?;
-    let asked = asks(alloc, key.controller, &hand)?;
-    if let Some(first) = asked.first() {
-        return Ok(Stage::Reading(first.try_copy()?));
-    }
-    let plan = plan(alloc, key.controller, &hand)?;
-    let expects_pods = expects_pods(key, sights, &plan);
-    Ok(Stage::Planned(Arc::new(alloc, plan)?, expects_pods))
+    stage_by(alloc, key, sights, &hand)
 }

@@ -4,10 +4,9 @@ use Rattle.std.proofs.Math.Seq.{take-length}
 use Rattle.std.proofs.lemmas.Bool.Decides.{nat_tests}
 use Rattle.std.proofs.lemmas.List.{length-take-le, length-map}
 use Rattle.serde_json.specs.Data.{object}
-use Rattle.serde_json.specs.Written.{compact_text}
 use Rattle.spec_api.specs.declared.kinds.Kind.{Kind}
 use Rattle.spec_api.specs.History.{View, Entries}
-use Rattle.spec_api.specs.Lists.{is_selective, page_body, page_metadata}
+use Rattle.spec_api.specs.Lists.{is_selective, page_metadata}
 use Rattle.spec_api.specs.Pages.{Place, after_place, last_place, page_of, remaining}
 use Rattle.spec_api.proofs.PageLists.{all_after, next_is_last}
 use Rattle.meta.specs.Members.{member_of}
@@ -21,7 +20,6 @@ use Rattle.server.specs.PageTexts.{told, first_page, told_after, first_page_text
 use Rattle.server.specs.declared.ends.PageEnd.{PageEnd}
 use Rattle.server.specs.declared.shared_pages.SharedPage.{SharedPage}
 use Rattle.server.specs.ListTexts.{text_left}
-use Rattle.server.specs.Pages.{page_with}
 
 -- ---- the first members
 
@@ -97,11 +95,3 @@ module _ (limit count : ℕ) (s : ViewMembers) (ms : Entries) (before closing : 
       let made = item_texts false (map (λ m. m.1) (take count ms)) in
       let same : items_len ≡ length made = long ∙ ap (λ z. length (item_texts false (map (λ m. m.1) z))) (sym made_of) in
       omega (arith, same, length-append before (made ++ closing), length-append made closing)
-
--- the text with a chunk's objects and count is that of the first page
-pub page_made : (r : ℕ) (s : ViewMembers) (n : ℕ) (c : Chunk) → IsPage s.view s.members n None c → compact_text (page_with r s.view (map member_of c.members.items) c.remaining).body ≡ first_page_text r n s
-page_made r s n c is =
-    let count : told s.view c.remaining ≡ told_after n s = told_same s.view (remaining s.members n None) c.remaining is.rest in
-    let items = map member_of c.members.items in
-    let next : cond (c.remaining == 0) None (last_place items) ≡ (first_page n s).next = next_same s.view s.members n c (cond (c.remaining == 0) None (last_place items)) is refl in
-    λ i. compact_text (page_body s.view.kind r (count i) (record { items = is.items i; next = next i }))

@@ -23,21 +23,9 @@ page_with r v items left =
 abbrev pub ShowsPage : ℕ → View → Entries → ℕ → Reply → Type 0
 ShowsPage r v items left reply = Says (page_with r v items left) reply
 
--- the answer with the page of a list at revision r after a place
-abbrev pub page_at : ℕ → View → Entries → ℕ → Option Place → Answer
-page_at r v listed limit after =
-    record {
-      code = 200;
-      body = page_body v.kind r (told_count v (record { at = Present; limit = limit; after = after }) (listed_as r listed)) (page_of listed limit after);
-      write = None;
-    }
-
-abbrev pub IsPageAt : ℕ → View → Entries → ℕ → Option Place → Reply → Type 0
-IsPageAt r v listed limit after reply = Says (page_at r v listed limit after) reply
-
--- its text
+-- the text of the page of a list at revision r after a place
 abbrev pub text_at : ℕ → View → Entries → ℕ → Option Place → List ℕ
-text_at r v listed limit after = compact_text (page_at r v listed limit after).body
+text_at r v listed limit after = compact_text (page_body v.kind r (told_count v (record { at = Present; limit = limit; after = after }) (listed_as r listed)) (page_of listed limit after))
 
 abbrev pub IsTextAt : ℕ → View → Entries → ℕ → Option Place → List ℕ → Type 0
 IsTextAt r v listed limit after text = text ≡ text_at r v listed limit after

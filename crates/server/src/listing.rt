@@ -20,13 +20,9 @@ use spec_api::versions::At;
 use std::alloc::{AllocError, Global};
 
 impl Server {
-    ghost use Rattle.std.specs.Prelude.{◌≡◌, IfOk};
-    ghost use Rattle.spec_api.specs.History.{viewed};
     ghost use Rattle.spec_server.specs.Servers.{list_served};
-    ghost use Rattle.spec_api.specs.declared.versions.At.TheVariants as at;
     ghost use Rattle.pages.specs.Seen.{asked_place};
     ghost use Rattle.selector.specs.Views.{view_of};
-    ghost use Rattle.server.specs.Pages.{IsPageAt};
     ghost use Rattle.server.specs.Replies.{Lists};
 
     /// Returns a page of the list of a view: at most `limit` objects, or all if it is 0, after the place that a token names, or
@@ -43,52 +39,7 @@ impl Server {
         ensures { Lists (list_served self.now (view_of view.now)
             (record { at = at; limit = limit; after = asked_place after.entry })) result }
     {
-        let present = self.revision();
-        match at {
-            At::NotOlder(asked) if present < asked => Err(Fault::TooNew { asked, present }),
-            At::Present | At::NotOlder(_) => {
-                Ok(self.list_as(alloc, view, present, limit, after)?)
-            }
-            At::Exact(revision) => self.list_exact(alloc, view, revision, limit, after),
-        }
-    }
-
-    /// Returns a page of what is there of a view, as a list at a revision. The error is running out of memory.
-    fn list_as(
-        &self,
-        alloc: Global,
-        view: &View,
-        revision: u64,
-        limit: usize,
-        after: Option<&Token>,
-    ) -> Result<Reply, AllocError>
-        ensures { IfOk result (IsPageAt revision (view_of view.now)
-            (viewed (view_of view.now) self.now.snapshot.members) limit (asked_place after.entry)) }
-    {
-        let after = key_after(view.kind, after)?;
-        let chunk = self.store.page(alloc, view, limit, after)?;
-        page_reply(
-            alloc,
-            view,
-            revision,
-            chunk.members.as_slice(),
-            chunk.remaining,
-        )
-    }
-
-    /// Returns a page of the list at a revision.
-    fn list_exact(
-        &self,
-        alloc: Global,
-        view: &View,
-        revision: u64,
-        limit: usize,
-        after: Option<&Token>,
-    ) -> Result<Reply, Fault>
-        ensures { Lists (list_served self.now (view_of view.now)
-            (record { at = at.Exact revision; limit = limit; after = asked_place after.entry })) result }
-    {
-        let page = self.page_exact(alloc, view, revision, limit, after)?;
+        let page = self.page(alloc, view, at, limit, after)?;
         let text = page.text(alloc)?;
         Ok(Reply { code: 200, text })
     }

@@ -1,5 +1,4 @@
 //! All that is there, with one revision over all kinds: how it is written, found and listed.
-use crate::chunks::{Chunk, first_members, remaining};
 use crate::limits::MOST_OBJECTS;
 use crate::objects::take;
 use crate::past_snapshots::PastSnapshot;
@@ -53,7 +52,6 @@ impl Store {
     ghost use Rattle.spec_api.specs.Revisions.{greatest_revision};
     ghost use Rattle.spec_server.specs.Snapshots.{empty, written};
     ghost use Rattle.spec_api.specs.Verbs.{most_objects, overflows};
-    ghost use Rattle.store.specs.Chunks.{IsPage, after_key};
 
     /// Returns the empty store, at revision 1.
     pub fn new(alloc: Global) -> Store
@@ -150,24 +148,5 @@ impl Store {
         }) }
     {
         PastSnapshot::of(alloc, &self.objects, view)
-    }
-
-    /// Returns a chunk of the list of a view: at most `limit` objects, or all if it is 0, after the place of a key, or the
-    /// first. It costs the way to its start and what it has, and to count what remains a look for each few objects; where the
-    /// view selects, a look at each up to the first that remains. The error is running out of memory.
-    pub fn page<'a>(
-        &'a self,
-        alloc: Global,
-        view: &View,
-        limit: usize,
-        after: Option<Key>,
-    ) -> Result<Chunk<'a>, AllocError>
-        ensures { IfOk result (IsPage (view_of view.entry.now)
-            (viewed (view_of view.entry.now) self.entry.now.members) limit (after_key after)) }
-    {
-        let mut range = asked(alloc, &self.objects, view, after)?;
-        let members = first_members(alloc, &mut range, view, limit)?;
-        let remaining = remaining(range, view);
-        Ok(Chunk { members, remaining })
     }
 }

@@ -42,5 +42,5 @@ loop-preserved g c =
     let before = g.W.Write.contents c.args.writer.now in
     let mid = g.W.Write.contents c.loop.writer in
     let after = g.W.Write.contents c.list_sent.new.writer in
-    subst (IsListBegun before after c.args.listing) (sym c.in-Ok.ensures)
+    subst (IsListBegun before after c.args.listing) (sym c.in-Ok.ensures.0)
     (list_begun_more before mid after c.args.listing c.loop.listing (list_left c.in-Some.now) c.loop.invariant c.in-Some.ensures)

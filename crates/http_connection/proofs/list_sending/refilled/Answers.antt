@@ -5,7 +5,7 @@ use Rattle.http_connection.proofs.list_sending.refilled.Goals as goal
 pub returns-in-Ok : goal.returns-in-Ok
 returns-in-Ok c =
     let l = c.args.listing in
-    sym c.in-Ok.ensures.made ∙ ap (λ t. t ++ l.rest) (sym (drop_of_length-le l.out.items c.requires.written))
+    (sym c.in-Ok.ensures.made ∙ ap (λ t. t ++ l.rest) (sym (drop_of_length-le l.out.items c.requires.written)), c.in-Ok.ensures.some)
 
 pub returns-in-Err : goal.returns-in-Err
 returns-in-Err c =

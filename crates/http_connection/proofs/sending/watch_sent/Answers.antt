@@ -10,7 +10,7 @@ returns-in-To g c =
     let after = g.W.Write.contents c.write_on.new.writer in
     let w = c.args.watching in
     let n = c.in-To.taken in
-    let u : Watching = record { view = w.view; bookmarks = w.bookmarks; at = w.at; opened = w.opened; out = w.out; taken = n; rest = w.rest; pieces = w.pieces; later = w.later; is_paused = false } in
+    let u : Watching = record { view = w.view; bookmarks = w.bookmarks; at = w.at; at_once = w.at_once; out = w.out; taken = n; rest = w.rest; pieces = w.pieces; later = w.later; is_paused = false } in
     written_to before after w u n (subst (λ t. IsSent before after t w.taken n) c.deref.ensures.value c.in-To.ensures) refl
 
 pub returns-in-Failed : goal.returns-in-Failed

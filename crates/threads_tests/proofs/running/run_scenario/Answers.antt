@@ -16,7 +16,7 @@ use Rattle.manager_worker.specs.contracts.signals.Signals as Signals
 use Rattle.manager.proofs.running.Apis.TheSendSync as apis_of
 use Rattle.threads_tests.specs.contracts.running.SceneControllers as Controllers
 use Rattle.threads_tests.specs.contracts.servers.SharedServer as SharedServer
-use Rattle.threads_tests.proofs.ServersSent.{alloc, runtime, server}
+use Rattle.threads_tests.proofs.servers.Sent.{alloc, runtime, server}
 use Rattle.threads_tests.proofs.running.run_scenario.Goals as goal
 
 lent_signals : (a : NamedLft) → IsSend (as_row (Field.shr_ref_field a Signals.the_row tt))

@@ -2,7 +2,7 @@
 use denote.Exit.{no}
 use denote.Param.{param}
 use denote.Param.Send.{IsSync, sendable, param_send, arg_send}
-use Rattle.threads_tests.proofs.ServersSent.{server}
+use Rattle.threads_tests.proofs.servers.Sent.{server}
 use Rattle.threads_tests.proofs.running.SceneControllers.run.Goals as goal
 
 pub run-requires-send-A : goal.run-requires-send-A
