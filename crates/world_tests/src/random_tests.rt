@@ -132,20 +132,36 @@ fn shows_list(alloc: Global, cluster: &Cluster, kind: Kind) -> Result<bool, Allo
     are_same(alloc, shown.as_slice(), listed.as_slice())
 }
 
-/// Takes random steps of a cluster whose followers begin so, and returns how often something was published, and whether it was the
-/// server's list each time.
-fn publishes(alloc: Global, initial: InitialSync) -> Result<(u64, bool), AllocError> {
-    let mut cluster = Cluster::open(alloc, 16, initial)?;
+/// Takes a random step, and returns the kind of which something was published by it, if it was.
+fn published_kind(
+    alloc: Global,
+    cluster: &mut Cluster,
+    numbers: &mut Numbers,
+) -> Result<Option<Kind>, AllocError> {
+    match take(alloc, cluster, numbers)? {
+        ClusterOutcome::Published(kind, _, _) => Ok(Some(kind)),
+        _ => Ok(None),
+    }
+}
+
+/// Takes random steps of a cluster, and returns how often something was published, and whether it was the server's list each time.
+fn publishes_in(alloc: Global, cluster: &mut Cluster) -> Result<(u64, bool), AllocError> {
     let mut numbers = Numbers { state: 1 };
     let mut published = 0_u64;
     let mut are_lists = true;
     for _ in 0..STEPS {
-        if let ClusterOutcome::Published(kind, _, _) = take(alloc, &mut cluster, &mut numbers)? {
+        if let Some(kind) = published_kind(alloc, cluster, &mut numbers)? {
             published = published.saturating_add(1);
-            are_lists &= shows_list(alloc, &cluster, kind)?;
+            are_lists &= shows_list(alloc, cluster, kind)?;
         }
     }
     Ok((published, are_lists))
+}
+
+/// Takes random steps of a cluster whose followers begin so, and returns what `publishes_in` does.
+fn publishes(alloc: Global, initial: InitialSync) -> Result<(u64, bool), AllocError> {
+    let mut cluster = Cluster::open(alloc, 16, initial)?;
+    publishes_in(alloc, &mut cluster)
 }
 
 #[test]

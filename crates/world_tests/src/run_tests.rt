@@ -126,18 +126,27 @@ fn opened(alloc: Global, config: Config) -> Result<World, AllocError> {
     World::open(alloc, config)
 }
 
-/// Returns what is told of a world once these steps were taken at once, or none where it stopped before.
+/// Takes these steps at once, and returns what is told of the world then, or none where it stopped before.
+fn told_by(
+    alloc: Global,
+    world: &mut World,
+    steps: &[PlaneStep<'_>],
+) -> Result<Option<String>, AllocError> {
+    if takes_all(alloc, world, steps) {
+        Ok(Some(told(alloc, world)?))
+    } else {
+        Ok(None)
+    }
+}
+
+/// Returns what is told of a new world once these steps were taken at once, or none where it stopped before.
 fn told_after(
     alloc: Global,
     config: Config,
     steps: &[PlaneStep<'_>],
 ) -> Result<Option<String>, AllocError> {
     let mut world = opened(alloc, config)?;
-    if takes_all(alloc, &mut world, steps) {
-        Ok(Some(told(alloc, &world)?))
-    } else {
-        Ok(None)
-    }
+    told_by(alloc, &mut world, steps)
 }
 
 /// Returns whether just this is told of that world.
