@@ -297,20 +297,25 @@ def lists_pause(program, asked):
     """One loop, and two peers that take long lists as fast as these come: others are answered between the pieces, and each list comes to its end."""
     over = threading.Event()
     with serving(program, "--threads", "1") as server:
-        for name, text in [("first", "x"), *((f"map-{number:02}", "x" * 800_000) for number in range(20))]:
+        for name, text in [("first", "x"), *((f"map-{number:03}", "x" * 100_000) for number in range(160))]:
             created(server.port, name, text)
+
+        def read_list():
+            began = time.monotonic()
+            with connected(server.port) as connection:
+                connection.sendall(GET.replace(b"?limit=1", b""))
+                while connection.recv(1 << 20):
+                    pass
+            return time.monotonic() - began
 
         def read_lists():
             times = []
             while not over.is_set():
-                began = time.monotonic()
-                with connected(server.port) as connection:
-                    connection.sendall(GET.replace(b"?limit=1", b""))
-                    while connection.recv(1 << 20):
-                        pass
-                times.append(time.monotonic() - began)
+                times.append(read_list())
             return times
 
+        # Nothing else wakes the loop then.
+        within(read_list(), 0.3, "a list of 16 MB alone")
         with concurrent.futures.ThreadPoolExecutor(2) as pool:
             reading = [pool.submit(read_lists) for _ in range(2)]
             time.sleep(0.1)
