@@ -17,8 +17,8 @@ pub struct Watching {
     pub bookmarks: bool,
     /// Where it stands: nowhere once it is over.
     pub at: Option<WatchStanding>,
-    /// The most bytes that were made at once, as it opened or by one look: so many may be left unwritten beside others, since who takes all that
-    /// comes takes no less than it is given.
+    /// The most bytes that were made at once, as it opened or by one look. So many may be left unwritten beside others: a peer that takes all
+    /// that comes is not to be left for what came at once.
     pub at_once: usize,
     /// What is being written.
     pub out: Vec<u8>,
