@@ -51,6 +51,23 @@ fn refilled(alloc: Global, listing: Listing) -> Result<Listing, Listing>
     }
 }
 
+/// Writes what is made of a list, and leaves what is still to be made of it: others are to go on meanwhile.
+fn last_sent<W: Write>(listing: Listing, writer: &mut W) -> ListSent
+    ensures { ListWrites (W.contents writer.old) (W.contents writer.new) listing result }
+{
+    let Some(listing) = list_sent(listing, writer) else {
+        return ListSent::Failed;
+    };
+    let is_written = listing.taken >= listing.out.len();
+    if is_written && !listing.rest.has_more() {
+        return ListSent::Whole;
+    }
+    ListSent::Left(Listing {
+        is_paused: is_written,
+        ..listing
+    })
+}
+
 /// Writes a list on, as far as that goes now, or so much that others are to go on: each piece is made once all before it was written. One for
 /// whose next piece there is no memory is left.
 fn list_written<W: Write>(alloc: Global, listing: Listing, writer: &mut W) -> ListSent
@@ -73,10 +90,7 @@ fn list_written<W: Write>(alloc: Global, listing: Listing, writer: &mut W) -> Li
             Err(same) => return ListSent::Left(same),
         }
     }
-    ListSent::Left(Listing {
-        is_paused: true,
-        ..listing
-    })
+    last_sent(listing, writer)
 }
 
 /// Writes a list on, and returns where its connection then stands. What is left of it is written by a later call. The connection is closed

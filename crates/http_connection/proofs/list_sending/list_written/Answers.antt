@@ -1,5 +1,5 @@
 use Rattle.std.proofs.Common.{sym, subst, arith}
-use Rattle.http_connection.proofs.ListWriting.{list_begun_none, list_begun_more, list_over}
+use Rattle.http_connection.proofs.ListWriting.{list_begun_none, list_begun_more, list_over, list_written_more}
 use Rattle.http_connection.specs.Lists.{IsListBegun, list_left}
 use Rattle.http_connection.proofs.list_sending.list_written.Goals as goal
 
@@ -44,3 +44,10 @@ loop-preserved g c =
     let after = g.W.Write.contents c.list_sent.new.writer in
     subst (IsListBegun before after c.args.listing) (sym c.in-Ok.ensures.0)
     (list_begun_more before mid after c.args.listing c.loop.listing (list_left c.in-Some.now) c.loop.invariant c.in-Some.ensures)
+
+pub returns : goal.returns
+returns g c =
+    let before = g.W.Write.contents c.args.writer.now in
+    let mid = g.W.Write.contents c.loop.writer in
+    let after = g.W.Write.contents c.last_sent.new.writer in
+    list_written_more before mid after c.args.listing c.loop.listing c.last_sent.result c.loop.invariant c.last_sent.ensures
