@@ -107,7 +107,18 @@ all_left v m ms all = left_of (in_view v m.0 m.1) m ms (viewed v ms) (few_viewed
     left_of true m ms vs le all = ap (λ zs. tail_of zs) all
     left_of false m ms vs le all = let longer : length vs ≡ suc (length ms) = ap length all in absurd (omega (arith, le, longer))
 
+-- where a view asks for each, it asks for the first
+all_shown : (v : View) (m : Name × Data) (ms : Entries) → viewed v (m ∷ ms) ≡ m ∷ ms → in_view v m.0 m.1 ≡ true
+all_shown v m ms all = shown_of (in_view v m.0 m.1) m ms (viewed v ms) (few_viewed v ms) all
+  where
+    shown_of : (b : Bool) (m : Name × Data) (ms vs : Entries) → length vs ≤ length ms → cond b (m ∷ vs) vs ≡ m ∷ ms → b ≡ true
+    shown_of true m ms vs le all = refl
+    shown_of false m ms vs le all = let longer : length vs ≡ suc (length ms) = ap length all in absurd (omega (arith, le, longer))
+
 -- ---- one object of a range
+
+pub first_shown : (v : View) (es fs : List (Key × StoredObject)) (e : Key × StoredObject) → es ≡ e ∷ fs → viewed v (members_seen es) ≡ members_seen es → in_view v (key_of e.0) e.1.value ≡ true
+first_shown v es fs e is all = all_shown v (key_of e.0, e.1.value) (members_seen fs) (subst (λ z. viewed v (members_seen z) ≡ members_seen z) is all)
 
 pub passed : (v : View) (es fs : List (Key × StoredObject)) (e : Key × StoredObject) → es ≡ e ∷ fs → false ≡ in_view v (key_of e.0) e.1.value → viewed v (members_seen fs) ≡ viewed v (members_seen es)
 passed v es fs e is out =

@@ -1,8 +1,9 @@
 //! Chunks of lists.
-ghost use Rattle.std.specs.Prelude.{◌≡◌, ◌≤◌, ◌<◌, ◌++◌, [], ◌∷◌, ℕ, false, IfOk, IfSome, IfNone, length, map};
-ghost use Rattle.spec_api.specs.History.{viewed};
+ghost use Rattle.std.specs.Prelude.{◌≡◌, ◌≤◌, ◌<◌, ◌++◌, [], ◌∷◌, ℕ, false, true, IfOk, IfSome, IfNone, length, map};
+ghost use Rattle.spec_api.specs.History.{in_view, viewed};
 ghost use Rattle.spec_api.specs.Lists.{is_selective};
 ghost use Rattle.spec_api.specs.Verbs.{most_objects};
+ghost use Rattle.object_keys.specs.Keys.{key_of};
 ghost use Rattle.meta.specs.Members.{member_of};
 ghost use Rattle.selector.specs.Views.{view_of};
 ghost use Rattle.store.specs.Chunks.{IsFirst, Tells};
@@ -25,11 +26,22 @@ pub struct Chunk<'a> {
     pub remaining: usize,
 }
 
-/// Removes the next object that a view asks for, and those before it, from a range, and returns it.
+/// Returns whether a view asks for an object of a range, where it asks for each unless it selects by labels or fields.
+fn asks_for(view: &View, key: &Key, object: &StoredObject) -> bool
+    requires { is_selective (view_of view.now) ≡ false → in_view (view_of view.now) (key_of key.now) object.now.value ≡ true }
+    ensures { result ≡ in_view (view_of view.now) (key_of key.now) object.now.value }
+{
+    !view.is_selective() || view.contains(key, object)
+}
+
+/// Removes the next object that a view asks for, and those before it, from a range, and returns it. A view that does not select by labels or fields
+/// asks for each.
 pub(crate) fn next_member<'a>(
     range: &mut EntriesLeft<'a, Key, StoredObject>,
     view: &View,
 ) -> Option<Member<'a>>
+    requires all { is_selective (view_of view.now) ≡ false
+        → viewed (view_of view.now) (members_seen range.old) ≡ members_seen range.old }
     ensures some { IfSome result (λ member. viewed (view_of view.now) (members_seen range.old)
         ≡ member_of member ∷ viewed (view_of view.now) (members_seen range.new)) }
     ensures none { IfNone result (viewed (view_of view.now) (members_seen range.old) ≡ []) }
@@ -38,7 +50,7 @@ pub(crate) fn next_member<'a>(
         → viewed (view_of view.now) (members_seen range.new) ≡ members_seen range.new }
 {
     while let Some((key, object)) = range.take_next() {
-        if view.contains(key, object) {
+        if asks_for(view, key, object) {
             return Some(Member { key, object });
         }
     }
@@ -53,6 +65,8 @@ pub(crate) fn first_members<'a>(
     view: &View,
     limit: usize,
 ) -> Result<Vec<Member<'a>>, AllocError>
+    requires all { is_selective (view_of view.now) ≡ false
+        → viewed (view_of view.now) (members_seen range.old) ≡ members_seen range.old }
     ensures taken { IfOk result (λ taken. IsFirst limit (viewed (view_of view.now) (members_seen range.old))
         (map member_of taken.items) (viewed (view_of view.now) (members_seen range.new))) }
     ensures all { viewed (view_of view.now) (members_seen range.old) ≡ members_seen range.old

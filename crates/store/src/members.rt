@@ -15,7 +15,9 @@ pub struct MembersLeft<'a> {
 }
 
 impl<'a> Model for MembersLeft<'a> {
+    ghost use Rattle.std.specs.Prelude.{◌≡◌, false};
     ghost use Rattle.spec_api.specs.History.{Entries, viewed};
+    ghost use Rattle.spec_api.specs.Lists.{is_selective};
     ghost use Rattle.selector.specs.Views.{view_of};
     ghost use Rattle.spec_server.specs.Codes.{coded_members};
     ghost use Rattle.store.specs.Seen.{members_seen};
@@ -25,6 +27,9 @@ impl<'a> Model for MembersLeft<'a> {
     ghost coded = { coded_members };
 
     ghost view = { λ m. viewed (view_of m.view.now) (members_seen m.range) };
+
+    ghost invariant = { λ m. is_selective (view_of m.view.now) ≡ false
+        → viewed (view_of m.view.now) (members_seen m.range) ≡ members_seen m.range };
 }
 
 impl<'a> MembersLeft<'a> {
