@@ -13,6 +13,9 @@ pub(crate) const LISTENER: Token = Token(usize::MAX);
 /// and more than one, since a loop is woken once for all.
 const SHARE: usize = 4;
 
+/// How many that take long each other loop is given, where none is free, for one that the own loop takes.
+const SHARE_OF_OTHERS: usize = 2;
+
 /// A listener whose connections loops answer, and how many at most, if they are counted.
 #[derive(Drop)]
 pub struct Listening {
@@ -28,8 +31,8 @@ pub(crate) struct Accepting {
     left: Option<u64>,
     /// The loop whose turn it was last.
     turn: usize,
-    /// Whether the own loop was given what takes long when last none was free.
-    is_own_turn: bool,
+    /// How many times more another loop than the own is given what takes long, where none is free.
+    others_left: usize,
     /// The loop that is given the next connection of the round, if its share has some left.
     place: usize,
     /// How many more that one is given.
@@ -59,7 +62,7 @@ impl Accepting {
             listener,
             left: limit,
             turn: 0,
-            is_own_turn: false,
+            others_left: 0,
             place: 0,
             share: 0,
             is_held_up: false,
@@ -123,23 +126,24 @@ impl Accepting {
         self.turn
     }
 
-    /// Returns the number of a loop that has nothing to do; where there is none, of the own one and of another by turns.
+    /// Returns the number of a loop that has nothing to do; where there is none, of the others by turns, and after two for each of these of the own one:
+    /// while it does what takes long, nobody is given anything.
     pub(crate) fn take_free(&mut self, own: usize, loops: &Loops) -> usize {
         let count = loops.at_work().long;
         if let Some(number) = loops.free(count) {
             return number;
         }
-        self.is_own_turn = !self.is_own_turn;
-        if self.is_own_turn {
-            own
-        } else {
-            self.take_turn(own, count)
+        if self.others_left == 0 {
+            self.others_left = count.saturating_sub(1).saturating_mul(SHARE_OF_OTHERS);
+            return own;
         }
+        self.others_left -= 1;
+        self.take_turn(own, count)
     }
 
     /// Returns the number of the loop that is given a connection which the own one read, and did not begin. One that asks for a list goes to a
-    /// loop that can begin at once; where there is none, to the own one and to another by turns. Others are spread, since a watch stays where
-    /// it is.
+    /// loop that can begin at once; where there is none, to the others by turns, and at times to the own one. Others are spread, since a watch
+    /// stays where it is.
     pub(crate) fn place_of(&mut self, own: usize, loops: &Loops, given: &Given) -> usize {
         if given.is_list() {
             self.take_free(own, loops)
