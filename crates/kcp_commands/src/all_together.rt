@@ -3,6 +3,7 @@ ghost use Rattle.std.specs.Prelude.{◌≡◌, ◌≤◌, ◌+◌, All, vec_len}
 ghost use Rattle.desk.specs.Desks.{IsNewAt};
 
 use crate::controlling::MOST_WORKERS;
+use crate::ground::Ground;
 use crate::own_desk::OwnDesk;
 use crate::parts::{Answering, Controllers, Own, run_controllers};
 use chunked::Watched;
@@ -109,6 +110,14 @@ where
     outcome_of(served, worked, ran)
 }
 
+/// Returns the controllers beside what answers connections, if that was made.
+fn beside<C: Drop, A: Drop>(controllers: C, answering: io::Result<A>) -> Result<(C, A), AllFault> {
+    match answering {
+        Ok(answering) => Ok((controllers, answering)),
+        Err(error) => Err(not_served(error)),
+    }
+}
+
 /// Makes a loop for each place, and of the other passes the controllers, and runs all threads.
 fn run_over<'a, R, L, I, W>(
     own: &OwnDesk<'a, R>,
@@ -129,11 +138,51 @@ where
 {
     let workers = passes.len().saturating_sub(places.len() + FOLLOWERS);
     let mut passes = passes;
-    let controllers = own.controllers(&mut passes, workers).map_err(no_memory)?;
-    let answering = own
-        .answering(turns, passes, places, listener)
-        .map_err(not_served)?;
+    let Ok(controllers) = own.controllers(&mut passes, workers) else {
+        return Err(AllFault::Serve(ListenFault::NoMemory));
+    };
+    let answering = own.answering(turns, passes, places, listener);
+    let (controllers, answering) = beside(controllers, answering)?;
     run_threads(own, answering, controllers, reader, writer)
+}
+
+/// Listens on the port of the options, and runs all threads at a desk that has its passes still.
+fn run_at<R, L, I, W, E>(
+    ground: &Ground<'_, R>,
+    options: AllOptions,
+    blank: Blank,
+    passes: Vec<StorePass>,
+    reader: &mut I,
+    writer: &mut W,
+    told: &mut E,
+) -> Result<(), AllFault>
+where
+    R: Net<Listener = TcpListener, Stream = TcpStream> + Eprint + Threads + Wait + Clock + Sync,
+    L: Ledger + Send + Sync,
+    I: BufRead,
+    W: Write,
+    E: Write,
+    requires name { blank.name ≡ L.name }
+    requires parts { blank.parts ≡ L.parts }
+    requires most { blank.parts ≡ 18446744073709551615 }
+    requires new { All (IsNewAt ground.now.desk.now) passes.items }
+    requires enough { options.threads + 4 ≤ vec_len passes }
+{
+    let Ground { rt, alloc, desk } = *ground;
+    let (loops, places) = Loops::open(rt, alloc, options.threads).map_err(not_served)?;
+    let (listener, port) = listen(rt, options.port, told).map_err(AllFault::Serve)?;
+    let (signals, reach) = (Signals::new(None), Reach::new());
+    let turns = Mutex::new(Turns::<L>::new(u64::MAX, blank));
+    let own = OwnDesk {
+        rt,
+        alloc,
+        desk,
+        loops: &loops,
+        port,
+        signals: &signals,
+        reach: &reach,
+    };
+    run_over(&own, &turns, passes, places, listener, reader, writer)
 }
 
 /// Serves and works as `all` does, of no more connections than the ledger has parts.
@@ -156,26 +205,21 @@ where
     requires parts { blank.parts ≡ L.parts }
     requires most { blank.parts ≡ 18446744073709551615 }
 {
-    let threads = options.threads.max(1).min(MOST_THREADS);
-    let workers = options.workers.min(MOST_WORKERS);
-    let (signals, reach) = (Signals::new(None), Reach::new());
-    let turns = Mutex::new(Turns::<L>::new(u64::MAX, blank));
-    let count = threads + (workers + FOLLOWERS);
+    let options = AllOptions {
+        threads: options.threads.max(1).min(MOST_THREADS),
+        workers: options.workers.min(MOST_WORKERS),
+        ..options
+    };
+    let count = options.threads + (options.workers + FOLLOWERS);
     let Ok((desk, passes)) = Desk::<Anything>::open(alloc, options.window, count) else {
         return Err(AllFault::Serve(ListenFault::NoMemory));
     };
-    let (loops, places) = Loops::open(rt, alloc, threads).map_err(not_served)?;
-    let (listener, port) = listen(rt, options.port, told).map_err(AllFault::Serve)?;
-    let own = OwnDesk {
+    let ground = Ground {
         rt,
         alloc,
         desk: &desk,
-        loops: &loops,
-        port,
-        signals: &signals,
-        reach: &reach,
     };
-    run_over(&own, &turns, passes, places, listener, reader, writer)
+    run_at::<R, L, I, W, E>(&ground, options, blank, passes, reader, writer, told)
 }
 
 /// Serves requests over HTTP/1.1 on the loopback address, from the empty store on, with the controllers at work there; sends the request of

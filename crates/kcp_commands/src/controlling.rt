@@ -1,6 +1,7 @@
 //! `kcp control`: the controllers, which work at a server.
 ghost use Rattle.std.specs.Prelude.{◌<◌, ◌^◌};
 
+use crate::made::add;
 use api_client::Remote;
 use kcp_loopback::{LoopbackConnector, OtherServer, Reach};
 use kcp_options::ControlOptions;
@@ -47,14 +48,22 @@ impl<'a, R: Net<Listener = TcpListener, Stream = TcpStream> + Eprint> Server<'a,
         OtherServer::new(self.connector(), Remote::new(self.connector()))
     }
 
+    /// Returns ways to ask it for so many workers. The error is running out of memory.
+    fn workers(&self, workers: usize) -> Result<Vec<Asked<'a, R>>, AllocError>
+        ensures { IfOk result (λ made. vec_len made ≡ workers) }
+    {
+        let mut made = Vec::with_capacity(self.alloc, workers)?;
+        while made.len() < workers {
+            add(&mut made, Ok(self.api()))?;
+        }
+        Ok(made)
+    }
+
     /// Returns ways to ask it, one for each thread that asks. The error is running out of memory.
     fn apis(&self, workers: usize) -> Result<Apis<Asked<'a, R>>, AllocError>
         ensures { IfOk result (λ apis. vec_len apis.workers ≡ workers) }
     {
-        let mut made = Vec::with_capacity(self.alloc, workers)?;
-        while made.len() < workers {
-            made.push(self.api())?;
-        }
+        let workers = self.workers(workers)?;
         Ok(Apis {
             followers: Looks {
                 config_maps: self.api(),
@@ -62,7 +71,7 @@ impl<'a, R: Net<Listener = TcpListener, Stream = TcpStream> + Eprint> Server<'a,
                 replica_sets: self.api(),
                 deployments: self.api(),
             },
-            workers: made,
+            workers,
         })
     }
 }
@@ -75,6 +84,34 @@ where
 {
     let apis = server.apis(workers)?;
     manager::run(server.rt, server.alloc, apis, server.signals, &Open)
+}
+
+/// Runs the controllers at a server that they know nothing of, until all is to stop, and returns whether they are to begin anew then. Of the
+/// turns, if a number is given, those are left that were not finished. The error is running out of memory.
+fn work_anew<R>(
+    rt: &R,
+    alloc: Global,
+    port: u16,
+    workers: usize,
+    left: &mut Option<u64>,
+    reach: &Reach,
+) -> Result<bool, AllocError>
+where
+    R: Net<Listener = TcpListener, Stream = TcpStream> + Eprint + Threads + Wait + Clock + Sync,
+    requires { workers < 2 ^ 16 }
+{
+    let signals = Signals::new(*left);
+    let server = Server {
+        rt,
+        alloc,
+        port,
+        signals: &signals,
+        reach,
+    };
+    reach.begin();
+    work_at(&server, workers)?;
+    *left = signals.turns_left();
+    Ok(signals.has_lost() || reach.is_gone())
 }
 
 /// Runs the controllers at the server of a port until so many turns are finished, if a number is given. Where the server ends, loses its
@@ -92,20 +129,9 @@ where
     let reach = Reach::new();
     let mut left = turns;
     for _ in rt.forever() {
-        let signals = Signals::new(left);
-        let server = Server {
-            rt,
-            alloc,
-            port,
-            signals: &signals,
-            reach: &reach,
-        };
-        reach.begin();
-        work_at(&server, workers)?;
-        if !signals.has_lost() && !reach.is_gone() {
+        if !work_anew(rt, alloc, port, workers, &mut left, &reach)? {
             return Ok(());
         }
-        left = signals.turns_left();
     }
     unreachable!()
 }

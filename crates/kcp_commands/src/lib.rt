@@ -3,6 +3,8 @@
 
 pub mod all_together;
 pub mod controlling;
+pub mod ground;
+mod made;
 pub mod own_desk;
 pub mod parts;
 pub mod serving_threads;

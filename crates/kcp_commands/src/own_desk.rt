@@ -2,6 +2,7 @@
 ghost use Rattle.std.specs.Prelude.{All};
 ghost use Rattle.desk.specs.Desks.{IsNewAt};
 
+use crate::made::{add, all_made};
 use crate::parts::{Answering, Controllers, Own};
 use desk::{Anything, Desk, StorePass};
 use http_event_loop::{Listening, LoopPlace, Loops, Turns};
@@ -77,6 +78,40 @@ impl<'a, R: Net<Listener = TcpListener, Stream = TcpStream> + Eprint + Wait + Cl
         )
     }
 
+    /// Returns ways to ask for those that follow a kind, with the last of the passes. The error is running out of memory.
+    fn followers(&self, passes: &mut Vec<StorePass>) -> Result<Looks<Own<'a, R>>, AllocError>
+        requires new { All (IsNewAt self.now.desk.now) passes.old.items }
+        requires some { 4 ≤ vec_len passes.old }
+        ensures left { All (IsNewAt self.now.desk.now) passes.new.items }
+        ensures count { vec_len passes.new + 4 ≡ vec_len passes.old }
+    {
+        all_made(Looks {
+            config_maps: self.server(passes),
+            pods: self.server(passes),
+            replica_sets: self.server(passes),
+            deployments: self.server(passes),
+        })
+    }
+
+    /// Returns ways to ask for so many workers, with the last of the passes. The error is running out of memory.
+    fn workers(
+        &self,
+        passes: &mut Vec<StorePass>,
+        workers: usize,
+    ) -> Result<Vec<Own<'a, R>>, AllocError>
+        requires new { All (IsNewAt self.now.desk.now) passes.old.items }
+        requires enough { workers ≤ vec_len passes.old }
+        ensures left { All (IsNewAt self.now.desk.now) passes.new.items }
+        ensures count { OnOk result (vec_len passes.new + workers ≡ vec_len passes.old) }
+        ensures made { IfOk result (λ made. vec_len made ≡ workers) }
+    {
+        let mut made = Vec::with_capacity(self.alloc, workers)?;
+        while made.len() < workers {
+            add(&mut made, self.server(passes))?;
+        }
+        Ok(made)
+    }
+
     /// Returns ways to ask, one for each thread that asks, with the last of the passes. The error is running out of memory.
     fn apis(
         &self,
@@ -89,19 +124,9 @@ impl<'a, R: Net<Listener = TcpListener, Stream = TcpStream> + Eprint + Wait + Cl
         ensures count { OnOk result (vec_len passes.new + (workers + 4) ≡ vec_len passes.old) }
         ensures made { IfOk result (λ apis. vec_len apis.workers ≡ workers) }
     {
-        let mut made = Vec::with_capacity(self.alloc, workers)?;
-        while made.len() < workers {
-            made.push(self.server(passes)?)?;
-        }
-        Ok(Apis {
-            followers: Looks {
-                config_maps: self.server(passes)?,
-                pods: self.server(passes)?,
-                replica_sets: self.server(passes)?,
-                deployments: self.server(passes)?,
-            },
-            workers: made,
-        })
+        let workers = self.workers(passes, workers)?;
+        let followers = self.followers(passes)?;
+        Ok(Apis { followers, workers })
     }
 
     /// Returns the controllers, whose threads ask with the last of the passes. The error is running out of memory.

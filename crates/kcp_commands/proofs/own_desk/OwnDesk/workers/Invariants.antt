@@ -1,6 +1,6 @@
 use Rattle.std.proofs.Common.{◌≡◌, ◌-◌, ◌+◌, ◌≤◌, All, length}
 use Rattle.desk.specs.Desks.{IsNewAt}
-use Rattle.kcp_commands.proofs.own_desk.OwnDesk.apis.Given as goal
+use Rattle.kcp_commands.proofs.own_desk.OwnDesk.workers.Given as goal
 
 -- of the passes as many are gone as ways to ask are made
 abbrev pub invariant-loop-made : goal.invariant-loop-made

@@ -1,5 +1,5 @@
 use Rattle.std.proofs.Common.{◌-◌, ◌≤◌, length}
-use Rattle.kcp_commands.proofs.controlling.Server.apis.Given as goal
+use Rattle.kcp_commands.proofs.controlling.Server.workers.Given as goal
 
 abbrev pub invariant-loop-made : goal.invariant-loop-made
 invariant-loop-made g l = length l.made.items ≤ l.workers

@@ -1,0 +1,11 @@
+//! What the threads of a server stand on.
+use desk::{Anything, Desk};
+use std::alloc::Global;
+
+/// A desk, and the system that its threads ask.
+#[derive(Drop)]
+pub struct Ground<'a, R> {
+    pub rt: &'a R,
+    pub alloc: Global,
+    pub desk: &'a Desk<Anything>,
+}

@@ -1,0 +1,25 @@
+//! What was made, if it was.
+ghost use Rattle.std.specs.Prelude.{◌≡◌, ◌+◌, OnOk, vec_len};
+
+use reconcile_types::Looks;
+use std::alloc::AllocError;
+
+/// Returns what was made for each kind, if it was. The error is running out of memory.
+pub(crate) fn all_made<T: Drop>(
+    made: Looks<Result<T, AllocError>>,
+) -> Result<Looks<T>, AllocError> {
+    Ok(Looks {
+        config_maps: made.config_maps?,
+        pods: made.pods?,
+        replica_sets: made.replica_sets?,
+        deployments: made.deployments?,
+    })
+}
+
+/// Adds what was made, if it was. The error is running out of memory.
+pub(crate) fn add<T: Drop>(all: &mut Vec<T>, made: Result<T, AllocError>) -> Result<(), AllocError>
+    ensures { OnOk result (vec_len all.new ≡ vec_len all.old + 1) }
+{
+    all.push(made?)?;
+    Ok(())
+}
