@@ -1,6 +1,8 @@
 //! A random run of a simulated cluster.
+use indexer::Indexed;
 use line_session::JournalEntry as Happened;
-use meta::{Member, Write};
+use meta::{Member, StoredObject, Write};
+use object_keys::Key;
 use reconcile_types::Entry;
 use revisions::Journal;
 use selector::View;
@@ -9,7 +11,6 @@ use sim_followers::ClusterOutcome;
 use sim_steps::{InitialSync, Move, Step};
 use spec_api::kinds::Kind;
 use std::alloc::{AllocError, Global};
-use std::test::Fail;
 
 /// How many steps are taken.
 const STEPS: usize = 10_000;
@@ -34,20 +35,54 @@ impl Numbers {
     }
 }
 
-/// Returns a request that creates, updates or deletes one of five ConfigMaps.
-fn request(alloc: Global, numbers: &mut Numbers) -> Result<String, AllocError> {
-    let name = numbers.below(5);
-    let value = numbers.below(1_000);
-    let path = "/api/v1/namespaces/default/configmaps";
-    match numbers.below(3) {
-        0 => format!(in alloc;
-            "POST {path} {{\"metadata\":{{\"name\":\"n{name}\"}},\"data\":{{\"k\":\"{value}\"}}}}"
-        ),
-        1 => format!(in alloc;
-            "PUT {path}/n{name} {{\"metadata\":{{\"name\":\"n{name}\"}},\"data\":{{\"k\":\"{value}\"}}}}"
-        ),
-        _ => format!(in alloc; "DELETE {path}/n{name}"),
+/// How requests for ConfigMaps begin, up to the digit of the name.
+const POST: &[u8] = b"POST /api/v1/namespaces/default/configmaps";
+
+const PUT: &[u8] = b"PUT /api/v1/namespaces/default/configmaps/n";
+
+const DELETE: &[u8] = b"DELETE /api/v1/namespaces/default/configmaps/n";
+
+/// What stands in a body before the digit of the name, before the value, and after that.
+const NAME: &[u8] = b" {\"metadata\":{\"name\":\"n";
+
+const VALUE: &[u8] = b"\"},\"data\":{\"k\":\"";
+
+const END: &[u8] = b"\"}}";
+
+/// Returns the last digit of a number.
+fn digit(number: u64) -> u8 {
+    b'0'.wrapping_add((number % 10) as u8)
+}
+
+/// Returns the last three digits of a number.
+fn digits(number: u64) -> [u8; 3] {
+    [digit(number / 100), digit(number / 10), digit(number)]
+}
+
+/// Appends these pieces to a line.
+fn append(line: &mut Vec<u8>, pieces: &[&[u8]]) -> Result<(), AllocError> {
+    for piece in pieces {
+        line.extend_from_slice(piece)?;
     }
+    Ok(())
+}
+
+/// Appends a request that creates, updates or deletes one of five ConfigMaps.
+fn append_request(line: &mut Vec<u8>, numbers: &mut Numbers) -> Result<(), AllocError> {
+    let name = [digit(numbers.below(5))];
+    let value = digits(numbers.below(1_000));
+    match numbers.below(3) {
+        0 => append(line, &[POST, NAME, &name, VALUE, &value, END]),
+        1 => append(line, &[PUT, &name, NAME, &name, VALUE, &value, END]),
+        _ => append(line, &[DELETE, &name]),
+    }
+}
+
+/// Returns a request that creates, updates or deletes one of five ConfigMaps.
+fn request(alloc: Global, numbers: &mut Numbers) -> Result<Vec<u8>, AllocError> {
+    let mut line = Vec::new(alloc);
+    append_request(&mut line, numbers)?;
+    Ok(line)
 }
 
 /// Returns a move of what follows the ConfigMaps.
@@ -65,71 +100,105 @@ fn movement(numbers: &mut Numbers) -> Move {
     }
 }
 
+/// Has the server of a cluster read a random request.
+fn ask(
+    alloc: Global,
+    cluster: &mut Cluster,
+    numbers: &mut Numbers,
+) -> Result<ClusterOutcome, AllocError> {
+    let line = request(alloc, numbers)?;
+    cluster.step(alloc, Step::Request(&line))
+}
+
 /// Takes a random step: a request, a compaction, a restart now and then, or a move.
 fn take(
     alloc: Global,
     cluster: &mut Cluster,
     numbers: &mut Numbers,
 ) -> Result<ClusterOutcome, AllocError> {
-    match numbers.below(200) {
-        0 => cluster.step(alloc, Step::Restart),
-        1 | 2 => {
-            let revision = numbers.below(3_000);
-            cluster.step(alloc, Step::Compact(revision))
-        }
-        3..50 => {
-            let line = request(alloc, numbers)?;
-            cluster.step(alloc, Step::Request(line.as_bytes()))
-        }
-        _ => cluster.step(alloc, Step::Moves(Kind::ConfigMap, movement(numbers))),
-    }
+    let step = match numbers.below(200) {
+        0 => Step::Restart,
+        1 | 2 => Step::Compact(numbers.below(3_000)),
+        3..50 => return ask(alloc, cluster, numbers),
+        _ => Step::Moves(Kind::ConfigMap, movement(numbers)),
+    };
+    cluster.step(alloc, step)
+}
+
+/// Returns whether two objects have the same key and text.
+fn is_same(alloc: Global, this: &Entry<'_>, that: &Member<'_>) -> Result<bool, AllocError> {
+    let text = this.object.text(alloc)?;
+    Ok(this.key.cmp(that.key).is_eq() && text.as_str() == that.object.text())
 }
 
 /// Returns whether these objects and those are the same, key by key and text by text.
 fn are_same(alloc: Global, these: &[Entry<'_>], those: &[Member<'_>]) -> Result<bool, AllocError> {
-    if these.len() != those.len() {
-        return Ok(false);
+    let mut same = these.len() == those.len();
+    for (this, that) in these.iter().zip(those) {
+        same = is_same(alloc, this, that)? && same;
     }
-    for (this, that) in these.iter().zip(those.iter()) {
-        let text = this.object.text(alloc)?;
-        if !this.key.cmp(that.key).is_eq() || text.as_str() != that.object.text() {
-            return Ok(false);
-        }
-    }
-    Ok(true)
+    Ok(same)
 }
 
-/// Returns a copy of a write, which shares the object's text.
-fn copy_of(write: &Write) -> Result<Write, AllocError> {
-    let put = match &write.put {
-        Some(object) => Some(object.try_copy()?),
-        None => None,
-    };
-    Ok(Write {
-        key: write.key.try_copy()?,
-        put,
-    })
+/// Returns a copy of what a write puts, if it puts something, which shares the object's text.
+fn put_by(write: &Write) -> Result<Option<StoredObject>, AllocError> {
+    match &write.put {
+        Some(object) => Ok(Some(object.try_copy()?)),
+        None => Ok(None),
+    }
+}
+
+/// Appends a write to a journal, under this key.
+fn append_write(journal: &mut Journal, key: Key, write: &Write) -> Result<(), AllocError> {
+    let put = put_by(write)?;
+    journal.push(Write { key, put })
+}
+
+/// Appends what has happened to a journal, where it is a write.
+fn append_entry(journal: &mut Journal, entry: &Happened) -> Result<(), AllocError> {
+    match entry {
+        Happened::Write(write) => append_write(journal, write.key.try_copy()?, write),
+        Happened::Compaction(_) => Ok(()),
+    }
+}
+
+/// Appends the writes of what has happened to a journal.
+fn append_writes(journal: &mut Journal, happened: &[Happened]) -> Result<(), AllocError> {
+    for entry in happened {
+        append_entry(journal, entry)?;
+    }
+    Ok(())
 }
 
 /// Returns the writes of what has happened.
 fn writes_of(alloc: Global, happened: &[Happened]) -> Result<Journal, AllocError> {
     let mut journal = Journal::new(alloc);
-    for entry in happened {
-        if let Happened::Write(write) = entry {
-            journal.push(copy_of(write)?)?;
-        }
-    }
+    append_writes(&mut journal, happened)?;
     Ok(journal)
+}
+
+/// Returns whether these objects are all that is published.
+fn shows(alloc: Global, published: &Indexed, listed: &[Member<'_>]) -> Result<bool, AllocError> {
+    let shown = published.list(alloc)?;
+    are_same(alloc, &shown, listed)
+}
+
+/// Returns whether what is published is the list at its revision, by a journal.
+fn shows_list_by(
+    alloc: Global,
+    published: &Indexed,
+    writes: &Journal,
+    view: &View,
+) -> Result<bool, AllocError> {
+    let listed = writes.list_at(alloc, view, published.revision())?;
+    shows(alloc, published, &listed)
 }
 
 /// Returns whether what is published of a kind is the server's list at its revision, by the journal of all that has happened.
 fn shows_list(alloc: Global, cluster: &Cluster, kind: Kind) -> Result<bool, AllocError> {
-    let published = cluster.published(kind);
-    let view = View::unfiltered(alloc, kind, None);
     let writes = writes_of(alloc, cluster.journal())?;
-    let listed = writes.list_at(alloc, &view, published.revision())?;
-    let shown = published.list(alloc)?;
-    are_same(alloc, shown.as_slice(), listed.as_slice())
+    let view = View::unfiltered(alloc, kind, None);
+    shows_list_by(alloc, cluster.published(kind), &writes, &view)
 }
 
 /// Takes a random step, and returns the kind of which something was published by it, if it was.
@@ -144,38 +213,53 @@ fn published_kind(
     }
 }
 
+/// Takes a random step, and returns whether what was published by it is the server's list, if something was.
+fn shown_by_step(
+    alloc: Global,
+    cluster: &mut Cluster,
+    numbers: &mut Numbers,
+) -> Result<Option<bool>, AllocError> {
+    match published_kind(alloc, cluster, numbers)? {
+        Some(kind) => Ok(Some(shows_list(alloc, cluster, kind)?)),
+        None => Ok(None),
+    }
+}
+
 /// Takes random steps of a cluster, and returns how often something was published, and whether it was the server's list each time.
 fn publishes_in(alloc: Global, cluster: &mut Cluster) -> Result<(u64, bool), AllocError> {
     let mut numbers = Numbers { state: 1 };
     let mut published = 0_u64;
     let mut are_lists = true;
     for _ in 0..STEPS {
-        if let Some(kind) = published_kind(alloc, cluster, &mut numbers)? {
+        if let Some(is_list) = shown_by_step(alloc, cluster, &mut numbers)? {
             published = published.saturating_add(1);
-            are_lists &= shows_list(alloc, cluster, kind)?;
+            are_lists &= is_list;
         }
     }
     Ok((published, are_lists))
 }
 
-/// Takes random steps of a cluster whose followers begin so, and returns what `publishes_in` does.
-fn publishes(alloc: Global, initial: InitialSync) -> Result<(u64, bool), AllocError> {
+/// Takes random steps of a cluster, and returns whether something was published often, and was the server's list each time.
+fn shows_lists(alloc: Global, cluster: &mut Cluster) -> Result<bool, AllocError> {
+    let (published, are_lists) = publishes_in(alloc, cluster)?;
+    Ok(published > 500 && are_lists)
+}
+
+/// Takes random steps of a cluster whose followers begin so, and returns whether something was published often, and was the server's list each
+/// time.
+fn publishes_lists(alloc: Global, initial: InitialSync) -> Result<bool, AllocError> {
     let mut cluster = Cluster::open(alloc, 16, initial)?;
-    publishes_in(alloc, &mut cluster)
+    let shows_lists = shows_lists(alloc, &mut cluster);
+    drop(cluster);
+    shows_lists
 }
 
 #[test]
-fn each_published_map_is_the_list_at_its_revision(rt: HostRuntime) -> Result<(), Fail> {
-    let (published, are_lists) = publishes(rt.alloc(), InitialSync::List)?;
-    assert!(rt; are_lists);
-    assert!(rt; published > 500);
-    Ok(())
+fn each_published_map_is_the_list_at_its_revision(rt: HostRuntime) {
+    assert_eq!(rt; publishes_lists(rt.alloc(), InitialSync::List), Ok(true));
 }
 
 #[test]
-fn so_is_each_map_of_streams_of_initial_events(rt: HostRuntime) -> Result<(), Fail> {
-    let (published, are_lists) = publishes(rt.alloc(), InitialSync::Stream)?;
-    assert!(rt; are_lists);
-    assert!(rt; published > 500);
-    Ok(())
+fn so_is_each_map_of_streams_of_initial_events(rt: HostRuntime) {
+    assert_eq!(rt; publishes_lists(rt.alloc(), InitialSync::Stream), Ok(true));
 }
