@@ -7,3 +7,7 @@ use Rattle.spec_client_go.specs.Shifts.{Shift}
 abbrev pub IsGiven : {T : Type 0} → (T → List Shift → Snapshot → Bool → T → Type 0) → Option (List Shift) → Snapshot → Bool → T → T → Type 0
 IsGiven takes None objects is_first before after = after ≡ before
 IsGiven takes (Some changes) objects is_first before after = takes before changes objects is_first after
+
+-- what was so of a sink before is so of what has become of it
+abbrev pub StaysSo : {T : Type 0} → (T → T → Type 0) → T → T → Type 0
+StaysSo {T = T} stays before after = (first : T) → stays first before → stays first after

@@ -1,4 +1,6 @@
 //! Whether it is still the same server that is asked.
+ghost use Rattle.list_and_watch.specs.Given.{StaysSo};
+
 use crate::answered::body_in;
 use crate::follower::Follower;
 use crate::recognizing::{Recognized, recognize};
@@ -49,7 +51,9 @@ pub(crate) fn look<I: Publishing, A: Api, S: Sink>(
     follower: &mut Follower<I>,
     api: &mut A,
     sink: &mut S,
-) -> Recognized {
+) -> Recognized
+    ensures { StaysSo S.stays sink.old sink.new }
+{
     let recognized = ask(alloc, kind, follower, api);
     match recognized {
         Recognized::Same | Recognized::Unanswered => {}

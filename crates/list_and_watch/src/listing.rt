@@ -1,4 +1,6 @@
 //! A list, asked for and taken in.
+ghost use Rattle.list_and_watch.specs.Given.{StaysSo};
+
 use crate::answered::body_in;
 use crate::follower::Follower;
 use crate::owed::Owed;
@@ -16,7 +18,9 @@ fn give<I: Publishing, S: Sink>(
     follower: &mut Follower<I>,
     owed: &mut Owed,
     sink: &mut S,
-) -> Result<(), AllocError> {
+) -> Result<(), AllocError>
+    ensures { StaysSo S.stays sink.old sink.new }
+{
     owed.publish(follower)?;
     owed.give(follower.look(), sink)
 }
@@ -26,7 +30,9 @@ pub(crate) fn publish<I: Publishing, S: Sink>(
     follower: &mut Follower<I>,
     owed: &mut Owed,
     sink: &mut S,
-) -> Tried {
+) -> Tried
+    ensures { StaysSo S.stays sink.old sink.new }
+{
     let given = give(follower, owed, sink);
     match sink.goes_on() {
         Onward::GoOn if given.is_ok() => Tried::Done,
@@ -43,7 +49,9 @@ pub(crate) fn list<I: Publishing, A: Api, S: Sink>(
     owed: &mut Owed,
     api: &mut A,
     sink: &mut S,
-) -> Tried {
+) -> Tried
+    ensures { StaysSo S.stays sink.old sink.new }
+{
     let answer = api.list(alloc, kind);
     match follower.on_answer(alloc, &answer) {
         Ok(()) => {

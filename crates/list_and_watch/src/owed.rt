@@ -2,7 +2,7 @@
 ghost use Rattle.std.specs.Prelude.{◌≡◌, OnOk, OnErr, true, false, None, map, option_map};
 ghost use Rattle.indexer.specs.Shifted.{shift_of};
 ghost use Rattle.list_and_watch.specs.Followers.{published_unless, owed_after};
-ghost use Rattle.list_and_watch.specs.Given.{IsGiven};
+ghost use Rattle.list_and_watch.specs.Given.{IsGiven, StaysSo};
 
 use crate::follower::Follower;
 use crate::sinks::Sink;
@@ -56,6 +56,7 @@ impl Owed {
         ensures given { OnOk result (IsGiven S.takes (option_map (λ v. map shift_of v.items) self.old.changes) objects.now self.old.is_first sink.old sink.new) }
         ensures taken { OnOk result (self.new.changes ≡ None) }
         ensures err { OnErr result (self.new ≡ self.old) }
+        ensures stays { StaysSo S.stays sink.old sink.new }
     {
         let Some(shifts) = &self.changes else {
             return Ok(());

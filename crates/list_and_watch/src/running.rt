@@ -1,4 +1,6 @@
 //! The loop of a follower.
+ghost use Rattle.list_and_watch.specs.Given.{StaysSo};
+
 use crate::answered::is_left_open;
 use crate::doubts::look;
 use crate::follower::Follower;
@@ -33,7 +35,9 @@ fn read_on<I: Publishing, A: Api, T: Timer, S: Sink>(
     api: &mut A,
     timer: &mut T,
     sink: &mut S,
-) -> (Tried, bool) {
+) -> (Tried, bool)
+    ensures { StaysSo S.stays sink.old sink.new }
+{
     if opened == Opened::Open {
         watch(alloc, follower, owed, api, timer, sink)
     } else {
@@ -50,7 +54,9 @@ fn ask<I: Publishing, A: Api, T: Timer, S: Sink>(
     api: &mut A,
     timer: &mut T,
     sink: &mut S,
-) -> Tried {
+) -> Tried
+    ensures { StaysSo S.stays sink.old sink.new }
+{
     let owed = &mut known.owed;
     let (tried, is_in_doubt) = match follower.next() {
         Ask::List => {
@@ -87,7 +93,9 @@ fn try_once<I: Publishing, A: Api, T: Timer, S: Sink>(
     api: &mut A,
     timer: &mut T,
     sink: &mut S,
-) -> Tried {
+) -> Tried
+    ensures { StaysSo S.stays sink.old sink.new }
+{
     match publish(follower, &mut known.owed, sink) {
         Tried::Done => {}
         tried => return tried,
@@ -106,7 +114,9 @@ fn try_once<I: Publishing, A: Api, T: Timer, S: Sink>(
 }
 
 /// Waits after a try that failed, unless the sink says that the follower stops, and returns whether it goes on.
-fn pause<T: Timer, S: Sink>(pauses: &mut Pauses, timer: &mut T, sink: &mut S) -> Onward {
+fn pause<T: Timer, S: Sink>(pauses: &mut Pauses, timer: &mut T, sink: &mut S) -> Onward
+    ensures { StaysSo S.stays sink.old sink.new }
+{
     let pause = pauses.on_failed(timer.now());
     match sink.goes_on() {
         Onward::GoOn => timer.pause(pause),
@@ -117,7 +127,8 @@ fn pause<T: Timer, S: Sink>(pauses: &mut Pauses, timer: &mut T, sink: &mut S) ->
 /// Keeps the copy of a follower of a kind up to date with a server until the sink or the timer stops it: asks what the follower is to ask
 /// next, publishes after each list and each piece of a watch, and gives the sink what that changes. After a try that failed it pauses. After one
 /// that did not end as servers end them, it looks first whether the server is still the same, and tells the sink where it is another one. A sink
-/// that does not take changes is given them again; those that it has not taken when the follower stops are not given again.
+/// that does not take changes is given them again; those that it has not taken when the follower stops are not given again. What stays so of a sink
+/// is so of it when the follower has stopped.
 pub fn follow<I: Publishing, A: Api, T: Timer, S: Sink>(
     alloc: Global,
     kind: Kind,
@@ -125,7 +136,9 @@ pub fn follow<I: Publishing, A: Api, T: Timer, S: Sink>(
     api: &mut A,
     timer: &mut T,
     sink: &mut S,
-) {
+)
+    ensures { StaysSo S.stays sink.old sink.new }
+{
     let mut known = Known {
         owed: Owed::new(),
         is_in_doubt: false,

@@ -1,8 +1,9 @@
 //! What is told of what a follower publishes.
-ghost use Rattle.std.specs.Prelude.{List, Bool, OnOk, map};
+ghost use Rattle.std.specs.Prelude.{List, Bool, OnOk, map, ⊤};
 ghost use Rattle.spec_server.specs.Snapshots.{Snapshot};
 ghost use Rattle.spec_client_go.specs.Shifts as words;
 ghost use Rattle.indexer.specs.Shifted.{shift_of};
+ghost use Rattle.list_and_watch.specs.Given.{StaysSo};
 
 use indexer::{Indexed, Shift};
 use std::alloc::AllocError;
@@ -21,6 +22,9 @@ pub trait Sink {
     /// What a sink is after it took changes, by what it was before: any relation.
     ghost takes: { Self → List words.Shift → Snapshot → Bool → Self → Type 0 };
 
+    /// What stays so of a sink, by what it was at first, whatever it is told and asked: any relation.
+    ghost stays: { Self → Self → Type 0 } = { λ first now. ⊤ };
+
     /// Takes the changes of a publish, in order, with what is now published, and whether this is the first publish that it takes. The error
     /// is running out of memory: after a pause it is given the same again, and nothing is published before. So it takes none before the
     /// error, or counts those that it took, and then takes the others.
@@ -30,11 +34,14 @@ pub trait Sink {
         objects: &Indexed,
         is_first: bool,
     ) -> Result<(), AllocError>
-        ensures { OnOk result (takes self.old (map shift_of shifts.now) objects.now is_first self.new) };
+        ensures takes { OnOk result (takes self.old (map shift_of shifts.now) objects.now is_first self.new) }
+        ensures stays { StaysSo stays self.old self.new };
 
     /// Is told that it is another server that answers now, whose objects are listed next. What was published before says nothing of them.
-    fn other_server(&mut self);
+    fn other_server(&mut self)
+        ensures { StaysSo stays self.old self.new };
 
     /// Returns whether the follower goes on. It is asked after each list, each piece of a watch, and each try that failed.
-    fn goes_on(&mut self) -> Onward;
+    fn goes_on(&mut self) -> Onward
+        ensures { StaysSo stays self.old self.new };
 }

@@ -1,6 +1,7 @@
 //! A watch, opened and read to its end.
 ghost use Rattle.std.specs.Prelude.{◌≡◌};
 ghost use Rattle.list_and_watch.specs.Answered.{over};
+ghost use Rattle.list_and_watch.specs.Given.{StaysSo};
 
 use crate::answered::piece_in;
 use crate::follower::Follower;
@@ -37,7 +38,9 @@ fn take_in<I: Publishing, A: Api, S: Sink>(
     follower: &mut Follower<I>,
     api: &mut A,
     sink: &mut S,
-) -> Piece {
+) -> Piece
+    ensures { StaysSo S.stays sink.old sink.new }
+{
     let is_opening = follower.next() == Ask::Stream;
     let last = follower.look().revision();
     let piece = follower.on_piece(alloc, bytes);
@@ -62,7 +65,9 @@ fn leaves<I: Publishing, S: Sink>(
     follower: &mut Follower<I>,
     owed: &mut Owed,
     sink: &mut S,
-) -> Option<Left> {
+) -> Option<Left>
+    ensures { StaysSo S.stays sink.old sink.new }
+{
     match (publish(follower, owed, sink), piece) {
         (Tried::Stopped, _) => Some(Left::Stopped),
         (Tried::Done, Piece::GoesOn) => None,
@@ -90,7 +95,9 @@ fn read<I: Publishing, A: Api, S: Sink>(
     owed: &mut Owed,
     api: &mut A,
     sink: &mut S,
-) -> Left {
+) -> Left
+    ensures { StaysSo S.stays sink.old sink.new }
+{
     let mut buffer = [0u8; PIECE];
     let mut tail = Tail::new(alloc);
     let mut gave = false;
@@ -117,7 +124,9 @@ pub(crate) fn watch<I: Publishing, A: Api, T: Timer, S: Sink>(
     api: &mut A,
     timer: &mut T,
     sink: &mut S,
-) -> (Tried, bool) {
+) -> (Tried, bool)
+    ensures { StaysSo S.stays sink.old sink.new }
+{
     let opened = timer.now();
     let left = read(alloc, follower, owed, api, sink);
     follower.on_cut();

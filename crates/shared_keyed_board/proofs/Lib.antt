@@ -3,3 +3,4 @@ pub mod Told
 pub mod Passing
 pub mod Remembering
 pub mod Attempting
+pub mod Gathered

@@ -1,5 +1,5 @@
 -- What a pass knows once it has taken the board, and once it has given it back.
-use Rattle.std.proofs.Common.{◌≡◌, ◌≢◌, ⊎_elim, ℕ, List, [], ◌∷◌, ◌++◌, append-nil, append_assoc, refl, sym, ap, ◌∙◌, subst, true}
+use Rattle.std.proofs.Common.{◌≡◌, ◌≢◌, ◌⊎◌, inl, inr, ⊎_elim, ℕ, List, [], ◌∷◌, ◌++◌, append-nil, append_assoc, refl, sym, ap, ◌∙◌, subst, true}
 use Rattle.std.specs.Prelude.{Option, Some, None, is_some}
 use Rattle.std.specs.Cmp.{IsTotalOrder}
 use Rattle.std.specs.FinSet.{IsAntisymmetric}
@@ -12,7 +12,7 @@ use Rattle.keyed_queues.specs.Queues.{got_from, handed, front}
 use Rattle.keyed_board.specs.Boards.{KeyBoard, taken}
 use Rattle.keyed_board.specs.Said.{Parts, said}
 use Rattle.keyed_board.specs.Steps.{Step}
-use Rattle.shared_keyed_board.specs.Calls.{Sight, IsCall, IsLater, HasLooked, having_seen}
+use Rattle.shared_keyed_board.specs.Calls.{Sight, IsCall, IsLater, HasLooked, HasSeenAll, HaveMet, having_seen}
 use Rattle.shared_keyed_board.specs.Entries.{step_told, told, steps_told, latest, IsBegun, Follows}
 use Rattle.shared_keyed_board.specs.Histories.{board, hand, in_hand, in_hand_after, MayFollow}
 use Rattle.shared_keyed_board.specs.Passes.{sight_of}
@@ -176,3 +176,19 @@ module _ {K N : Type 0} (R : N → N → Ordering) (say : K → N) where
       apart : (h : List (ℕ × BoardEntry K)) (i j : ℕ) (l m : List (BoardEntry K)) → made_by i h ≡ l → made_by j h ≡ m → CanHappen (Follows R say) h → in_hand (steps_told say l) ≡ Some k → in_hand (steps_told say m) ≡ Some k → i ≡ j
       apart h i j l m li mj can a b =
           (hands_apart R total tells (told say h) (told_happened R say h can)).apart i j k (ap in_hand (made_told say i h ∙ ap (steps_told say) li) ∙ a) (ap in_hand (made_told say j h ∙ ap (steps_told say) mj) ∙ b)
+
+  -- who has seen more has seen all, told
+  seen_all : (v w : Known (Parts K) (BoardEntry K)) → Longer (IsBegun R say) latest (Follows R say) v w → HasSeenAll R (sight_of say v) (sight_of say w)
+  seen_all v w x = record {
+    later = told_later say v.seen w.seen x.0;
+    mine = made_told say v.name v.seen ∙ ap (steps_told say) x.1;
+    theirs = made_told say w.name v.seen ∙ ap (steps_told say) x.2;
+    happened = told_happened R say v.seen x.3;
+  }
+
+  -- two passes that met, told
+  pub meet_told : (v w : Known (Parts K) (BoardEntry K)) → Met (IsBegun R say) latest (Follows R say) v w → HaveMet R (sight_of say v) (sight_of say w)
+  meet_told v w met = (
+    met.0,
+    ⊎_elim (λ (x : Longer (IsBegun R say) latest (Follows R say) v w). inl (seen_all v w x)) (λ (x : Longer (IsBegun R say) latest (Follows R say) w v). inr (seen_all w v x)) met.1,
+  )

@@ -1,5 +1,5 @@
 -- What a call of a board means to the pass that makes it.
-use Rattle.std.specs.Prelude.{◌≡◌, ℕ, List, ◌++◌, Option, None, option_map, Result, Ok, Err}
+use Rattle.std.specs.Prelude.{◌≡◌, ◌≢◌, ◌⊎◌, ℕ, List, ◌++◌, Option, None, option_map, Result, Ok, Err}
 use Rattle.std.specs.declared.cmp.Ordering.{Ordering}
 use Rattle.baton.specs.Marks.{StartsWith, entries, made_by, marked, CanHappen}
 use Rattle.keyed_queues.specs.Queues.{handed}
@@ -53,3 +53,14 @@ pub record IsLater {N : Type 0} (v w : Sight N) : Type 0 where
   pub later : StartsWith w.seen v.seen
   pub name : w.name ≡ v.name
   pub made : w.made ≡ v.made
+
+-- a pass has seen all that another has, and in that history, which may happen, the steps of both are just those that they made
+pub record HasSeenAll {N : Type 0} (R : N → N → Ordering) (v w : Sight N) : Type 0 where
+  pub later : StartsWith v.seen w.seen
+  pub mine : made_by v.name v.seen ≡ v.made
+  pub theirs : made_by w.name v.seen ≡ w.made
+  pub happened : CanHappen (MayFollow R) v.seen
+
+-- two passes have met: one of them has seen all that the other has
+abbrev pub HaveMet : {N : Type 0} → (N → N → Ordering) → Sight N → Sight N → Type 0
+HaveMet R v w = (v.name ≢ w.name) × (HasSeenAll R v w ⊎ HasSeenAll R w v)

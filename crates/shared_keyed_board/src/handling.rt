@@ -1,9 +1,8 @@
 //! How a board opens, and what is handled at it: keys that are added, time that passes, the shut-down; and how its passes meet.
 ghost use Rattle.std.specs.Prelude.{◌≡◌, ◌≢◌, ◌∷◌, ◌<◌, [], Some, IfOk, All, length, map};
 ghost use Rattle.baton.specs.Batons.{AreNumbered};
-ghost use Rattle.baton.specs.Passes.{Met};
 ghost use Rattle.keyed_board.specs.Steps as said_steps;
-ghost use Rattle.shared_keyed_board.specs.Calls.{IsCall, Nothing, once_ok};
+ghost use Rattle.shared_keyed_board.specs.Calls.{IsCall, Nothing, once_ok, HaveMet};
 ghost use Rattle.shared_keyed_board.specs.Entries.{IsBegun, Follows, latest};
 ghost use Rattle.shared_keyed_board.specs.Passes.{sight, known, key_in_hand, IsPassAt, IsNewAt};
 
@@ -163,13 +162,15 @@ impl<K: Named> SharedKeyedBoard<K> {
         self.delays.ring();
     }
 
-    /// Compares what two passes know of one another. No key is in the hands of both. It waits for nobody and changes nothing.
+    /// Compares what two passes know of one another: one has seen all that the other has, and in that history the steps of both are just those that
+    /// they made. No key is in the hands of both. It waits for nobody and changes nothing.
     pub fn meet(&self, one: &mut BoardPass<K>, other: &mut BoardPass<K>)
         requires one { IsPassAt self.now one.old }
         requires other { IsPassAt self.now other.old }
         ensures passes { IsPassAt self.now one.new × IsPassAt self.now other.new }
         ensures one { sight K.says one.new ≡ sight K.says one.old }
         ensures other { sight K.says other.new ≡ sight K.says other.old }
+        ensures met { HaveMet K.order (sight K.says one.new) (sight K.says other.new) }
         ensures apart { (k : K.Name) → key_in_hand K.says one.new ≡ Some k → key_in_hand K.says other.new ≢ Some k }
     {
         self.baton.meet(one, other);

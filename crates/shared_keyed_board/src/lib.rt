@@ -7,6 +7,7 @@ pub mod board_law;
 pub mod boards;
 mod doing;
 pub mod entries;
+pub mod gathering;
 mod giving;
 pub mod handling;
 pub mod hands;
