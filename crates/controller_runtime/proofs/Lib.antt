@@ -3,5 +3,8 @@ mod Made
 mod Owed
 mod Turned
 mod Taken
+mod Runs
+mod Added
+mod LookedBack
 mod Sent
 mod Asked

@@ -30,7 +30,7 @@ use Rattle.informer.specs.contracts.kind_listers.Listers as Listers
 use Rattle.informer.specs.contracts.shared.SharedInformer as SharedInformer
 use Rattle.informer.specs.contracts.shared.SharedInformerPublishing.TheImpl as publishes
 use Rattle.reflector.specs.contracts.reflectors.Reflector as Reflector
-use Rattle.reconcile_types.proofs.looks.Looks.TheSendSync as looks_of
+use Rattle.object_keys.proofs.per_kind.PerKind.TheSendSync as per_kind_of
 use Rattle.tcp_client.proofs.stoppable_clock.StoppableClock.TheSendSync as clock_of
 use Rattle.tcp_client.specs.contracts.stoppable_clock.StoppableClock as StoppableClock
 use Rattle.keyed_queues.specs.declared.named.Named as named
@@ -52,7 +52,7 @@ use Rattle.controller_runtime.specs.contracts.working.Worker as Worker
 use Rattle.controller_runtime.specs.contracts.members.RunThread as RunThread
 
 listers : IsSend Listers.the_row
-listers = declared_send Listers.the_type (looks_of.the_send Lister.the_row lister, tt)
+listers = declared_send Listers.the_type (per_kind_of.the_send Lister.the_row lister, tt)
 
 alloc : IsSend (as_row Global.the_field)
 alloc = search (heap.send, sendable)
@@ -74,13 +74,7 @@ module _ (K : RattleType) (n : named.Ghosts K.Denot) (o : ord.Ghosts K.Denot) (q
   pass = as_row_send (Pass.the_field (Option.the_row OfKeys) (Doing.the_row OfKeys (View.the_row OfKeys (Entry.the_row K n o q e p))))
       (pass_of.the_send (Option.the_row OfKeys) (Doing.the_row OfKeys (View.the_row OfKeys (Entry.the_row K n o q e p))) (option.the_send OfKeys board))
 
-  abbrev OfPass : RattleType
-  OfPass = Pass.the_row (Option.the_row OfKeys) (Doing.the_row OfKeys (View.the_row OfKeys (Entry.the_row K n o q e p)))
-
-  maybe_pass : IsSend (as_row (Option.the_field OfPass))
-  maybe_pass = as_row_send (Option.the_field OfPass) (option.the_field_send OfPass (pass_of.the_send (Option.the_row OfKeys) (Doing.the_row OfKeys (View.the_row OfKeys (Entry.the_row K n o q e p))) (option.the_send OfKeys board)))
-
-  shared : IsSync (Shared.the_row K n o q e p)
+  pub shared : IsSync (Shared.the_row K n o q e p)
   shared = shared_of.the_sync K n o q e p k
 
   module _ (a : NamedLft) (R : RattleType) (r : IsSync R) where
@@ -117,7 +111,7 @@ module _ (K : RattleType) (n : named.Ghosts K.Denot) (o : ord.Ghosts K.Denot) (q
         means = declared_send (Means.the_type a R C A) (runtime, (alloc, (controller, (lent_under_way, (clock, (listers, (api, tt)))))))
 
         works : IsSend (Worker.the_row a R C K A n o q e p)
-        works = declared_send (Worker.the_type a R C K A n o q e p) (lent_board, (maybe_pass, (means, tt)))
+        works = declared_send (Worker.the_type a R C K A n o q e p) (pass, (means, tt))
 
         follower_inside : IsSend (FollowerInside.the_row (SharedInformer.the_row a R) (publishes.ghosts R w publishes.no_dict))
         follower_inside = declared_send (FollowerInside.the_type (SharedInformer.the_row a R) (publishes.ghosts R w publishes.no_dict))

@@ -3,4 +3,6 @@ pub mod Kinds
 pub mod Owing
 pub mod Handled
 pub mod Reconciled
+pub mod Runs
+pub mod Threads
 pub mod Asked

@@ -1,8 +1,8 @@
 //! The kinds that a controller follows.
 ghost use Rattle.std.specs.Prelude.{◌≡◌};
-ghost use Rattle.controller_runtime.specs.Kinds.{apis_named, kinds_in, with_api};
+ghost use Rattle.controller_runtime.specs.Kinds.{apis_named, kinds_in, none_followed};
 
-use reconcile_types::Looks;
+use object_keys::PerKind;
 use spec_api::kinds::Kind;
 
 /// A kind that a controller follows, and how the server is asked for its objects: all of them, or those of a scope (`api_client::Remote::within`).
@@ -12,42 +12,32 @@ pub struct Followed<A> {
     pub api: A,
 }
 
-/// Has the server be asked so for a kind, whatever was said before.
-fn put<A: Drop>(apis: &mut Looks<Option<A>>, followed: Followed<A>)
-    ensures { apis.new ≡ with_api followed.kind followed.api apis.old }
+/// Returns that no kind is followed.
+fn none_followed<A: Drop>() -> PerKind<Option<A>>
+    ensures { result ≡ none_followed }
 {
-    let Followed { kind, api } = followed;
-    match kind {
-        Kind::ConfigMap => apis.config_maps = Some(api),
-        Kind::Pod => apis.pods = Some(api),
-        Kind::ReplicaSet => apis.replica_sets = Some(api),
-        Kind::Deployment => apis.deployments = Some(api),
-    }
+    PerKind::made(|_| None)
 }
 
 /// Returns how the server is asked for the objects of each kind: as the first says that names it, and nothing of a kind that none names.
-pub(crate) fn apis_of<A: Drop>(followed: Vec<Followed<A>>) -> Looks<Option<A>>
+pub(crate) fn apis_of<A: Drop>(followed: Vec<Followed<A>>) -> PerKind<Option<A>>
     ensures { result ≡ apis_named followed.items }
 {
-    let mut apis = Looks {
-        config_maps: None,
-        pods: None,
-        replica_sets: None,
-        deployments: None,
-    };
+    let mut apis = none_followed();
     let mut left = followed;
     while let Some(last) = left.pop() {
-        put(&mut apis, last);
+        let Followed { kind, api } = last;
+        apis.put(kind, Some(api));
     }
     apis
 }
 
 /// Returns how many kinds are followed.
-pub(crate) fn kinds_in<A>(apis: &Looks<Option<A>>) -> u64
+pub(crate) fn kinds_in<A>(apis: &PerKind<Option<A>>) -> u64
     ensures { result ≡ kinds_in apis.now }
 {
-    u64::from(apis.config_maps.is_some())
-        + u64::from(apis.pods.is_some())
-        + u64::from(apis.replica_sets.is_some())
-        + u64::from(apis.deployments.is_some())
+    Kind::ALL
+        .iter()
+        .filter(|kind| apis.get(**kind).is_some())
+        .count() as u64
 }

@@ -22,8 +22,16 @@ pub(crate) struct KindFollower<'a, R: Wait, C, K: Named, A: Drop> {
 }
 
 impl<'a, R: Wait + Clock, K: Named, C: Reconciler<K>, A: Api + Drop> KindFollower<'a, R, C, K, A> {
-    /// Follows the kind until the run is over.
-    pub(crate) fn run(&mut self) {
+    ghost use Rattle.std.specs.Prelude.{◌≡◌};
+    ghost use Rattle.shared_keyed_board.specs.Passes.{key_in_hand, sight};
+    ghost use Rattle.controller_runtime.specs.Runs.{OnlyAddsOwed};
+
+    /// Follows the kind until the run is over. Its pass adds keys that changes owe, and does nothing else.
+    pub(crate) fn run(&mut self)
+        ensures board { self.new.handler.board.now ≡ self.old.handler.board.now }
+        ensures key { key_in_hand K.says self.new.handler.pass ≡ key_in_hand K.says self.old.handler.pass }
+        ensures adds { OnlyAddsOwed C.owes K.says (sight K.says self.old.handler.pass) (sight K.says self.new.handler.pass) }
+    {
         let KindFollower {
             alloc,
             kind,

@@ -56,7 +56,9 @@ impl<'a, R, K: Named, C> ChangeHandler<'a, R, C, K> {
         under_way: &'a UnderWay,
     ) -> ChangeHandler<'a, R, C, K>
         requires { IsPassAt board.now pass }
-        ensures { result.revision ≡ 0 }
+        ensures board { result.board.now ≡ board.entry.now }
+        ensures pass { result.pass ≡ pass }
+        ensures revision { result.revision ≡ 0 }
     {
         ChangeHandler {
             rt,
@@ -69,6 +71,13 @@ impl<'a, R, K: Named, C> ChangeHandler<'a, R, C, K> {
         }
     }
 
+    /// Returns the pass.
+    pub(crate) fn into_pass(self) -> BoardPass<K>
+        ensures { result ≡ self.entry.pass }
+    {
+        self.pass
+    }
+
     /// Returns whether what is published is another server's: it is older than what was published before, or its changes show so.
     fn is_other(&self, changes: &[Shift], objects: &Indexed) -> bool
         ensures { result ≡ is_other self.now.revision objects.now (map shift_of changes.now) }
@@ -78,11 +87,17 @@ impl<'a, R, K: Named, C> ChangeHandler<'a, R, C, K> {
 }
 
 impl<R: Wait, K: Named, C: Reconciler<K>> Sink for ChangeHandler<'_, R, C, K> {
-    ghost use Rattle.shared_keyed_board.specs.Passes.{sight};
+    ghost use Rattle.shared_keyed_board.specs.Passes.{sight, key_in_hand};
     ghost use Rattle.controller_runtime.specs.Handled.{Takes};
+    ghost use Rattle.controller_runtime.specs.Runs.{OnlyAddsOwed};
 
     ghost takes = { λ before changes objects is_first after.
         Takes K.order K.says C.owes before.revision changes objects (sight K.says before.pass) (sight K.says after.pass) after.revision };
+
+    ghost stays = { λ first after.
+        (after.board.now ≡ first.board.now)
+        × (key_in_hand K.says after.pass ≡ key_in_hand K.says first.pass)
+        × OnlyAddsOwed C.owes K.says (sight K.says first.pass) (sight K.says after.pass) };
 
     /// Adds the keys that the changes of a publish owe, in one step. Where memory runs out none is added. Where the changes are another
     /// server's, none is, and the run is over.

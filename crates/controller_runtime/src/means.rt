@@ -7,7 +7,7 @@ use indexer::Indexed;
 use informer::Listers;
 use keyed_board::Outcome;
 use keyed_queues::Named;
-use reconcile_types::Looks;
+use object_keys::PerKind;
 use shared_keyed_board::{BoardPass, KeyInHand, SharedKeyedBoard};
 use std::alloc::Global;
 use std::sync::Wait;
@@ -43,7 +43,7 @@ impl<R: Wait + Clock, C, A: Api + Drop> Means<'_, R, C, A> {
     }
 
     /// Looks at what is published of all kinds, as soon as there is memory for it, unless the run is over before that.
-    fn look(&mut self) -> Result<Looks<Indexed>, Over>
+    fn look(&mut self) -> Result<PerKind<Indexed>, Over>
         ensures { IfOk result (λ shown. AreKnown self.new.listers.listers shown) }
     {
         for _ in self.rt.forever() {

@@ -6,6 +6,7 @@ use crate::ticking::Ticker;
 use crate::working::Worker;
 use api_client::Api;
 use keyed_queues::Named;
+use shared_keyed_board::{BoardPass, SharedKeyedBoard};
 use std::sync::Wait;
 use std::time::Clock;
 
@@ -23,13 +24,32 @@ pub(crate) enum RunThread<'a, R: Wait, C, K: Named, A: Drop> {
 }
 
 impl<R: Wait + Clock, C: Reconciler<K>, K: Named, A: Api + Drop> RunThread<'_, R, C, K, A> {
-    /// Does its work until the run is over.
-    pub(crate) fn run(&mut self) {
+    ghost use Rattle.std.specs.Prelude.{◌≡◌};
+    ghost use Rattle.controller_runtime.specs.Runs.{IsBack};
+    ghost use Rattle.controller_runtime.specs.Threads.{IsReady, pass_in};
+
+    /// Does its work until the run is over. Its pass is then back, with no key in its hand.
+    pub(crate) fn run(&mut self, board: &SharedKeyedBoard<K>)
+        requires { IsReady C.owes C.ends K.says board.now self.old }
+        ensures { IsBack C.owes C.ends K.says board.now (pass_in self.new) }
+    {
         match self {
             RunThread::Follows(follower) => follower.run(),
-            RunThread::Works(worker) => worker.run(),
-            RunThread::Ticks(ticker) => ticker.run(),
-            RunThread::Stops(stopper) => stopper.run(),
+            RunThread::Works(worker) => worker.run(board),
+            RunThread::Ticks(ticker) => ticker.run(board),
+            RunThread::Stops(stopper) => stopper.run(board),
+        }
+    }
+
+    /// Returns its pass.
+    pub(crate) fn into_pass(self) -> BoardPass<K>
+        ensures { result ≡ pass_in self.entry }
+    {
+        match self {
+            RunThread::Follows(follower) => follower.handler.into_pass(),
+            RunThread::Works(worker) => worker.pass,
+            RunThread::Ticks(ticker) => ticker.pass,
+            RunThread::Stops(stopper) => stopper.pass,
         }
     }
 }

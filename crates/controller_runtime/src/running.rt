@@ -1,10 +1,13 @@
 //! All threads of a run.
 ghost use Rattle.std.specs.Prelude.{◌≡◌, ◌<◌, ◌≤◌, ◌+◌, ◌^◌, IfOk, OnOk, All, vec_len};
 ghost use Rattle.shared_keyed_board.specs.Passes.{IsNewAt};
+ghost use Rattle.controller_runtime.specs.Runs.{IsBack};
+ghost use Rattle.controller_runtime.specs.Threads.{IsReady};
 
 use crate::followed::{Followed, apis_of, kinds_in};
 use crate::following::KindFollower;
 use crate::handling::ChangeHandler;
+use crate::joining::{run_all, take_back};
 use crate::means::Means;
 use crate::members::RunThread;
 use crate::reconciler::Reconciler;
@@ -16,12 +19,12 @@ use api_client::Api;
 use informer::{Listers, SharedInformer, listers_of, open_informers};
 use keyed_queues::Named;
 use list_and_watch::Follower;
-use reconcile_types::Looks;
+use object_keys::PerKind;
 use shared_keyed_board::{BoardPass, SharedKeyedBoard};
 use spec_api::kinds::Kind;
 use std::alloc::{AllocError, Global};
 use std::sync::Wait;
-use std::thread::{Threads, for_each_mut};
+use std::thread::Threads;
 use std::time::Clock;
 use tcp_client::StoppableClock;
 use wakeups::Stop;
@@ -36,7 +39,7 @@ pub enum Ended {
 }
 
 /// How many threads there are beside the workers at most: one for each kind, the ticker, the stopper.
-const OTHER_THREADS: usize = 6;
+pub const OTHER_THREADS: usize = 6;
 
 /// What all threads of a run share.
 #[derive(Drop)]
@@ -73,6 +76,7 @@ impl<'a, R: Threads + Wait + Clock + Sync, K: Named, C: Reconciler<K>> Ground<'a
         api: A,
     ) -> RunThread<'a, R, C, K, A>
         requires { IsNewAt self.now.board.now pass }
+        ensures { IsReady C.owes C.ends K.says self.now.board.now result }
     {
         let handler = ChangeHandler::new(
             self.rt,
@@ -99,6 +103,7 @@ impl<'a, R: Threads + Wait + Clock + Sync, K: Named, C: Reconciler<K>> Ground<'a
         api: A,
     ) -> RunThread<'a, R, C, K, A>
         requires { IsNewAt self.now.board.now pass }
+        ensures { IsReady C.owes C.ends K.says self.now.board.now result }
     {
         let means = Means {
             rt: self.rt,
@@ -109,36 +114,56 @@ impl<'a, R: Threads + Wait + Clock + Sync, K: Named, C: Reconciler<K>> Ground<'a
             listers,
             api,
         };
-        RunThread::Works(Worker::new(self.board, pass, means))
+        RunThread::Works(Worker { pass, means })
     }
 
     /// Returns what lets time pass.
     fn ticks<A: Api + Drop>(&self, pass: BoardPass<K>) -> RunThread<'a, R, C, K, A>
         requires { IsNewAt self.now.board.now pass }
+        ensures { IsReady C.owes C.ends K.says self.now.board.now result }
     {
-        RunThread::Ticks(Ticker::new(self.rt, self.board, pass, self.under_way))
+        RunThread::Ticks(Ticker {
+            rt: self.rt,
+            pass,
+            under_way: self.under_way,
+            clock: StoppableClock::new(self.rt, &self.under_way.over),
+        })
     }
 
     /// Returns what ends the run at a stop.
     fn stops<A: Api + Drop>(&self, pass: BoardPass<K>) -> RunThread<'a, R, C, K, A>
         requires { IsNewAt self.now.board.now pass }
+        ensures { IsReady C.owes C.ends K.says self.now.board.now result }
     {
-        RunThread::Stops(Stopper::new(self.rt, self.board, pass, self.under_way, self.stop))
+        RunThread::Stops(Stopper {
+            rt: self.rt,
+            pass,
+            under_way: self.under_way,
+            stop: self.stop,
+        })
     }
 
-    /// Adds what follows a kind, if it is followed. The informer of one that is not comes back. The error is running out of memory.
+    /// Adds what follows a kind, if it is followed. The informer of one that is not comes back, and the pass stays. The error is running out of
+    /// memory.
     fn add_follower<A: Api + Drop>(
         &self,
         threads: &mut Vec<RunThread<'a, R, C, K, A>>,
-        pass: BoardPass<K>,
+        passes: &mut Vec<BoardPass<K>>,
         kind: Kind,
         informer: SharedInformer<'a, R>,
         api: Option<A>,
     ) -> Result<Option<SharedInformer<'a, R>>, AllocError>
-        requires { IsNewAt self.now.board.now pass }
+        requires ready { All (IsReady C.owes C.ends K.says self.now.board.now) threads.old.items }
+        requires passes { All (IsNewAt self.now.board.now) passes.old.items }
+        requires some { 0 < vec_len passes.old }
+        ensures ready { OnOk result (All (IsReady C.owes C.ends K.says self.now.board.now) threads.new.items) }
+        ensures passes { All (IsNewAt self.now.board.now) passes.new.items }
+        ensures count { OnOk result (vec_len threads.new + vec_len passes.new ≡ vec_len threads.old + vec_len passes.old) }
+        ensures left { vec_len passes.old ≤ vec_len passes.new + 1 }
     {
         match api {
             Some(api) => {
+                let pass = self.next_pass(passes);
                 threads.push(self.follows(kind, pass, informer, api))?;
                 Ok(None)
             }
@@ -151,7 +176,7 @@ impl<'a, R: Threads + Wait + Clock + Sync, K: Named, C: Reconciler<K>> Ground<'a
 fn workers<'a, R: Threads + Wait + Clock + Sync, K: Named, C: Reconciler<K>, A: Api + Drop>(
     ground: &Ground<'a, R, C, K>,
     passes: &mut Vec<BoardPass<K>>,
-    informers: &mut Looks<SharedInformer<'a, R>>,
+    informers: &mut PerKind<SharedInformer<'a, R>>,
     apis: Vec<A>,
 ) -> Result<Vec<RunThread<'a, R, C, K, A>>, AllocError>
     requires passes { All (IsNewAt ground.now.board.now) passes.old.items }
@@ -159,6 +184,7 @@ fn workers<'a, R: Threads + Wait + Clock + Sync, K: Named, C: Reconciler<K>, A: 
     ensures passes { All (IsNewAt ground.now.board.now) passes.new.items }
     ensures left { OnOk result (vec_len passes.new ≡ 6) }
     ensures made { IfOk result (λ made. vec_len made ≡ vec_len apis) }
+    ensures ready { IfOk result (λ made. All (IsReady C.owes C.ends K.says ground.now.board.now) made.items) }
 {
     let mut made = Vec::with_capacity(ground.alloc, apis.len())?;
     let mut left = apis;
@@ -173,49 +199,46 @@ fn workers<'a, R: Threads + Wait + Clock + Sync, K: Named, C: Reconciler<K>, A: 
 #[derive(Drop)]
 struct Members<'a, R: Wait, C, K: Named, A: Drop> {
     threads: Vec<RunThread<'a, R, C, K, A>>,
-    _empty: Looks<Option<SharedInformer<'a, R>>>,
+    _empty: PerKind<Option<SharedInformer<'a, R>>>,
 }
 
-/// Returns what each thread does. The error is running out of memory.
+/// Returns what each thread does. A pass is left for each kind that nobody follows. The error is running out of memory.
 fn all_members<'a, R: Threads + Wait + Clock + Sync, K: Named, C: Reconciler<K>, A: Api + Drop>(
     ground: &Ground<'a, R, C, K>,
-    passes: Vec<BoardPass<K>>,
-    informers: Looks<SharedInformer<'a, R>>,
-    apis: Looks<Option<A>>,
+    passes: &mut Vec<BoardPass<K>>,
+    informers: PerKind<SharedInformer<'a, R>>,
+    apis: PerKind<Option<A>>,
     asking: Vec<A>,
 ) -> Result<Members<'a, R, C, K, A>, AllocError>
-    requires passes { All (IsNewAt ground.now.board.now) passes.items }
-    requires enough { vec_len passes ≡ vec_len asking + 6 }
+    requires passes { All (IsNewAt ground.now.board.now) passes.old.items }
+    requires enough { vec_len passes.old ≡ vec_len asking + 6 }
+    ensures passes { All (IsNewAt ground.now.board.now) passes.new.items }
+    ensures ready { IfOk result (λ m. All (IsReady C.owes C.ends K.says ground.now.board.now) m.threads.items) }
+    ensures count { IfOk result (λ m. vec_len m.threads + vec_len passes.new ≡ vec_len passes.old) }
 {
-    let (mut passes, mut informers) = (passes, informers);
-    let mut threads = workers(ground, &mut passes, &mut informers, asking)?;
-    threads.push(ground.ticks(ground.next_pass(&mut passes)))?;
-    threads.push(ground.stops(ground.next_pass(&mut passes)))?;
-    let empty = Looks {
+    let mut informers = informers;
+    let mut threads = workers(ground, passes, &mut informers, asking)?;
+    threads.push(ground.ticks(ground.next_pass(passes)))?;
+    threads.push(ground.stops(ground.next_pass(passes)))?;
+    let empty = PerKind {
         config_maps: ground.add_follower(
             &mut threads,
-            ground.next_pass(&mut passes),
+            passes,
             Kind::ConfigMap,
             informers.config_maps,
             apis.config_maps,
         )?,
-        pods: ground.add_follower(
-            &mut threads,
-            ground.next_pass(&mut passes),
-            Kind::Pod,
-            informers.pods,
-            apis.pods,
-        )?,
+        pods: ground.add_follower(&mut threads, passes, Kind::Pod, informers.pods, apis.pods)?,
         replica_sets: ground.add_follower(
             &mut threads,
-            ground.next_pass(&mut passes),
+            passes,
             Kind::ReplicaSet,
             informers.replica_sets,
             apis.replica_sets,
         )?,
         deployments: ground.add_follower(
             &mut threads,
-            ground.next_pass(&mut passes),
+            passes,
             Kind::Deployment,
             informers.deployments,
             apis.deployments,
@@ -236,6 +259,57 @@ fn end_of(under_way: &UnderWay) -> Ended {
     }
 }
 
+/// Runs a controller at a board of the caller's, as `run_workers` does at one of its own, and gives its passes back. It is given a pass for each
+/// worker, and six more.
+///
+/// Each comes back with no key in its hand. Its steps, each one of the board's one history, are those of a run: keys were added that changes
+/// owed; a key was taken, or given back with how its reconcile ended, by maps that were published; time passed; or the board was shut down. Where
+/// the run was over while a key was in its hand, it gave that back as done, last of all. Who then looks back (`look_back`) learns a history of
+/// which the laws of `shared_keyed_board` speak: no key was ever in two hands, and until the board was shut down each that a change owed waited,
+/// or was taken after it.
+///
+/// The error is running out of memory before a thread was started, and drops the passes; where it runs out later, who needs it waits. No clause
+/// says that a thread starts or gets on.
+pub fn run_at_board<R, K, C, A>(
+    rt: &R,
+    alloc: Global,
+    controller: &C,
+    followed: Vec<Followed<A>>,
+    asking: Vec<A>,
+    stop: &Stop,
+    board: &SharedKeyedBoard<K>,
+    passes: Vec<BoardPass<K>>,
+) -> Result<(Ended, Vec<BoardPass<K>>), AllocError>
+where
+    R: Threads + Wait + Clock + Sync,
+    K: Named + Send,
+    C: Reconciler<K> + Sync,
+    A: Api + Send + Drop,
+    requires few { vec_len asking < 2 ^ 16 }
+    requires enough { vec_len passes ≡ vec_len asking + 6 }
+    requires new { All (IsNewAt board.now) passes.items }
+    ensures back { IfOk result (λ r. All (IsBack C.owes C.ends K.says board.now) r.1.items) }
+    ensures count { IfOk result (λ r. vec_len r.1 ≡ vec_len passes) }
+{
+    let mut passes = passes;
+    let informers = open_informers(rt, alloc, asking.len() + 1)?;
+    let apis = apis_of(followed);
+    let under_way = UnderWay::new(kinds_in(&apis));
+    let ground = Ground {
+        rt,
+        alloc,
+        controller,
+        board,
+        under_way: &under_way,
+        stop,
+    };
+    let mut members = all_members(&ground, &mut passes, informers, apis, asking)?;
+    passes.reserve(members.threads.len())?;
+    run_all(rt, board, &mut members.threads);
+    take_back(board, &mut passes, members.threads);
+    Ok((end_of(&under_way), passes))
+}
+
 /// Runs a controller until it is to stop, or another server answers than before, and joins all threads: one for each kind that is followed, which
 /// adds the keys that its changes owe; the workers, one for each way to ask, which reconcile one key after another once each kind has been listed;
 /// one that lets time pass, for keys that are to be looked at again; and one that waits for the stop. A kind that is named twice is followed once,
@@ -243,8 +317,7 @@ fn end_of(under_way: &UnderWay) -> Ended {
 ///
 /// A key is in one worker's hands at a time, and is queued once however often it is owed. One that is owed while it is in a worker's hands is
 /// reconciled again after it; one whose reconcile failed after 5 milliseconds, and twice as long after each failure that follows, up to 1,000
-/// seconds. No clause of this call says so, since its board is its own and a caller sees nothing of it: the clauses of what its threads do at the
-/// board say it (`ChangeHandler::changed`, `Means::turn`, `Ticker::tick`, `Stopper::run`), and the laws of `shared_keyed_board` what follows.
+/// seconds.
 ///
 /// The error is running out of memory before a thread was started; where it runs out later, who needs it waits. No clause says that a thread starts
 /// or gets on.
@@ -263,28 +336,9 @@ where
     A: Api + Send + Drop,
     requires { vec_len asking < 2 ^ 16 }
 {
-    let count = asking.len();
-    let (board, passes) = SharedKeyedBoard::open(alloc, count + OTHER_THREADS)?;
-    let apis = apis_of(followed);
-    let under_way = UnderWay::new(kinds_in(&apis));
-    let ground = Ground {
-        rt,
-        alloc,
-        controller,
-        board: &board,
-        under_way: &under_way,
-        stop,
-    };
-    let informers = open_informers(rt, alloc, count + 1)?;
-    let mut members = all_members(&ground, passes, informers, apis, asking)?;
-    let at_once = members.threads.len().max(1);
-    for_each_mut(
-        rt,
-        members.threads.as_mut_slice(),
-        at_once,
-        &|_, thread| {
-            thread.run();
-        },
-    );
-    Ok(end_of(&under_way))
+    let (board, passes) = SharedKeyedBoard::open(alloc, asking.len() + OTHER_THREADS)?;
+    let (ended, _passes) = run_at_board(
+        rt, alloc, controller, followed, asking, stop, &board, passes,
+    )?;
+    Ok(ended)
 }

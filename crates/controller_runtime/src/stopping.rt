@@ -1,6 +1,4 @@
 //! A stop, heeded at the board.
-ghost use Rattle.shared_keyed_board.specs.Passes.{IsPassAt};
-
 use crate::under_way::UnderWay;
 use keyed_queues::Named;
 use shared_keyed_board::{BoardPass, SharedKeyedBoard};
@@ -15,37 +13,16 @@ const PIECE_MILLISECONDS: u64 = 250;
 #[derive(Drop)]
 pub(crate) struct Stopper<'a, R, K: Named> {
     pub(crate) rt: &'a R,
-    pub(crate) board: &'a SharedKeyedBoard<K>,
     pub(crate) pass: BoardPass<K>,
     pub(crate) under_way: &'a UnderWay,
     /// Tells the run to stop.
     pub(crate) stop: &'a Stop,
-    ghost sits: { IsPassAt board.now pass },
 }
 
-impl<'a, R: Wait + Clock, K: Named> Stopper<'a, R, K> {
+impl<R: Wait + Clock, K: Named> Stopper<'_, R, K> {
     ghost use Rattle.std.specs.Prelude.{◌≡◌, ◌++◌, ◌∷◌, []};
     ghost use Rattle.keyed_board.specs.Steps.{shut_down};
-    ghost use Rattle.shared_keyed_board.specs.Passes.{IsPassAt, sight};
-
-    /// Returns what ends a run at a stop.
-    pub(crate) fn new(
-        rt: &'a R,
-        board: &'a SharedKeyedBoard<K>,
-        pass: BoardPass<K>,
-        under_way: &'a UnderWay,
-        stop: &'a Stop,
-    ) -> Stopper<'a, R, K>
-        requires { IsPassAt board.now pass }
-    {
-        Stopper {
-            rt,
-            board,
-            pass,
-            under_way,
-            stop,
-        }
-    }
+    ghost use Rattle.shared_keyed_board.specs.Passes.{IsPassAt, key_in_hand, sight};
 
     /// Waits until the run is to stop, or has ended.
     fn await_end(&self) {
@@ -61,10 +38,13 @@ impl<'a, R: Wait + Clock, K: Named> Stopper<'a, R, K> {
     }
 
     /// Waits for the end of the run, and shuts the board down.
-    pub(crate) fn run(&mut self)
-        ensures { (sight K.says self.new.pass).made ≡ (sight K.says self.old.pass).made ++ shut_down ∷ [] }
+    pub(crate) fn run(&mut self, board: &SharedKeyedBoard<K>)
+        requires { IsPassAt board.now self.old.pass }
+        ensures pass { IsPassAt board.now self.new.pass }
+        ensures key { key_in_hand K.says self.new.pass ≡ key_in_hand K.says self.old.pass }
+        ensures shuts { (sight K.says self.new.pass).made ≡ (sight K.says self.old.pass).made ++ shut_down ∷ [] }
     {
         self.await_end();
-        self.board.shut_down(self.rt, &mut self.pass);
+        board.shut_down(self.rt, &mut self.pass);
     }
 }

@@ -1,6 +1,4 @@
 //! Time that passes at the board.
-ghost use Rattle.shared_keyed_board.specs.Passes.{IsPassAt};
-
 use crate::under_way::UnderWay;
 use keyed_queues::Named;
 use shared_keyed_board::{BoardPass, SharedKeyedBoard};
@@ -14,52 +12,41 @@ const PAUSE_MILLISECONDS: u64 = 50;
 /// What lets time pass at the board, as a clock shows it: it sleeps until the next key comes due.
 #[derive(Drop)]
 pub(crate) struct Ticker<'a, R, K: Named> {
-    rt: &'a R,
-    board: &'a SharedKeyedBoard<K>,
-    pass: BoardPass<K>,
-    under_way: &'a UnderWay,
-    clock: StoppableClock<'a, R>,
-    ghost sits: { IsPassAt board.now pass },
+    pub(crate) rt: &'a R,
+    pub(crate) pass: BoardPass<K>,
+    pub(crate) under_way: &'a UnderWay,
+    pub(crate) clock: StoppableClock<'a, R>,
 }
 
-impl<'a, R: Wait + Clock, K: Named> Ticker<'a, R, K> {
-    ghost use Rattle.shared_keyed_board.specs.Passes.{IsPassAt, sight};
+impl<R: Wait + Clock, K: Named> Ticker<'_, R, K> {
+    ghost use Rattle.std.specs.Prelude.{◌≡◌};
+    ghost use Rattle.shared_keyed_board.specs.Passes.{IsPassAt, key_in_hand, sight};
     ghost use Rattle.controller_runtime.specs.Reconciled.{OnlyTicks};
-
-    /// Returns what lets time pass.
-    pub(crate) fn new(
-        rt: &'a R,
-        board: &'a SharedKeyedBoard<K>,
-        pass: BoardPass<K>,
-        under_way: &'a UnderWay,
-    ) -> Ticker<'a, R, K>
-        requires { IsPassAt board.now pass }
-    {
-        Ticker {
-            rt,
-            board,
-            pass,
-            under_way,
-            clock: StoppableClock::new(rt, &under_way.over),
-        }
-    }
 
     /// Lets time pass, as the clock shows it, and sleeps until the next key comes due; returns whether the board is shut down. Where memory runs out
     /// no time passes, and it does the next time, after a pause.
-    fn tick(&mut self) -> bool
-        ensures { OnlyTicks (sight K.says self.old.pass) (sight K.says self.new.pass) }
+    fn tick(&mut self, board: &SharedKeyedBoard<K>) -> bool
+        requires { IsPassAt board.now self.old.pass }
+        ensures pass { IsPassAt board.now self.new.pass }
+        ensures key { key_in_hand K.says self.new.pass ≡ key_in_hand K.says self.old.pass }
+        ensures ticks { OnlyTicks (sight K.says self.old.pass) (sight K.says self.new.pass) }
     {
         let now = self.clock.milliseconds();
-        if self.board.tick(self.rt, &mut self.pass, now).is_err() {
+        if board.tick(self.rt, &mut self.pass, now).is_err() {
             let _ = self.under_way.rest(self.rt, PAUSE_MILLISECONDS);
         }
-        self.board.rest_until_due(self.rt, &mut self.pass)
+        board.rest_until_due(self.rt, &mut self.pass)
     }
 
     /// Lets time pass until the board is shut down.
-    pub(crate) fn run(&mut self) {
+    pub(crate) fn run(&mut self, board: &SharedKeyedBoard<K>)
+        requires { IsPassAt board.now self.old.pass }
+        ensures pass { IsPassAt board.now self.new.pass }
+        ensures key { key_in_hand K.says self.new.pass ≡ key_in_hand K.says self.old.pass }
+        ensures ticks { OnlyTicks (sight K.says self.old.pass) (sight K.says self.new.pass) }
+    {
         for _ in self.rt.forever() {
-            if self.tick() {
+            if self.tick(board) {
                 return;
             }
         }

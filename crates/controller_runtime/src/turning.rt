@@ -1,6 +1,6 @@
 //! A worker's turns, one after another.
-ghost use Rattle.std.specs.Prelude.{◌≡◌, None};
-ghost use Rattle.shared_keyed_board.specs.Passes.{IsNewAt, IsPassAt, key_in_hand};
+ghost use Rattle.std.specs.Prelude.{◌≡◌, OnErr, OnOk};
+ghost use Rattle.controller_runtime.specs.Runs.{IsAtWork, IsBack};
 
 use crate::means::Means;
 use crate::reconciler::Reconciler;
@@ -17,10 +17,9 @@ fn next<R: Wait + Clock, C: Reconciler<K>, K: Named, A: Api + Drop>(
     pass: &mut BoardPass<K>,
     means: &mut Means<'_, R, C, A>,
 ) -> Result<bool, Over>
-    requires pass { IsPassAt board.now pass.old }
-    requires free { key_in_hand K.says pass.old ≡ None }
-    ensures pass { IsPassAt board.now pass.new }
-    ensures free { key_in_hand K.says pass.new ≡ None }
+    requires { IsAtWork C.owes C.ends K.says board.now pass.old }
+    ensures goes_on { OnOk result (IsAtWork C.owes C.ends K.says board.now pass.new) }
+    ensures over { OnErr result (IsBack C.owes C.ends K.says board.now pass.new) }
 {
     match board.take(means.rt, pass) {
         Ok(Some(hand)) => {
@@ -38,16 +37,16 @@ fn next<R: Wait + Clock, C: Reconciler<K>, K: Named, A: Api + Drop>(
 /// Takes one key after another until the board is shut down, and reconciles each, now that the first lists are published.
 pub(crate) fn work<R: Wait + Clock, C: Reconciler<K>, K: Named, A: Api + Drop>(
     board: &SharedKeyedBoard<K>,
-    pass: BoardPass<K>,
+    pass: &mut BoardPass<K>,
     means: &mut Means<'_, R, C, A>,
     listed: &Listed,
 ) -> Result<(), Over>
-    requires new { IsNewAt board.now pass }
+    requires pass { IsAtWork C.owes C.ends K.says board.now pass.old }
     requires listed { listed.now.kinds ≡ means.old.under_way.now.kinds }
+    ensures { IsBack C.owes C.ends K.says board.now pass.new }
 {
-    let mut pass = pass;
     for _ in means.rt.forever() {
-        if !next(board, &mut pass, means)? {
+        if !next(board, pass, means)? {
             return Ok(());
         }
     }

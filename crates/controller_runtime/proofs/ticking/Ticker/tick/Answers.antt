@@ -2,8 +2,8 @@ use Rattle.shared_keyed_board.specs.Passes.{sight}
 use Rattle.controller_runtime.proofs.Made.{ticked, looked, ticks_on}
 use Rattle.controller_runtime.proofs.ticking.Ticker.tick.Goals as goal
 
-pub returns : goal.returns
-returns g c =
+pub returns-clause-ticks : goal.returns-clause-ticks
+returns-clause-ticks g c =
     let says = g.K.Named.says in
     let before = sight says c.args.self.now.pass in
     let between = sight says c.tick.new.pass in

@@ -1,5 +1,5 @@
-use Rattle.std.proofs.Common.{sym}
+use Rattle.controller_runtime.proofs.Runs.{comes_back}
 use Rattle.controller_runtime.proofs.working.Worker.run.Goals as goal
 
-pub work-requires-clause-new : goal.work-requires-clause-new
-work-requires-clause-new g c = c.args.self.now.new c.in-Some.pass (sym c.in-Some.ensures.value)
+pub returns-in_default : goal.returns-in_default
+returns-in_default g c = comes_back g.K.Named.order g.C.Reconciler.owes g.C.Reconciler.ends g.K.Named.says c.args.board.now c.args.self.now.pass c.requires
