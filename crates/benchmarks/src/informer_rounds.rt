@@ -2,7 +2,8 @@
 use crate::informer_bench::What;
 use crate::informer_pods::{PODS, SETS, pod, set, uid};
 use indexer::Indexed;
-use plain_informer::{Looks, PlainInformer, keys_of};
+use object_keys::PerKind;
+use plain_informer::{PlainInformer, keys_of};
 use reflector::{Delta, SharedObject};
 use spec_api::kinds::Kind;
 use std::alloc::{AllocError, Global};
@@ -26,12 +27,12 @@ fn taken(alloc: Global, objects: &[SharedObject]) -> Result<Indexed, AllocError>
 }
 
 /// Returns what is looked at.
-fn looks(alloc: Global, pods: Indexed) -> Result<Looks<Indexed>, AllocError> {
+fn looks(alloc: Global, pods: Indexed) -> Result<PerKind<Indexed>, AllocError> {
     let mut replica_sets = Indexed::new(alloc);
     for number in 0..SETS {
         replica_sets.apply(&Delta::Put(set(alloc, number)?))?;
     }
-    Ok(Looks {
+    Ok(PerKind {
         config_maps: Indexed::new(alloc),
         pods,
         replica_sets,
@@ -75,7 +76,7 @@ fn owner(alloc: Global, indexed: &Indexed, times: u32) -> Result<usize, AllocErr
 
 fn owed(
     alloc: Global,
-    looks: &Looks<Indexed>,
+    looks: &PerKind<Indexed>,
     pods: &[SharedObject],
     times: u32,
 ) -> Result<usize, AllocError> {

@@ -2,8 +2,8 @@
 use crate::plan_bench::Way;
 use crate::plan_hands::{look, object};
 use indexer::Indexed;
-use object_keys::{Fault, Key};
-use reconcile_types::{Hand, Looks};
+use object_keys::{Fault, Key, PerKind};
+use reconcile_types::Hand;
 use reflector::SharedObject;
 use spec_api::kinds::Kind;
 use std::alloc::{AllocError, Global};
@@ -64,7 +64,7 @@ pub fn rollout_hand(alloc: Global, way: Way, count: u32) -> Result<Hand<Indexed>
             namespace: String::from_str(alloc, "default")?,
             name: String::from_str(alloc, "web")?,
         },
-        looks: Looks {
+        looks: PerKind {
             config_maps: Some(look(alloc, Vec::new(alloc))?),
             pods: Some(look(alloc, Vec::new(alloc))?),
             replica_sets: Some(look(alloc, sets(alloc, way, count)?)?),

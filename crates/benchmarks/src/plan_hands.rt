@@ -3,8 +3,8 @@ use crate::plan_bench::Way;
 use crate::plan_texts::{pod, set};
 use indexer::Indexed;
 use meta::Object;
-use object_keys::{Fault, Key};
-use reconcile_types::{Hand, Looks, Read};
+use object_keys::{Fault, Key, PerKind};
+use reconcile_types::{Hand, Read};
 use reflector::{Delta, SharedObject};
 use serde_json::Value;
 use spec_api::kinds::Kind;
@@ -58,7 +58,7 @@ pub fn hand(alloc: Global, way: Way, count: u32) -> Result<Hand<Indexed>, Fault>
     })?;
     Ok(Hand {
         key: key(alloc)?,
-        looks: Looks {
+        looks: PerKind {
             config_maps: Some(look(alloc, Vec::new(alloc))?),
             pods: Some(look(alloc, pods(alloc, count)?)?),
             replica_sets: Some(look(alloc, sets)?),

@@ -12,8 +12,9 @@ ghost use Rattle.spec_reconcile.specs.Standings.{is_to, waits_for_dependents, wi
 use crate::standings::{is_to, waits_for_dependents};
 use meta::Object;
 use meta::owners::owner;
+use object_keys::PerKind;
 use owner_references::edits::references;
-use reconcile_types::{Entry, Looks, Seen};
+use reconcile_types::{Entry, Seen};
 use serde_json::Value;
 use std::alloc::{AllocError, Global};
 
@@ -44,7 +45,7 @@ fn append<'a>(found: &mut Vec<Entry<'a>>, more: Vec<Entry<'a>>) -> Result<(), Al
 /// Returns the objects of all kinds with an owner of this uid.
 fn with_owner<'a, S: Seen>(
     alloc: Global,
-    looks: &'a Looks<Option<S>>,
+    looks: &'a PerKind<Option<S>>,
     uid: &str,
 ) -> Result<Vec<Entry<'a>>, AllocError>
     ensures { IfOk result (λ v. map entry_of v.items ≡ with_owner (looks_by (members_of S.snapshot) looks.now) uid.now) }
@@ -59,7 +60,7 @@ fn with_owner<'a, S: Seen>(
 /// Returns the dependents of an object. The error is running out of memory.
 pub fn dependents<'a, S: Seen>(
     alloc: Global,
-    looks: &'a Looks<Option<S>>,
+    looks: &'a PerKind<Option<S>>,
     object: &Object,
 ) -> Result<Vec<Entry<'a>>, AllocError>
     ensures { IfOk result (λ v. map entry_of v.items ≡ dependents (looks_by (members_of S.snapshot) looks.now) object.now.value) }

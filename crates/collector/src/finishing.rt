@@ -15,8 +15,8 @@ use crate::dependents::{dependents, is_blocked};
 use crate::edits::{without_finalizer, without_owner};
 use meta::Object;
 use meta::finalizers::has_text;
-use object_keys::Key;
-use reconcile_types::{Command, Entry, Looks, Seen};
+use object_keys::{Key, PerKind};
+use reconcile_types::{Command, Entry, Seen};
 use std::alloc::{AllocError, Global};
 
 /// Returns the updates of dependents without their references to an object.
@@ -75,7 +75,7 @@ pub fn finish<S: Seen>(
     alloc: Global,
     key: &Key,
     object: &Object,
-    looks: &Looks<Option<S>>,
+    looks: &PerKind<Option<S>>,
 ) -> Result<Vec<Command>, AllocError>
     ensures { IfOk result (λ v. map command_of v.items
         ≡ finish (key_of key.now) object.now.value (dependents (looks_by (members_of S.snapshot) looks.now) object.now.value)) }

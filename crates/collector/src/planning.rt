@@ -17,10 +17,10 @@ use crate::finishing::finish;
 use crate::standings::{all_solid, any_solid, any_waiting, standings};
 use meta::Object;
 use meta::finalizers::has_text;
-use object_keys::Key;
+use object_keys::{Key, PerKind};
 use owner_references::references::namespace_of;
 use reconcile_types::hands::live;
-use reconcile_types::{Command, Entry, Hand, Looks, Plan, Read, Seen, Version};
+use reconcile_types::{Command, Entry, Hand, Plan, Read, Seen, Version};
 use spec_api::policies::Policy;
 use spec_reconcile::Standing;
 use std::alloc::{AllocError, Global};
@@ -69,7 +69,7 @@ fn remove_by<S: Seen>(
     key: &Key,
     object: &Object,
     standings: &[Standing],
-    looks: &Looks<Option<S>>,
+    looks: &PerKind<Option<S>>,
 ) -> Result<Vec<Command>, AllocError>
     ensures { IfOk result (λ v. map command_of v.items ≡ remove_by (key_of key.now) object.now.value standings.now
         (dependents (looks_by (members_of S.snapshot) looks.now) object.now.value)) }
@@ -91,7 +91,7 @@ fn collect_by<S: Seen>(
     key: &Key,
     object: &Object,
     found: &[Standing],
-    looks: &Looks<Option<S>>,
+    looks: &PerKind<Option<S>>,
 ) -> Result<Vec<Command>, AllocError>
     requires { found.now ≡ standings (reads_of reads.now) object.now.value }
     ensures { IfOk result (λ v. map command_of v.items ≡ collect (reads_of reads.now) (key_of key.now) object.now.value
@@ -114,7 +114,7 @@ fn collect<S: Seen>(
     reads: &[Read],
     key: &Key,
     object: &Object,
-    looks: &Looks<Option<S>>,
+    looks: &PerKind<Option<S>>,
 ) -> Result<Vec<Command>, AllocError>
     ensures { IfOk result (λ v. map command_of v.items ≡ collect (reads_of reads.now) (key_of key.now) object.now.value
         (dependents (looks_by (members_of S.snapshot) looks.now) object.now.value)) }

@@ -1,10 +1,10 @@
 //! A ConfigMap for each Pod: it has the Pod's name, the Pod owns it, and it says the Pod's phase.
 use api_client::Api;
-use controller_runtime::{Looks, Outcome, Reconciler, ask, deletion, namesake};
+use controller_runtime::{Outcome, Reconciler, ask, deletion, namesake};
 use indexer::{Indexed, Shift};
 use meta::Object;
 use object_fields::parts::{in_status, text_in};
-use object_keys::Key;
+use object_keys::{Key, PerKind};
 use owner_references::controlled_by::is_controlled_by;
 use owner_references::edits::controller_reference;
 use owner_references::references::controller_keys;
@@ -55,7 +55,7 @@ fn changing(alloc: Global, pod: &Object, target: Key, map: &Object) -> Result<Re
 }
 
 /// Returns what is to be asked of the server for a Pod, if something is.
-fn next(alloc: Global, key: &Key, shown: &Looks<Indexed>) -> Result<Option<Request>, AllocError> {
+fn next(alloc: Global, key: &Key, shown: &PerKind<Indexed>) -> Result<Option<Request>, AllocError> {
     let target = namesake(key, Kind::ConfigMap)?;
     Ok(
         match (shown.pods.get(key), shown.config_maps.get(&target)) {
@@ -88,7 +88,7 @@ impl Reconciler<Key> for Mirror {
         &self,
         alloc: Global,
         key: &Key,
-        shown: &Looks<Indexed>,
+        shown: &PerKind<Indexed>,
         api: &mut A,
     ) -> Outcome {
         ask(alloc, api, next(alloc, key, shown))

@@ -2,8 +2,8 @@
 use crate::fixtures::{listing, object};
 use crate::{collector_tests, deployment_tests, replica_set_tests};
 use indexer::Indexed;
-use object_keys::Key;
-use reconcile_types::{Hand, Looks, Read};
+use object_keys::{Key, PerKind};
+use reconcile_types::{Hand, Read};
 use reflector::Delta;
 use spec_api::kinds::Kind;
 use spec_client_go::controller::Controller;
@@ -33,7 +33,7 @@ pub(crate) fn show(
 fn hand(alloc: Global, key: Key) -> Hand<Indexed> {
     Hand {
         key,
-        looks: Looks {
+        looks: PerKind {
             config_maps: Some(Indexed::new(alloc)),
             pods: Some(Indexed::new(alloc)),
             replica_sets: Some(Indexed::new(alloc)),

@@ -1,16 +1,16 @@
 //! A Pod that is released, where the ReplicaSet `web` of the Deployment `site` is looked at.
 use crate::fixtures::{POD, RELEASED, WEB, shared};
 use indexer::Indexed;
-use object_keys::WorkKey;
-use plain_informer::{Looks, keys_of};
+use object_keys::{PerKind, WorkKey};
+use plain_informer::keys_of;
 use reflector::{Delta, SharedObject};
 use spec_api::kinds::Kind;
 use spec_client_go::controller::Controller;
 use std::alloc::{AllocError, Global};
 
 /// Looks at which nothing is there.
-fn no_looks(alloc: Global) -> Looks<Indexed> {
-    Looks {
+fn no_looks(alloc: Global) -> PerKind<Indexed> {
+    PerKind {
         config_maps: Indexed::new(alloc),
         pods: Indexed::new(alloc),
         replica_sets: Indexed::new(alloc),
@@ -57,7 +57,7 @@ fn owed_by(
     alloc: Global,
     old: &SharedObject,
     new: &SharedObject,
-    looks: &Looks<Indexed>,
+    looks: &PerKind<Indexed>,
 ) -> Result<String, AllocError> {
     let (old, new) = (Some(old.object()), Some(new.object()));
     let keys = keys_of(alloc, Kind::Pod, old, new, looks)?;
@@ -65,7 +65,7 @@ fn owed_by(
 }
 
 /// What the release of the Pod owes, where `web` alone is looked at.
-fn owed_at(alloc: Global, looks: &mut Looks<Indexed>) -> Result<String, AllocError> {
+fn owed_at(alloc: Global, looks: &mut PerKind<Indexed>) -> Result<String, AllocError> {
     put_web(alloc, &mut looks.replica_sets)?;
     let old = shared(alloc, Kind::Pod, POD)?;
     let new = shared(alloc, Kind::Pod, RELEASED)?;

@@ -20,8 +20,8 @@ use crate::statuses::{add_report, summary};
 use json_values::values::whole_number;
 use meta::{Kind, Object};
 use object_fields::in_spec;
-use object_keys::Key;
-use reconcile_types::{Command, Hand, Looks, Plan, Seen, add_update, count_in_status, status};
+use object_keys::{Key, PerKind};
+use reconcile_types::{Command, Hand, Plan, Seen, add_update, count_in_status, status};
 use spec_reconcile::Summary;
 use std::alloc::{AllocError, Global};
 
@@ -124,7 +124,7 @@ fn go_on<S: Seen>(
 fn commands_for<S: Seen>(
     alloc: Global,
     rollout: &Rollout<'_>,
-    looks: &Looks<Option<S>>,
+    looks: &PerKind<Option<S>>,
 ) -> Result<Vec<Command>, AllocError>
     ensures { IfOk result (λ v. map command_of v.items
         ≡ plan_for (rollout_seen rollout.now) (looks_by (members_of S.snapshot) looks.now)) }

@@ -2,6 +2,7 @@
 use crate::given::Given;
 use crossbeam_queue::ArrayQueue;
 use mio::{Poll, Token, Waker};
+use object_keys::PerKind;
 use spec_api::kinds::Kind;
 use std::alloc::Global;
 use std::io;
@@ -62,10 +63,7 @@ pub(crate) struct Wakes {
     inbox: ArrayQueue<Given>,
     is_given: AtomicU64,
     is_waiting: AtomicU64,
-    config_maps: KindWake,
-    pods: KindWake,
-    replica_sets: KindWake,
-    deployments: KindWake,
+    kinds: PerKind<KindWake>,
 }
 
 impl Wakes {
@@ -76,21 +74,13 @@ impl Wakes {
             inbox: ArrayQueue::new(alloc, INBOX)?,
             is_given: AtomicU64::new(0),
             is_waiting: AtomicU64::new(0),
-            config_maps: KindWake::new(),
-            pods: KindWake::new(),
-            replica_sets: KindWake::new(),
-            deployments: KindWake::new(),
+            kinds: PerKind::made(|_| KindWake::new()),
         })
     }
 
     /// Returns what the loop is told of a kind.
     pub(crate) fn of(&self, kind: Kind) -> &KindWake {
-        match kind {
-            Kind::ConfigMap => &self.config_maps,
-            Kind::Pod => &self.pods,
-            Kind::ReplicaSet => &self.replica_sets,
-            Kind::Deployment => &self.deployments,
-        }
+        self.kinds.get(kind)
     }
 
     /// Ends the wait of the loop. One that cannot be woken sees at its next tick what it is told.

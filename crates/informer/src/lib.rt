@@ -19,6 +19,6 @@ pub use informers::Informer;
 pub use kind_listers::Listers;
 pub use listers::{Lister, Look};
 pub use plain_informer::{PlainInformer, Publishing, keys_of};
-pub use reconcile_types::{Command, Entry, Hand, Looks, Plan, Seen};
+pub use reconcile_types::{Command, Entry, Hand, Plan, Seen};
 pub use shared::SharedInformer;
 pub use shared_informers::{listers_of, open_informers};

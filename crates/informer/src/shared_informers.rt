@@ -4,7 +4,7 @@ ghost use Rattle.informer.specs.SharedInformers.{AreNew, AreSame, AreTold};
 
 use crate::kind_listers::Listers;
 use crate::shared::SharedInformer;
-use reconcile_types::Looks;
+use object_keys::PerKind;
 use std::alloc::{AllocError, Global};
 use std::sync::Wait;
 
@@ -13,30 +13,21 @@ pub fn open_informers<R: Wait>(
     runtime: &R,
     alloc: Global,
     listers: usize,
-) -> Result<Looks<SharedInformer<'_, R>>, AllocError>
+) -> Result<PerKind<SharedInformer<'_, R>>, AllocError>
     requires { (0 < listers) × (listers < 2 ^ 32) }
     ensures { IfOk result AreNew }
 {
-    Ok(Looks {
-        config_maps: SharedInformer::open(runtime, alloc, listers)?,
-        pods: SharedInformer::open(runtime, alloc, listers)?,
-        replica_sets: SharedInformer::open(runtime, alloc, listers)?,
-        deployments: SharedInformer::open(runtime, alloc, listers)?,
-    })
+    PerKind::try_made(|_| SharedInformer::open(runtime, alloc, listers))
 }
 
 /// Returns a lister of each kind, for one thread, that was told of all that the informer of its kind has published. The error is that there is no
 /// room for one more, or running out of memory.
 pub fn listers_of<R: Wait>(
-    informers: &mut Looks<SharedInformer<'_, R>>,
+    informers: &mut PerKind<SharedInformer<'_, R>>,
 ) -> Result<Listers, AllocError>
     ensures same { AreSame informers.old informers.new }
     ensures told { IfOk result (λ made. AreTold informers.old made.listers) }
 {
-    Ok(Listers::new(
-        informers.config_maps.lister()?,
-        informers.pods.lister()?,
-        informers.replica_sets.lister()?,
-        informers.deployments.lister()?,
-    ))
+    let listers = informers.try_map_mut(|informer| informer.lister())?;
+    Ok(Listers { listers })
 }

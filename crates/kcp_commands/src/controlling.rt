@@ -6,7 +6,7 @@ use api_client::Remote;
 use kcp_loopback::{LoopbackConnector, OtherServer, Reach};
 use kcp_options::ControlOptions;
 use manager::{Apis, Open, Signals};
-use reconcile_types::Looks;
+use object_keys::PerKind;
 use std::alloc::{AllocError, Global};
 use std::net::{Net, TcpListener, TcpStream};
 use std::sync::Wait;
@@ -65,12 +65,7 @@ impl<'a, R: Net<Listener = TcpListener, Stream = TcpStream> + Eprint> Server<'a,
     {
         let workers = self.workers(workers)?;
         Ok(Apis {
-            followers: Looks {
-                config_maps: self.api(),
-                pods: self.api(),
-                replica_sets: self.api(),
-                deployments: self.api(),
-            },
+            followers: PerKind::made(|_| self.api()),
             workers,
         })
     }

@@ -1,14 +1,14 @@
 //! What was made, if it was.
 ghost use Rattle.std.specs.Prelude.{◌≡◌, ◌+◌, OnOk, vec_len};
 
-use reconcile_types::Looks;
+use object_keys::PerKind;
 use std::alloc::AllocError;
 
 /// Returns what was made for each kind, if it was. The error is running out of memory.
 pub(crate) fn all_made<T: Drop>(
-    made: Looks<Result<T, AllocError>>,
-) -> Result<Looks<T>, AllocError> {
-    Ok(Looks {
+    made: PerKind<Result<T, AllocError>>,
+) -> Result<PerKind<T>, AllocError> {
+    Ok(PerKind {
         config_maps: made.config_maps?,
         pods: made.pods?,
         replica_sets: made.replica_sets?,

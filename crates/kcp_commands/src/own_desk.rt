@@ -8,7 +8,7 @@ use desk::{Anything, Desk, StorePass};
 use http_event_loop::{Listening, LoopPlace, Loops, Turns};
 use kcp_loopback::{LoopbackConnector, OwnServer, Reach, Shared};
 use manager::{Apis, Signals};
-use reconcile_types::Looks;
+use object_keys::PerKind;
 use std::alloc::{AllocError, Global};
 use std::io;
 use std::net::{Net, TcpListener, TcpStream};
@@ -79,13 +79,13 @@ impl<'a, R: Net<Listener = TcpListener, Stream = TcpStream> + Eprint + Wait + Cl
     }
 
     /// Returns ways to ask for those that follow a kind, with the last of the passes. The error is running out of memory.
-    fn followers(&self, passes: &mut Vec<StorePass>) -> Result<Looks<Own<'a, R>>, AllocError>
+    fn followers(&self, passes: &mut Vec<StorePass>) -> Result<PerKind<Own<'a, R>>, AllocError>
         requires new { All (IsNewAt self.now.desk.now) passes.old.items }
         requires some { 4 ≤ vec_len passes.old }
         ensures left { All (IsNewAt self.now.desk.now) passes.new.items }
         ensures count { vec_len passes.new + 4 ≡ vec_len passes.old }
     {
-        all_made(Looks {
+        all_made(PerKind {
             config_maps: self.server(passes),
             pods: self.server(passes),
             replica_sets: self.server(passes),

@@ -7,11 +7,12 @@ use Rattle.spec_client_go.specs.Informers.{nothing}
 use Rattle.spec_client_go.specs.Shifts.{Shift}
 use Rattle.spec_server.specs.Snapshots.{Snapshot}
 use Rattle.control_desk.specs.Steps.{Step}
-use Rattle.reconcile_types.specs.declared.looks.Looks.{Looks}
+use Rattle.object_keys.specs.PerKind.{each_kind}
+use Rattle.object_keys.specs.declared.per_kind.PerKind.{PerKind}
 use Rattle.manager.specs.Handled.{HandlesSome}
 
-empty : Looks Snapshot
-empty = record { config_maps = nothing; pods = nothing; replica_sets = nothing; deployments = nothing }
+empty : PerKind Snapshot
+empty = each_kind (λ k. nothing)
 
 pub none_handled : (is_first : Bool) (ss : List Shift) (i j : ℕ) (v w : Known Board Step) → j ≡ i → w ≡ v → HandlesSome is_first (drop i ss) (drop j ss) v w
 none_handled is_first ss i j v w same knows = (

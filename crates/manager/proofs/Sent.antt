@@ -31,8 +31,8 @@ use Rattle.reflector.specs.contracts.reflectors.Reflector as Reflector
 use Rattle.control_desk.proofs.desks.ControlDesk.TheSendSync as desk
 use Rattle.control_desk.specs.contracts.desks.ControlDesk as ControlDesk
 use Rattle.control_desk.specs.contracts.entries.WorkEntry as Entry
-use Rattle.reconcile_types.proofs.looks.Looks.TheSendSync as looks_of
-use Rattle.reconcile_types.specs.contracts.looks.Looks as Looks
+use Rattle.object_keys.proofs.per_kind.PerKind.TheSendSync as per_kind_of
+use Rattle.object_keys.specs.contracts.per_kind.PerKind as PerKind
 use Rattle.manager_worker.proofs.signals.Signals.TheSendSync as signals
 use Rattle.manager_worker.proofs.working.Worker.TheSendSync as worker_of
 use Rattle.manager_worker.specs.contracts.signals.Signals as Signals
@@ -45,7 +45,7 @@ use Rattle.manager.specs.contracts.reflecting.Reflecting as Reflecting
 use Rattle.manager.specs.contracts.ticking.Ticker as Ticker
 
 listers : IsSend Listers.the_row
-listers = declared_send Listers.the_type (looks_of.the_send Lister.the_row lister, tt)
+listers = declared_send Listers.the_type (per_kind_of.the_send Lister.the_row lister, tt)
 
 taken : IsSend (Option.the_row Board.the_row)
 taken = search (option.the_send, board.the_send, sendable) depth 20
@@ -54,8 +54,8 @@ pass : IsSend (as_row (Pass.the_field (Option.the_row Board.the_row) (Doing.the_
 pass = as_row_send (Pass.the_field (Option.the_row Board.the_row) (Doing.the_row Board.the_row (View.the_row Board.the_row Entry.the_row)))
     (pass_of.the_send (Option.the_row Board.the_row) (Doing.the_row Board.the_row (View.the_row Board.the_row Entry.the_row)) taken)
 
-maps : IsSend (Option.the_row (Looks.the_row Indexed.the_row))
-maps = option.the_send (Looks.the_row Indexed.the_row) (looks_of.the_send Indexed.the_row indexed_send)
+maps : IsSend (Option.the_row (PerKind.the_row Indexed.the_row))
+maps = option.the_send (PerKind.the_row Indexed.the_row) (per_kind_of.the_send Indexed.the_row indexed_send)
 
 alloc : IsSend (as_row Global.the_field)
 alloc = search (heap.send, sendable)

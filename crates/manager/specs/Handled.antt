@@ -13,12 +13,12 @@ use Rattle.spec_server.specs.Snapshots.{Snapshot}
 use Rattle.control_desk.specs.Calls.{IsCall, Nothing}
 use Rattle.control_desk.specs.Steps.{Step, changing, observe}
 use Rattle.reconcile_types.specs.Hands.{looks_of}
-use Rattle.reconcile_types.specs.declared.looks.Looks.{Looks}
+use Rattle.object_keys.specs.declared.per_kind.PerKind.{PerKind}
 use Rattle.manager.specs.Looked.{AreLookedAt}
 
 -- the step by which a change is handled: what it shows of the pods that are expected, nothing where it is of the first list, and the keys that it
 -- owes by these maps
-abbrev pub step_of : Bool → Looks Snapshot → Shift → Step
+abbrev pub step_of : Bool → PerKind Snapshot → Shift → Step
 step_of is_first maps s =
     observe (observations (record { shift = s; is_in_initial_list = is_first })) (keys_of (change_of s) (looks_of (λ m. m) maps))
 
@@ -27,12 +27,12 @@ abbrev pub HasWaited : Known Board Step → Known Board Step → Type 0
 HasWaited v w = StartsWith w.seen v.seen × (w.made ≡ v.made)
 
 -- the changes are handled one after another, each in one step
-abbrev pub Handles : Bool → Looks Snapshot → List Shift → Known Board Step → Known Board Step → Type 0
+abbrev pub Handles : Bool → PerKind Snapshot → List Shift → Known Board Step → Known Board Step → Type 0
 Handles is_first maps [] v w = w ≡ v
 Handles is_first maps (s ∷ ss) v w = (u : Known Board Step) × IsCall v (changing (step_of is_first maps s)) Nothing u × Handles is_first maps ss u w
 
 -- those before these that are left are handled, and then one could not be
-pub record StopsAt (is_first : Bool) (maps : Looks Snapshot) (shifts left : List Shift) (v w : Known Board Step) : Type 0 where
+pub record StopsAt (is_first : Bool) (maps : PerKind Snapshot) (shifts left : List Shift) (v w : Known Board Step) : Type 0 where
   pub handled : List Shift
   pub whole : shifts ≡ handled ++ left
   pub between : Known Board Step
@@ -40,17 +40,17 @@ pub record StopsAt (is_first : Bool) (maps : Looks Snapshot) (shifts left : List
   pub waited : HasWaited between w
 
 -- so it is by maps that were looked at before, or are now
-abbrev pub HandlesAll : Bool → Option (Looks Snapshot) → Looks Lister → List Shift → Known Board Step → Known Board Step → Type 0
-HandlesAll is_first before ls shifts v w = (maps : Looks Snapshot) × AreLookedAt before ls maps × Handles is_first maps shifts v w
+abbrev pub HandlesAll : Bool → Option (PerKind Snapshot) → PerKind Lister → List Shift → Known Board Step → Known Board Step → Type 0
+HandlesAll is_first before ls shifts v w = (maps : PerKind Snapshot) × AreLookedAt before ls maps × Handles is_first maps shifts v w
 
 abbrev pub HandlesSome : Bool → List Shift → List Shift → Known Board Step → Known Board Step → Type 0
-HandlesSome is_first shifts left v w = (maps : Looks Snapshot) × StopsAt is_first maps shifts left v w
+HandlesSome is_first shifts left v w = (maps : PerKind Snapshot) × StopsAt is_first maps shifts left v w
 
 -- How far what is published is handled: so many of the changes of a publish, by these maps, after a publish of this revision.
 pub record Progress : Type 0 where
   pub handled : ℕ
   pub revision : ℕ
-  pub looks : Option (Looks Snapshot)
+  pub looks : Option (PerKind Snapshot)
 
 -- none of the next publish is
 abbrev pub done_with : ℕ → Progress
@@ -61,7 +61,7 @@ abbrev pub is_other : ℕ → Snapshot → List Shift → Bool
 is_other revision objects shifts = nat_lt objects.revision revision || shows_other_server shifts
 
 -- The changes of a publish that were not handled are, and then that is done with; those of another server are not.
-abbrev pub Takes : Bool → Progress → Snapshot → List Shift → Looks Lister → Known Board Step → Known Board Step → Progress → Type 0
+abbrev pub Takes : Bool → Progress → Snapshot → List Shift → PerKind Lister → Known Board Step → Known Board Step → Progress → Type 0
 Takes is_first before objects shifts ls v w after =
     ((is_other before.revision objects shifts ≡ true) × (w ≡ v))
     ⊎ ((is_other before.revision objects shifts ≡ false) × HandlesAll is_first before.looks ls (drop before.handled shifts) v w × (after ≡ done_with objects.revision))

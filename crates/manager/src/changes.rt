@@ -14,9 +14,8 @@ ghost use Rattle.manager.specs.Handled.{step_of, HasWaited, Handles, StopsAt};
 
 use control_desk::{ControlDesk, WorkPass};
 use indexer::{Indexed, Shift};
-use object_keys::WorkKey;
+use object_keys::{PerKind, WorkKey};
 use plain_informer::{keys_of, object_in, observations};
-use reconcile_types::Looks;
 use std::alloc::{AllocError, Global};
 use std::sync::Wait;
 use work_board::Observation;
@@ -28,7 +27,7 @@ pub(crate) struct Handling<'a, R> {
     pub(crate) alloc: Global,
     pub(crate) desk: &'a ControlDesk,
     /// What is published of all kinds.
-    pub(crate) looks: &'a Looks<Indexed>,
+    pub(crate) looks: &'a PerKind<Indexed>,
     /// Whether they are changes of the first list.
     pub(crate) is_first: bool,
 }

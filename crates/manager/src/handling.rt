@@ -7,7 +7,7 @@ use indexer::{Indexed, Shift};
 use informer::Listers;
 use list_and_watch::{Onward, Sink, shows_other_server};
 use manager_worker::Signals;
-use reconcile_types::Looks;
+use object_keys::PerKind;
 use std::alloc::{AllocError, Global};
 use std::sync::Wait;
 use std::time::Clock;
@@ -23,7 +23,7 @@ pub struct Handler<'a, R> {
     signals: &'a Signals,
     listers: Listers,
     /// What is published of all kinds, while the changes of one publish are handled.
-    looks: Option<Looks<Indexed>>,
+    looks: Option<PerKind<Indexed>>,
     /// How many of these changes were handled.
     handled: usize,
     /// The revision that was published last.

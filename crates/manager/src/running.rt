@@ -10,7 +10,7 @@ use api_client::Api;
 use control_desk::{ControlDesk, WorkPass};
 use informer::{Listers, SharedInformer, listers_of, open_informers};
 use manager_worker::{Gate, Signals, Tools, Worker};
-use reconcile_types::Looks;
+use object_keys::PerKind;
 use spec_api::kinds::Kind;
 use std::alloc::{AllocError, Global};
 use std::sync::Wait;
@@ -24,7 +24,7 @@ const FOLLOWERS: usize = 4;
 #[derive(Drop)]
 pub struct Apis<A> {
     /// Those that follow the kinds.
-    pub followers: Looks<A>,
+    pub followers: PerKind<A>,
     /// The workers.
     pub workers: Vec<A>,
 }
@@ -102,7 +102,7 @@ impl<'a, R: Threads + Wait + Clock + Sync, G: Gate> Floor<'a, R, G> {
 fn workers<'a, R: Threads + Wait + Clock + Sync, A: Api + Drop, G: Gate>(
     floor: &Floor<'a, R, G>,
     passes: &mut Vec<WorkPass>,
-    informers: &mut Looks<SharedInformer<'a, R>>,
+    informers: &mut PerKind<SharedInformer<'a, R>>,
     apis: Vec<A>,
 ) -> Result<Vec<ManagerThread<'a, R, A, G>>, AllocError>
     requires passes { All (IsNewAt floor.now.desk.now) passes.old.items }
@@ -124,7 +124,7 @@ fn workers<'a, R: Threads + Wait + Clock + Sync, A: Api + Drop, G: Gate>(
 fn members<'a, R: Threads + Wait + Clock + Sync, A: Api + Drop, G: Gate>(
     floor: &Floor<'a, R, G>,
     passes: Vec<WorkPass>,
-    informers: Looks<SharedInformer<'a, R>>,
+    informers: PerKind<SharedInformer<'a, R>>,
     apis: Apis<A>,
 ) -> Result<Vec<ManagerThread<'a, R, A, G>>, AllocError>
     requires passes { All (IsNewAt floor.now.desk.now) passes.items }
@@ -133,7 +133,7 @@ fn members<'a, R: Threads + Wait + Clock + Sync, A: Api + Drop, G: Gate>(
 {
     let (mut passes, mut informers) = (passes, informers);
     let mut made = workers(floor, &mut passes, &mut informers, apis.workers)?;
-    let own = Looks {
+    let own = PerKind {
         config_maps: listers_of(&mut informers)?,
         pods: listers_of(&mut informers)?,
         replica_sets: listers_of(&mut informers)?,

@@ -20,5 +20,5 @@ pub use owed::keys_of;
 pub use plain::PlainInformer;
 pub use publisher::Publishing;
 pub use publishing::apply_more;
-pub use reconcile_types::{Command, Entry, Hand, Looks, Plan, Seen};
+pub use reconcile_types::{Command, Entry, Hand, Plan, Seen};
 pub use showing::{object_in, observations};

@@ -12,9 +12,9 @@ use crate::looking::{adopters, dependents_in};
 use crate::owing::{add_all, in_order};
 use crate::rollouts::{deployments_of_pod, push_all};
 use meta::{Kind, Object};
-use object_keys::{Key, WorkKey};
+use object_keys::{Key, PerKind, WorkKey};
 use owner_references::references::{controller_keys, namespace_of, owner_keys};
-use reconcile_types::{Looks, Seen};
+use reconcile_types::Seen;
 use spec_client_go::controller::Controller;
 use std::alloc::{AllocError, Global};
 use std::collections::BTreeSet;
@@ -110,7 +110,7 @@ fn sets_to_look<S: Seen>(
     kind: Kind,
     old: Option<&Object>,
     new: Option<&Object>,
-    looks: &Looks<S>,
+    looks: &PerKind<S>,
 ) -> Result<Vec<Key>, AllocError>
     ensures { IfOk result (λ v. map key_of v.items ≡ sets_to_look (looks_of S.snapshot looks.now)
         (change_of kind old.entry new.entry)) }
@@ -133,7 +133,7 @@ fn deployments_to_look<S: Seen>(
     kind: Kind,
     old: Option<&Object>,
     new: Option<&Object>,
-    looks: &Looks<S>,
+    looks: &PerKind<S>,
 ) -> Result<Vec<Key>, AllocError>
     ensures { IfOk result (λ v. map key_of v.items ≡ deployments_to_look (looks_of S.snapshot looks.now)
         (change_of kind old.entry new.entry)) }
@@ -150,7 +150,7 @@ fn deployments_to_look<S: Seen>(
 }
 
 /// Returns the keys of all objects with an owner of this uid.
-fn dependents<S: Seen>(alloc: Global, uid: &str, looks: &Looks<S>) -> Result<Vec<Key>, AllocError>
+fn dependents<S: Seen>(alloc: Global, uid: &str, looks: &PerKind<S>) -> Result<Vec<Key>, AllocError>
     ensures { IfOk result (λ v. map key_of v.items ≡ dependents (looks_of S.snapshot looks.now)
         uid.now) }
 {
@@ -167,7 +167,7 @@ fn dependents<S: Seen>(alloc: Global, uid: &str, looks: &Looks<S>) -> Result<Vec
 fn dependents_of<S: Seen>(
     alloc: Global,
     uid: Option<&str>,
-    looks: &Looks<S>,
+    looks: &PerKind<S>,
 ) -> Result<Vec<Key>, AllocError>
     ensures { IfOk result (λ v. map key_of v.items ≡ flat_map (dependents (looks_of S.snapshot looks.now))
         (one_of (option_map (λ s. s.now) uid.entry))) }
@@ -204,7 +204,7 @@ fn dependents_left<S: Seen>(
     kind: Kind,
     old: Option<&Object>,
     new: Option<&Object>,
-    looks: &Looks<S>,
+    looks: &PerKind<S>,
 ) -> Result<Vec<Key>, AllocError>
     ensures { IfOk result (λ v. map key_of v.items ≡ dependents_left (looks_of S.snapshot looks.now)
         (change_of kind old.entry new.entry)) }
@@ -221,7 +221,7 @@ fn items_to_look<S: Seen>(
     kind: Kind,
     old: Option<&Object>,
     new: Option<&Object>,
-    looks: &Looks<S>,
+    looks: &PerKind<S>,
 ) -> Result<Vec<Key>, AllocError>
     ensures { IfOk result (λ v. map key_of v.items ≡ items_to_look (looks_of S.snapshot looks.now)
         (change_of kind old.entry new.entry)) }
@@ -241,7 +241,7 @@ pub fn keys_of<S: Seen>(
     kind: Kind,
     old: Option<&Object>,
     new: Option<&Object>,
-    looks: &Looks<S>,
+    looks: &PerKind<S>,
 ) -> Result<Vec<WorkKey>, AllocError>
     ensures { IfOk result (λ v. map work_key_of v.items ≡ keys_of
         (change_of kind old.entry new.entry)

@@ -6,7 +6,7 @@ ghost use Rattle.reconcile_turn.specs.Seen.{sight_of};
 ghost use Rattle.reconcile_turn.specs.Looked.{shown_by};
 
 use indexer::Indexed;
-use reconcile_types::Looks;
+use object_keys::PerKind;
 use spec_api::kinds::Kind;
 use std::alloc::{AllocError, Global};
 
@@ -69,10 +69,10 @@ fn copy_of_look(sights: &[Sight], kind: Kind) -> Result<Option<Indexed>, AllocEr
 }
 
 /// Returns what the looks showed. The error is running out of memory.
-pub fn looks(sights: &[Sight]) -> Result<Looks<Option<Indexed>>, AllocError>
+pub fn looks(sights: &[Sight]) -> Result<PerKind<Option<Indexed>>, AllocError>
     ensures { IfOk result (λ l. looks_by (members_of (λ i. i)) l ≡ looks (map sight_of sights.now)) }
 {
-    Ok(Looks {
+    Ok(PerKind {
         config_maps: copy_of_look(sights, Kind::ConfigMap)?,
         pods: copy_of_look(sights, Kind::Pod)?,
         replica_sets: copy_of_look(sights, Kind::ReplicaSet)?,

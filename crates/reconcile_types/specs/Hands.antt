@@ -7,10 +7,10 @@ use Rattle.spec_client_go.specs.Informers as informers
 use Rattle.object_keys.specs.Keys.{key_of}
 use Rattle.reconcile_types.specs.declared.hands.Hand.{Hand}
 use Rattle.reconcile_types.specs.declared.hands.Read.{Read}
-use Rattle.reconcile_types.specs.declared.looks.Looks.{Looks}
+use Rattle.object_keys.specs.declared.per_kind.PerKind.{PerKind}
 
 -- what looks show, each map by its members
-abbrev pub looks_by : {S : Type 0} → (S → Entries) → Looks S → informers.Looks
+abbrev pub looks_by : {S : Type 0} → (S → Entries) → PerKind S → informers.Looks
 looks_by members l =
     record {
       config_maps = members l.config_maps;
@@ -20,7 +20,7 @@ looks_by members l =
     }
 
 -- the objects of the four kinds, each map as its snapshot says
-abbrev pub looks_of : {S : Type 0} → (S → Snapshot) → Looks S → informers.Looks
+abbrev pub looks_of : {S : Type 0} → (S → Snapshot) → PerKind S → informers.Looks
 looks_of snapshot l = looks_by (λ s. (snapshot s).members) l
 
 -- a look that was not taken shows nothing

@@ -4,9 +4,8 @@ ghost use Rattle.spec_client_go.specs.Hands.{live, is_read};
 ghost use Rattle.object_keys.specs.Keys.{key_of};
 ghost use Rattle.reconcile_types.specs.Hands.{reads_of};
 
-use crate::looks::Looks;
 use meta::Object;
-use object_keys::Key;
+use object_keys::{Key, PerKind};
 
 /// A live read, and what it found.
 #[derive(Drop)]
@@ -20,7 +19,7 @@ pub struct Read {
 #[derive(Drop)]
 pub struct Hand<S> {
     pub key: Key,
-    pub looks: Looks<Option<S>>,
+    pub looks: PerKind<Option<S>>,
     pub is_satisfied: bool,
     pub reads: Vec<Read>,
 }

@@ -1,4 +1,4 @@
-//! What a reconcile takes and gives: `Looks`, `Read`, `Hand`, `Plan`, `Command`; counts, and the commands that update a status.
+//! What a reconcile takes and gives: `Read`, `Hand`, `Plan`, `Command`; counts, and the commands that update a status.
 //!
 //! Looks of different kinds may be of different revisions, and old: what has to be present is read live, and a command names the version
 //! that it replaces, so that the server refuses what was planned of an older one. `collector` plans by looks and live reads.
@@ -8,7 +8,6 @@ pub mod commands;
 pub mod counts;
 pub mod entries;
 pub mod hands;
-pub mod looks;
 pub mod seen;
 pub mod updates;
 
@@ -16,6 +15,5 @@ pub use commands::{Command, Plan, Version};
 pub use counts::{count_in_spec, count_in_status, not_below_0};
 pub use entries::Entry;
 pub use hands::{Hand, Read};
-pub use looks::Looks;
 pub use seen::Seen;
 pub use updates::{add_report, add_update, status, with_count};

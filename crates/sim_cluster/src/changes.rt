@@ -1,7 +1,7 @@
 //! Published changes of a cluster that are still to be handled, and what is published while they are.
 use crate::clusters::Cluster;
 use indexer::Indexed;
-use reconcile_types::Looks;
+use object_keys::PerKind;
 use sim_followers::Notification;
 use spec_api::kinds::Kind;
 use std::alloc::AllocError;
@@ -34,10 +34,10 @@ impl Cluster {
     }
 
     /// Returns copies of what is published of each kind, which share the objects. The error is running out of memory.
-    pub fn looks(&self) -> Result<Looks<Indexed>, AllocError>
+    pub fn looks(&self) -> Result<PerKind<Indexed>, AllocError>
         ensures { IfOk result (λ l. looks_by (λ (s : Snapshot). s.members) l ≡ looks self.now) }
     {
-        Ok(Looks {
+        Ok(PerKind {
             config_maps: self.config_maps.published().try_copy()?,
             pods: self.pods.published().try_copy()?,
             replica_sets: self.replica_sets.published().try_copy()?,

@@ -7,7 +7,7 @@ use crate::scenes::Scene;
 use crate::servers::SharedServer;
 use desk::StorePass;
 use manager::{Apis, Gate, Signals};
-use reconcile_types::Looks;
+use object_keys::PerKind;
 use std::alloc::{AllocError, Global};
 use std::sync::Wait;
 use std::thread;
@@ -42,7 +42,7 @@ fn apis<'a, R: Wait + Clock>(
         workers.push(SharedServer::next(scene, passes)?)?;
     }
     Ok(Apis {
-        followers: Looks {
+        followers: PerKind {
             config_maps: SharedServer::next(scene, passes)?,
             pods: SharedServer::next(scene, passes)?,
             replica_sets: SharedServer::next(scene, passes)?,
