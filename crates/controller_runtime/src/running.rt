@@ -263,10 +263,10 @@ fn end_of(under_way: &UnderWay) -> Ended {
 /// worker, and six more.
 ///
 /// Each comes back with no key in its hand. Its steps, each one of the board's one history, are those of a run: keys were added that changes
-/// owed; a key was taken, or given back with how its reconcile ended, by maps that were published; time passed; or the board was shut down. Where
-/// the run was over while a key was in its hand, it gave that back as done, last of all. Who then looks back (`look_back`) learns a history of
-/// which the laws of `shared_keyed_board` speak: no key was ever in two hands, and until the board was shut down each that a change owed waited,
-/// or was taken after it.
+/// owed; a key was taken, or given back with how its reconcile ended, by maps that its listers knew; time passed; or the board was shut down.
+/// Where the run was over while a key was in its hand, it gave that back as done, last of all. Who then looks back (`look_back`) learns a history
+/// of which the laws of `shared_keyed_board` speak: no key was ever in two hands, and until the board was shut down each that a change owed
+/// waited, or was taken after it.
 ///
 /// The error is running out of memory before a thread was started, and drops the passes; where it runs out later, who needs it waits. No clause
 /// says that a thread starts or gets on.

@@ -126,8 +126,8 @@ impl Accepting {
         self.turn
     }
 
-    /// Returns the number of a loop that has nothing to do; where there is none, of the others by turns, and after two for each of these of the own one:
-    /// while it does what takes long, nobody is given anything.
+    /// Returns the number of a loop that has nothing to do; where there is none, of the others by turns, and after two for each of these of the
+    /// own one: while it does what takes long, nobody is given anything.
     pub(crate) fn take_free(&mut self, own: usize, loops: &Loops) -> usize {
         let count = loops.at_work().long;
         if let Some(number) = loops.free(count) {

@@ -39,8 +39,8 @@ impl<'a, S: Drop, L: Ledger> EventLoop<'a, S, L> {
     ///
     /// Where it is to listen it accepts connections, for itself and the others: no more than the limit, if there is one, after the last of which
     /// all loops stop. What asks for a watch, or is not whole, it gives to the others, if there are any; what asks for a list to one that is
-    /// free, or else to the others by turns, and at times to itself. Where no connection can be accepted, as the system has no descriptor or 10,000 are
-    /// open, it is tried again once a connection has ended, and at times.
+    /// free, or else to the others by turns, and at times to itself. Where no connection can be accepted, as the system has no descriptor or
+    /// 10,000 are open, it is tried again once a connection has ended, and at times.
     pub fn new<R: Wait>(
         rt: &R,
         alloc: Global,

@@ -2,7 +2,7 @@
 ghost use Rattle.std.specs.Prelude.{All};
 ghost use Rattle.desk.specs.Desks.{IsNewAt};
 
-use crate::made::{add, all_made};
+use crate::made::add;
 use crate::parts::{Answering, Controllers, Own};
 use desk::{Anything, Desk, StorePass};
 use http_event_loop::{Listening, LoopPlace, Loops, Turns};
@@ -85,12 +85,13 @@ impl<'a, R: Net<Listener = TcpListener, Stream = TcpStream> + Eprint + Wait + Cl
         ensures left { All (IsNewAt self.now.desk.now) passes.new.items }
         ensures count { vec_len passes.new + 4 ≡ vec_len passes.old }
     {
-        all_made(PerKind {
+        let made = PerKind {
             config_maps: self.server(passes),
             pods: self.server(passes),
             replica_sets: self.server(passes),
             deployments: self.server(passes),
-        })
+        };
+        made.all_made()
     }
 
     /// Returns ways to ask for so many workers, with the last of the passes. The error is running out of memory.

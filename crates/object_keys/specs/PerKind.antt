@@ -29,6 +29,10 @@ each_kind f = record { config_maps = f ConfigMap; pods = f Pod; replica_sets = f
 abbrev pub EachKind : (Kind → Type 0) → Type 0
 EachKind P = P ConfigMap × P Pod × P ReplicaSet × P Deployment
 
+-- it is so of some kind
+abbrev pub SomeKind : (Kind → Type 0) → Type 0
+SomeKind P = P ConfigMap ⊎ P Pod ⊎ P ReplicaSet ⊎ P Deployment
+
 -- each kind with what stands for it, in their order
 abbrev pub entries : {T : Type 0} → PerKind T → List (Kind × T)
 entries t = map (λ k. (k, of_kind k t)) kinds

@@ -134,18 +134,43 @@ impl<T: Drop> PerKind<T> {
 }
 
 impl<T: Drop> PerKind<Option<T>> {
-    ghost use Rattle.std.specs.Prelude.{◌≡◌, Some, IfSome};
-    ghost use Rattle.object_keys.specs.PerKind.{of_kind, EachKind};
+    ghost use Rattle.std.specs.Prelude.{◌≡◌, Some, None, IfSome, IfNone};
+    ghost use Rattle.object_keys.specs.PerKind.{of_kind, EachKind, SomeKind};
 
     /// Returns what stands for each kind, if something does for all of them.
     pub fn all(self) -> Option<PerKind<T>>
-        ensures { IfSome result (λ all. EachKind (λ k. of_kind k self ≡ Some (of_kind k all))) }
+        ensures some { IfSome result (λ all. EachKind (λ k. of_kind k self ≡ Some (of_kind k all))) }
+        ensures none { IfNone result (SomeKind (λ k. of_kind k self ≡ None)) }
     {
         Some(PerKind {
             config_maps: self.config_maps?,
             pods: self.pods?,
             replica_sets: self.replica_sets?,
             deployments: self.deployments?,
+        })
+    }
+}
+
+impl<T: Drop, E: Drop> PerKind<Result<T, E>> {
+    ghost use Rattle.std.specs.Prelude.{◌≡◌, Ok, Err, IfOk, IfErr};
+    ghost use Rattle.object_keys.specs.PerKind.{of_kind, EachKind, SomeKind};
+
+    /// Returns what was made for each kind, or the first error.
+    pub fn all_made(self) -> Result<PerKind<T>, E>
+        ensures ok { IfOk result (λ all. EachKind (λ k. of_kind k self ≡ Ok (of_kind k all))) }
+        ensures err { IfErr result (λ error. SomeKind (λ k. of_kind k self ≡ Err error)) }
+    {
+        let PerKind {
+            config_maps,
+            pods,
+            replica_sets,
+            deployments,
+        } = self;
+        Ok(PerKind {
+            config_maps: config_maps?,
+            pods: pods?,
+            replica_sets: replica_sets?,
+            deployments: deployments?,
         })
     }
 }
