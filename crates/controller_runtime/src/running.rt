@@ -199,7 +199,34 @@ fn workers<'a, R: Threads + Wait + Clock + Sync, K: Named, C: Reconciler<K>, A: 
 #[derive(Drop)]
 struct Members<'a, R: Wait, C, K: Named, A: Drop> {
     threads: Vec<RunThread<'a, R, C, K, A>>,
-    _empty: PerKind<Option<SharedInformer<'a, R>>>,
+    _empty: Vec<SharedInformer<'a, R>>,
+}
+
+/// Adds what follows each kind that is followed. A pass is left for each other kind. The error is running out of memory.
+fn with_followers<'a, R: Threads + Wait + Clock + Sync, K: Named, C: Reconciler<K>, A: Api + Drop>(
+    ground: &Ground<'a, R, C, K>,
+    passes: &mut Vec<BoardPass<K>>,
+    kinds: Vec<(Kind, (SharedInformer<'a, R>, Option<A>))>,
+    made: Vec<RunThread<'a, R, C, K, A>>,
+) -> Result<Members<'a, R, C, K, A>, AllocError>
+    requires passes { All (IsNewAt ground.now.board.now) passes.old.items }
+    requires enough { vec_len passes.old ≡ vec_len kinds }
+    requires ready { All (IsReady C.owes C.ends K.says ground.now.board.now) made.items }
+    ensures passes { All (IsNewAt ground.now.board.now) passes.new.items }
+    ensures ready { IfOk result (λ m. All (IsReady C.owes C.ends K.says ground.now.board.now) m.threads.items) }
+    ensures count { IfOk result (λ m. vec_len m.threads + vec_len passes.new ≡ vec_len made + vec_len kinds) }
+{
+    let (mut left, mut threads) = (kinds, made);
+    let mut empty = Vec::with_capacity(ground.alloc, left.len())?;
+    while let Some((kind, (informer, api))) = left.pop() {
+        if let Some(informer) = ground.add_follower(&mut threads, passes, kind, informer, api)? {
+            empty.push(informer)?;
+        }
+    }
+    Ok(Members {
+        threads,
+        _empty: empty,
+    })
 }
 
 /// Returns what each thread does. A pass is left for each kind that nobody follows. The error is running out of memory.
@@ -220,34 +247,8 @@ fn all_members<'a, R: Threads + Wait + Clock + Sync, K: Named, C: Reconciler<K>,
     let mut threads = workers(ground, passes, &mut informers, asking)?;
     threads.push(ground.ticks(ground.next_pass(passes)))?;
     threads.push(ground.stops(ground.next_pass(passes)))?;
-    let empty = PerKind {
-        config_maps: ground.add_follower(
-            &mut threads,
-            passes,
-            Kind::ConfigMap,
-            informers.config_maps,
-            apis.config_maps,
-        )?,
-        pods: ground.add_follower(&mut threads, passes, Kind::Pod, informers.pods, apis.pods)?,
-        replica_sets: ground.add_follower(
-            &mut threads,
-            passes,
-            Kind::ReplicaSet,
-            informers.replica_sets,
-            apis.replica_sets,
-        )?,
-        deployments: ground.add_follower(
-            &mut threads,
-            passes,
-            Kind::Deployment,
-            informers.deployments,
-            apis.deployments,
-        )?,
-    };
-    Ok(Members {
-        threads,
-        _empty: empty,
-    })
+    let kinds = informers.zip(apis).into_entries(ground.alloc)?;
+    with_followers(ground, passes, kinds, threads)
 }
 
 /// Returns why a run has ended.

@@ -38,7 +38,7 @@ use Rattle.manager_worker.proofs.working.Worker.TheSendSync as worker_of
 use Rattle.manager_worker.specs.contracts.signals.Signals as Signals
 use Rattle.manager_worker.specs.contracts.working.Worker as Worker
 use Rattle.manager.proofs.ticking.Ticker.TheSendSync as ticker_of
-use Rattle.manager.specs.contracts.handling.Handler as Handler
+use Rattle.manager.specs.contracts.handler.Handler as Handler
 use Rattle.informer.specs.contracts.kind_listers.Listers as Listers
 use Rattle.manager.specs.contracts.members.ManagerThread as Member
 use Rattle.manager.specs.contracts.reflecting.Reflecting as Reflecting

@@ -1,162 +1,96 @@
-//! Published changes, handled.
-ghost use Rattle.control_desk.specs.Desks.{IsPassAt};
+//! Changes of a publish, handled at the board.
+ghost use Rattle.std.specs.Prelude.{◌≡◌, IfOk, OnOk, OnErr, map, drop};
+ghost use Rattle.work_board.specs.Seen.{observation_of};
+ghost use Rattle.spec_client_go.specs.OwedKeys.{keys_of};
+ghost use Rattle.indexer.specs.Shifted.{shift_of};
+ghost use Rattle.spec_sim.specs.ControlPlanes.{change_of};
+ghost use Rattle.spec_sim.specs.PodObservations.{observations};
+ghost use Rattle.control_desk.specs.Calls.{IsCall, Nothing};
+ghost use Rattle.control_desk.specs.Desks.{known, IsPassAt};
+ghost use Rattle.control_desk.specs.Steps.{changing};
+ghost use Rattle.reconcile_types.specs.Hands.{looks_of};
+ghost use Rattle.object_keys.specs.WorkKeys.{work_key_of};
+ghost use Rattle.manager.specs.Handled.{step_of, HasWaited, Handles, StopsAt};
 
-use crate::changes::Handling;
 use control_desk::{ControlDesk, WorkPass};
 use indexer::{Indexed, Shift};
-use informer::Listers;
-use list_and_watch::{Onward, Sink, shows_other_server};
-use manager_worker::Signals;
-use object_keys::PerKind;
+use object_keys::{PerKind, WorkKey};
+use plain_informer::{keys_of, object_in, observations};
 use std::alloc::{AllocError, Global};
 use std::sync::Wait;
-use std::time::Clock;
+use work_board::Observation;
 
-/// What handles the changes that an informer publishes: each pod that they show counts as created or deleted, and each key that they owe
-/// waits in the queue. A change of the first list shows no pod that was waited for: its pods are older than everything that is expected.
+/// By what the changes of a publish are handled.
 #[derive(Drop)]
-pub struct Handler<'a, R> {
-    rt: &'a R,
-    alloc: Global,
-    desk: &'a ControlDesk,
-    pass: WorkPass,
-    signals: &'a Signals,
-    listers: Listers,
-    /// What is published of all kinds, while the changes of one publish are handled.
-    looks: Option<PerKind<Indexed>>,
-    /// How many of these changes were handled.
-    handled: usize,
-    /// The revision that was published last.
-    revision: u64,
-    ghost sits: { IsPassAt desk.now pass },
+pub(crate) struct Handling<'a, R> {
+    pub(crate) rt: &'a R,
+    pub(crate) alloc: Global,
+    pub(crate) desk: &'a ControlDesk,
+    /// What is published of all kinds.
+    pub(crate) looks: &'a PerKind<Indexed>,
+    /// Whether they are changes of the first list.
+    pub(crate) is_first: bool,
 }
 
-impl<'a, R: Wait + Clock> Handler<'a, R> {
-    ghost use Rattle.std.specs.Prelude.{◌≡◌, OnOk, OnErr, IfSome, map, drop, None};
-    ghost use Rattle.indexer.specs.Shifted.{shift_of};
-    ghost use Rattle.control_desk.specs.Desks.{known, IsPassAt};
-    ghost use Rattle.manager.specs.Handled.{HandlesAll, HandlesSome, is_other};
-    ghost use Rattle.manager.specs.Looked.{AreLookedAt};
-
-    /// Returns what handles the changes of a kind of which nothing was published yet.
-    pub fn new(
-        rt: &'a R,
-        alloc: Global,
-        desk: &'a ControlDesk,
-        pass: WorkPass,
-        signals: &'a Signals,
-        listers: Listers,
-    ) -> Handler<'a, R>
-        requires { IsPassAt desk.now pass }
-        ensures { (result.looks ≡ None) × (result.handled ≡ 0) × (result.revision ≡ 0) }
+impl<R: Wait> Handling<'_, R> {
+    /// Returns what a change shows of the pods that are expected: nothing, where it is of the first list.
+    fn seen(&self, shift: &Shift) -> Result<Vec<Observation>, AllocError>
+        ensures { IfOk result (λ v. map observation_of v.items
+            ≡ observations (record { shift = shift_of shift.now; is_in_initial_list = self.now.is_first })) }
     {
-        Handler {
-            rt,
-            alloc,
-            desk,
-            pass,
-            signals,
-            listers,
-            looks: None,
-            handled: 0,
-            revision: 0,
+        if self.is_first {
+            return Ok(Vec::new(self.alloc));
         }
+        observations(self.alloc, shift)
     }
 
-    /// Looks at what is published of all kinds, unless that was done since the last publish. The error is running out of memory.
-    fn look(&mut self) -> Result<(), AllocError>
-        ensures looked { OnOk result (IfSome self.new.looks (AreLookedAt self.old.looks self.new.listers.listers)) }
-        ensures pass { known self.new.pass ≡ known self.old.pass }
-        ensures handled { self.new.handled ≡ self.old.handled }
+    /// Returns the keys that a change owes.
+    fn owed(&self, shift: &Shift) -> Result<Vec<WorkKey>, AllocError>
+        ensures { IfOk result (λ v. map work_key_of v.items ≡ keys_of (change_of (shift_of shift.now)) (looks_of (λ m. m) self.now.looks.now)) }
     {
-        if self.looks.is_none() {
-            self.looks = self.listers.all_published()?;
-        }
-        Ok(())
+        keys_of(
+            self.alloc,
+            shift.key.kind,
+            object_in(&shift.old),
+            object_in(&shift.new),
+            self.looks,
+        )
     }
 
-    /// Returns whether what is published is another server's: it is older than what was published before, or its changes show so.
-    fn is_other(&self, shifts: &[Shift], objects: &Indexed) -> bool
-        ensures { result ≡ is_other self.now.revision objects.now (map shift_of shifts.now) }
+    /// Handles a change at the board, in one step: what it shows of the pods that are expected is noted, and the keys that it owes wait. A
+    /// change of the first list shows no pod. The error is running out of memory, and changes nothing there.
+    fn handle(&self, pass: &mut WorkPass, shift: &Shift) -> Result<(), AllocError>
+        requires { IsPassAt self.now.desk.now pass.old }
+        ensures pass { IsPassAt self.now.desk.now pass.new }
+        ensures ok { OnOk result (IsCall (known pass.old)
+            (changing (step_of self.now.is_first self.now.looks.now (shift_of shift.now))) Nothing (known pass.new)) }
+        ensures err { OnErr result (HasWaited (known pass.old) (known pass.new)) }
     {
-        objects.revision() < self.revision || shows_other_server(shifts)
+        let seen = self.seen(shift)?;
+        let keys = self.owed(shift)?;
+        self.desk
+            .observe(self.rt, pass, seen.as_slice(), keys.as_slice())
     }
 
-    /// Handles the changes of a publish but those that were handled. The error is running out of memory, or that an informer is closed: some
-    /// more are handled then, and the others are left.
-    fn handle_from(&mut self, shifts: &[Shift], is_first: bool) -> Result<(), AllocError>
-        ensures ok { OnOk result (HandlesAll is_first self.old.looks self.new.listers.listers
-            (drop self.old.handled (map shift_of shifts.now)) (known self.old.pass) (known self.new.pass)) }
-        ensures err { OnErr result (HandlesSome is_first
-            (drop self.old.handled (map shift_of shifts.now)) (drop self.new.handled (map shift_of shifts.now))
-            (known self.old.pass) (known self.new.pass)) }
-    {
-        self.look()?;
-        let Handler {
-            rt,
-            alloc,
-            desk,
-            pass,
-            looks,
-            handled,
-            ..
-        } = self;
-        let Some(looks) = looks else {
-            return Err(AllocError);
-        };
-        let handling = Handling {
-            rt: *rt,
-            alloc: *alloc,
-            desk: *desk,
-            looks,
-            is_first,
-        };
-        handling.handle_rest(pass, handled, shifts)
-    }
-}
-
-impl<R: Wait + Clock> Sink for Handler<'_, R> {
-    ghost use Rattle.control_desk.specs.Desks.{known};
-    ghost use Rattle.manager.specs.Handled.{Takes};
-
-    ghost takes = { λ before shifts objects is_first after.
-        Takes is_first (record { handled = before.handled; revision = before.revision; looks = before.looks }) objects shifts after.listers.listers
-        (known before.pass) (known after.pass)
-        (record { handled = after.handled; revision = after.revision; looks = after.looks }) };
-
-    /// Handles the changes of a publish, one after another, and then wakes the workers. Where memory runs out, those that were handled are not
-    /// handled again. Where the changes are another server's, none is handled, and all is to stop.
-    fn changed(
-        &mut self,
+    /// Handles the changes but the first so many, one after another, and counts them. The error is running out of memory at one of them:
+    /// those before it are handled and counted, and it is not.
+    pub(crate) fn handle_rest(
+        &self,
+        pass: &mut WorkPass,
+        handled: &mut usize,
         shifts: &[Shift],
-        objects: &Indexed,
-        is_first: bool,
-    ) -> Result<(), AllocError> {
-        if self.is_other(shifts, objects) {
-            self.signals.note_lost();
-            return Ok(());
+    ) -> Result<(), AllocError>
+        requires { IsPassAt self.now.desk.now pass.old }
+        ensures pass { IsPassAt self.now.desk.now pass.new }
+        ensures ok { OnOk result (Handles self.now.is_first self.now.looks.now
+            (drop handled.old (map shift_of shifts.now)) (known pass.old) (known pass.new)) }
+        ensures err { OnErr result (StopsAt self.now.is_first self.now.looks.now
+            (drop handled.old (map shift_of shifts.now)) (drop handled.new (map shift_of shifts.now)) (known pass.old) (known pass.new)) }
+    {
+        while let Some(shift) = shifts.get(*handled) {
+            self.handle(pass, shift)?;
+            *handled += 1;
         }
-        self.handle_from(shifts, is_first)?;
-        self.looks = None;
-        self.handled = 0;
-        self.revision = objects.revision();
-        if is_first {
-            self.signals.note_listed();
-        }
-        self.signals.announce_work();
         Ok(())
-    }
-
-    /// All that the controllers know is of a server that is there no more: so all is to stop.
-    fn other_server(&mut self) {
-        self.signals.note_lost();
-    }
-
-    fn goes_on(&mut self) -> Onward {
-        if self.signals.stop.is_stopped() {
-            Onward::Stop
-        } else {
-            Onward::GoOn
-        }
     }
 }

@@ -2,8 +2,8 @@
 //! commands what its controller plans; and what lets time pass.
 #![tactic(auto)]
 
-pub(crate) mod changes;
-pub mod handling;
+pub mod handler;
+pub(crate) mod handling;
 pub mod members;
 pub mod reflecting;
 pub mod running;

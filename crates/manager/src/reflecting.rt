@@ -3,7 +3,7 @@ ghost use Rattle.std.specs.Prelude.{◌≡◌};
 ghost use Rattle.spec_client_go.specs.Reflectors.{begun_streaming};
 ghost use Rattle.manager.specs.Followed.{reflector_of};
 
-use crate::handling::Handler;
+use crate::handler::Handler;
 use api_client::Api;
 use informer::SharedInformer;
 use list_and_watch::{Follower, follow};

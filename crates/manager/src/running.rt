@@ -2,7 +2,7 @@
 ghost use Rattle.std.specs.Prelude.{◌≡◌, ◌<◌, ◌^◌, ◌+◌, IfOk, OnOk, All, vec_len};
 ghost use Rattle.control_desk.specs.Desks.{IsNewAt};
 
-use crate::handling::Handler;
+use crate::handler::Handler;
 use crate::members::ManagerThread;
 use crate::reflecting::Reflecting;
 use crate::ticking::Ticker;
@@ -120,6 +120,27 @@ fn workers<'a, R: Threads + Wait + Clock + Sync, A: Api + Drop, G: Gate>(
     Ok(made)
 }
 
+/// Adds what follows each of the kinds, with the last of the passes. The error is running out of memory.
+fn add_followers<'a, R: Threads + Wait + Clock + Sync, A: Api + Drop, G: Gate>(
+    floor: &Floor<'a, R, G>,
+    passes: &mut Vec<WorkPass>,
+    kinds: Vec<(Kind, ((SharedInformer<'a, R>, Listers), A))>,
+    made: Vec<ManagerThread<'a, R, A, G>>,
+) -> Result<Vec<ManagerThread<'a, R, A, G>>, AllocError>
+    requires passes { All (IsNewAt floor.now.desk.now) passes.old.items }
+    requires enough { vec_len passes.old ≡ vec_len kinds + 1 }
+    ensures passes { All (IsNewAt floor.now.desk.now) passes.new.items }
+    ensures left { OnOk result (vec_len passes.new ≡ 1) }
+    ensures made { IfOk result (λ all. vec_len all ≡ vec_len made + vec_len kinds) }
+{
+    let (mut left, mut all) = (kinds, made);
+    while let Some((kind, ((informer, listers), api))) = left.pop() {
+        let pass = floor.next_pass(passes);
+        all.push(floor.follows(kind, pass, informer, listers, api))?;
+    }
+    Ok(all)
+}
+
 /// Returns what each thread does. The error is running out of memory.
 fn members<'a, R: Threads + Wait + Clock + Sync, A: Api + Drop, G: Gate>(
     floor: &Floor<'a, R, G>,
@@ -132,42 +153,13 @@ fn members<'a, R: Threads + Wait + Clock + Sync, A: Api + Drop, G: Gate>(
     ensures { IfOk result (λ made. vec_len made ≡ vec_len apis.workers + 5) }
 {
     let (mut passes, mut informers) = (passes, informers);
-    let mut made = workers(floor, &mut passes, &mut informers, apis.workers)?;
-    let own = PerKind {
-        config_maps: listers_of(&mut informers)?,
-        pods: listers_of(&mut informers)?,
-        replica_sets: listers_of(&mut informers)?,
-        deployments: listers_of(&mut informers)?,
-    };
-    let asking = apis.followers;
-    made.push(floor.follows(
-        Kind::ConfigMap,
-        floor.next_pass(&mut passes),
-        informers.config_maps,
-        own.config_maps,
-        asking.config_maps,
-    ))?;
-    made.push(floor.follows(
-        Kind::Pod,
-        floor.next_pass(&mut passes),
-        informers.pods,
-        own.pods,
-        asking.pods,
-    ))?;
-    made.push(floor.follows(
-        Kind::ReplicaSet,
-        floor.next_pass(&mut passes),
-        informers.replica_sets,
-        own.replica_sets,
-        asking.replica_sets,
-    ))?;
-    made.push(floor.follows(
-        Kind::Deployment,
-        floor.next_pass(&mut passes),
-        informers.deployments,
-        own.deployments,
-        asking.deployments,
-    ))?;
+    let made = workers(floor, &mut passes, &mut informers, apis.workers)?;
+    let listers = PerKind::try_made(|_| listers_of(&mut informers))?;
+    let kinds = informers
+        .zip(listers)
+        .zip(apis.followers)
+        .into_entries(floor.alloc)?;
+    let mut made = add_followers(floor, &mut passes, kinds, made)?;
     made.push(ManagerThread::Ticks(Ticker::new(
         floor.rt,
         floor.desk,

@@ -2,7 +2,7 @@ use Rattle.std.proofs.Common.{◌-◌, map, drop, length}
 use Rattle.control_desk.specs.Desks.{known, IsPassAt}
 use Rattle.indexer.specs.Shifted.{shift_of}
 use Rattle.manager.proofs.Rest.{IsAsFar}
-use Rattle.manager.proofs.changes.Handling.handle_rest.Given as goal
+use Rattle.manager.proofs.handling.Handling.handle_rest.Given as goal
 
 abbrev pub invariant-loop-shift : goal.invariant-loop-shift
 invariant-loop-shift g l =

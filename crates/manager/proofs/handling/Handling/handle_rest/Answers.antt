@@ -2,7 +2,7 @@ use Rattle.std.proofs.Common.{◌<◌, length, arith}
 use Rattle.control_desk.specs.Desks.{known}
 use Rattle.indexer.specs.Shifted.{shift_of}
 use Rattle.manager.proofs.Rest.{as_far_more}
-use Rattle.manager.proofs.changes.Handling.handle_rest.Goals as goal
+use Rattle.manager.proofs.handling.Handling.handle_rest.Goals as goal
 
 pub loop-shift-preserved : goal.loop-shift-preserved
 loop-shift-preserved g c =

@@ -2,7 +2,7 @@ use Rattle.std.proofs.Common.{map}
 use Rattle.indexer.specs.Shifted.{shift_of}
 use Rattle.control_desk.specs.Desks.{known}
 use Rattle.manager.proofs.None.{none_handled, on_err}
-use Rattle.manager.proofs.handling.Handler.handle_from.Goals as goal
+use Rattle.manager.proofs.handler.Handler.handle_from.Goals as goal
 
 pub returns-in_err-look-clause-err : goal.returns-in_err-look-clause-err
 returns-in_err-look-clause-err g c =

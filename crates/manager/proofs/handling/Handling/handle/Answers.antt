@@ -8,7 +8,7 @@ use Rattle.control_desk.specs.Desks.{known}
 use Rattle.reconcile_types.specs.Hands.{looks_of}
 use Rattle.object_keys.specs.WorkKeys.{work_key_of}
 use Rattle.manager.proofs.Calls.{called_as}
-use Rattle.manager.proofs.changes.Handling.handle.Goals as goal
+use Rattle.manager.proofs.handling.Handling.handle.Goals as goal
 
 pub returns-clause-ok : goal.returns-clause-ok
 returns-clause-ok g c =
