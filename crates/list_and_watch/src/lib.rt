@@ -1,6 +1,6 @@
 //! What keeps a copy of one kind up to date with a server: it lists, watches, takes in the bytes as they come, publishes, and asks
-//! again where a watch was cut, has expired or cannot be read. What each step makes of the copy is proved, and, of a kind in all
-//! namespaces, that what is published is the server's list; the loop that asks and waits is thin.
+//! again where a watch was cut, has expired or cannot be read. What each step makes of the copy is proved, and that what is published
+//! is the server's list; the loop that asks and waits is thin.
 #![tactic(auto)]
 
 pub(crate) mod answered;
@@ -11,7 +11,6 @@ pub mod follower_laws;
 pub(crate) mod listing;
 pub(crate) mod owed;
 pub mod pauses;
-pub(crate) mod publishing;
 pub mod recognizing;
 pub mod running;
 pub(crate) mod sameness;

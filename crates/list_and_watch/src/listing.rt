@@ -4,15 +4,42 @@ ghost use Rattle.list_and_watch.specs.Given.{StaysSo};
 use crate::answered::body_in;
 use crate::follower::Follower;
 use crate::owed::Owed;
-use crate::publishing::publish;
-use crate::sinks::Sink;
+use crate::sinks::{Onward, Sink};
 use crate::tries::Tried;
 use api_client::Api;
 use http_client::Answer;
 use plain_informer::Publishing;
 use reflector::ListFault;
 use spec_api::kinds::Kind;
-use std::alloc::Global;
+use std::alloc::{AllocError, Global};
+
+/// Publishes what waits, unless changes are still owed, and gives a sink what is owed.
+fn give<I: Publishing, S: Sink>(
+    follower: &mut Follower<I>,
+    owed: &mut Owed,
+    sink: &mut S,
+) -> Result<(), AllocError>
+    ensures { StaysSo S.stays sink.old sink.new }
+{
+    owed.publish(follower)?;
+    owed.give(follower.look(), sink)
+}
+
+/// Publishes what waits and gives it to a sink, and asks whether to go on.
+pub(crate) fn publish<I: Publishing, S: Sink>(
+    follower: &mut Follower<I>,
+    owed: &mut Owed,
+    sink: &mut S,
+) -> Tried
+    ensures { StaysSo S.stays sink.old sink.new }
+{
+    let given = give(follower, owed, sink);
+    match sink.goes_on() {
+        Onward::GoOn if given.is_ok() => Tried::Done,
+        Onward::GoOn => Tried::Failed,
+        Onward::Stop => Tried::Stopped,
+    }
+}
 
 /// Asks for a list, takes it in and publishes it.
 pub(crate) fn list<I: Publishing, A: Api, S: Sink>(

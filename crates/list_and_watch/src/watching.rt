@@ -5,8 +5,8 @@ ghost use Rattle.list_and_watch.specs.Given.{StaysSo};
 
 use crate::answered::piece_in;
 use crate::follower::Follower;
+use crate::listing::publish;
 use crate::owed::Owed;
-use crate::publishing::publish;
 use crate::sinks::Sink;
 use crate::tails::Tail;
 use crate::timers::Timer;
