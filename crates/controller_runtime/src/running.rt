@@ -214,7 +214,7 @@ fn with_followers<'a, R: Threads + Wait + Clock + Sync, K: Named, C: Reconciler<
     requires ready { All (IsReady C.owes C.ends K.says ground.now.board.now) made.items }
     ensures passes { All (IsNewAt ground.now.board.now) passes.new.items }
     ensures ready { IfOk result (λ m. All (IsReady C.owes C.ends K.says ground.now.board.now) m.threads.items) }
-    ensures count { IfOk result (λ m. vec_len m.threads + vec_len passes.new ≡ vec_len made + vec_len kinds) }
+    ensures count { IfOk result (λ m. vec_len m.threads + vec_len passes.new ≡ vec_len made.entry + vec_len kinds.entry) }
 {
     let (mut left, mut threads) = (kinds, made);
     let mut empty = Vec::with_capacity(ground.alloc, left.len())?;

@@ -131,7 +131,7 @@ fn add_followers<'a, R: Threads + Wait + Clock + Sync, A: Api + Drop, G: Gate>(
     requires enough { vec_len passes.old ≡ vec_len kinds + 1 }
     ensures passes { All (IsNewAt floor.now.desk.now) passes.new.items }
     ensures left { OnOk result (vec_len passes.new ≡ 1) }
-    ensures made { IfOk result (λ all. vec_len all ≡ vec_len made + vec_len kinds) }
+    ensures made { IfOk result (λ all. vec_len all ≡ vec_len made.entry + vec_len kinds.entry) }
 {
     let (mut left, mut all) = (kinds, made);
     while let Some((kind, ((informer, listers), api))) = left.pop() {
