@@ -1,12 +1,13 @@
-"""A server that refuses the first commands of the controllers, for want of memory or as conflicts: each is tried again, and what was declared is
-there all the same."""
+"""A server that refuses the first commands of the controllers, for want of memory or as conflicts, or to say what is there under one name: each is
+tried again, and what was declared is there all the same."""
 import contextlib
+import itertools
 import socket
 import time
 
 from clients import Client
-from losing import LosingProxy, whole_request
-from objects import replica_set, staying
+from losing import LosingProxy, asks, await_all, whole_request
+from objects import controller, owners, pod, replica_set, staying, uid
 from programs import Ending, control, server
 from restarting import settle
 from understanding import reply
@@ -17,39 +18,69 @@ NO_MEMORY = reply("503 Service Unavailable", b'{"kind":"Status","apiVersion":"v1
 CONFLICTS, SETS = 60, 20
 CONFLICT = reply("409 Conflict", b'{"kind":"Status","apiVersion":"v1","status":"Failure","reason":"Conflict","code":409}')
 AGAIN_AND_AGAIN = "refuses writes as conflicts again and again, as where another controller manager works"
+# What says neither what is there nor that nothing is: a refusal, a failure, and a body that is no object.
+UNSAID = [
+    reply("403 Forbidden", b'{"kind":"Status","apiVersion":"v1","status":"Failure","reason":"Forbidden","code":403}'),
+    reply("500 Internal Server Error", b'{"kind":"Status","apiVersion":"v1","status":"Failure","code":500}'),
+    reply("200 OK", b"{}"),
+]
+HELD, HELD_REPLICAS = "held", 2
 
 
 class RefusingProxy(LosingProxy):
-    """Relays connections, and answers the first so many commands by itself, all alike."""
+    """Relays connections, and answers some requests by itself."""
 
-    def __init__(self, port, refusals, answer):
-        self.refusals, self.refusal = refusals, answer
-        super().__init__(port)
-
-    def refuses(self, request):
-        """Returns whether a request is a command that is to be refused."""
-        with self.lock:
-            is_refused = self.refusals > 0 and not request.startswith(b"GET ")
-            self.refusals -= is_refused
-            return is_refused
+    def refusal(self, request):
+        """Returns what a request is answered that is to be refused, and nothing for any other."""
+        raise NotImplementedError
 
     def relay(self, taken):
         """Relays one connection, or refuses what is asked."""
         with contextlib.suppress(OSError), taken:
             if not (request := whole_request(taken)):
                 return
-            if self.refuses(request):
-                taken.sendall(self.refusal)
+            if refusal := self.refusal(request):
+                taken.sendall(refusal)
                 return taken.shutdown(socket.SHUT_WR)
             with socket.create_connection(("127.0.0.1", self.upstream)) as upstream:
                 upstream.sendall(request)
                 self.pump(upstream, taken, None)
 
 
+class CommandsRefused(RefusingProxy):
+    """Answers the first so many commands by itself, all alike."""
+
+    def __init__(self, port, refusals, answer):
+        self.refusals, self.answer_first = refusals, answer
+        super().__init__(port)
+
+    def refusal(self, request):
+        with self.lock:
+            is_refused = self.refusals > 0 and not request.startswith(b"GET ")
+            self.refusals -= is_refused
+            return self.answer_first if is_refused else None
+
+
+class ReadsRefused(RefusingProxy):
+    """Does not say what is there under the name of a set, each time otherwise, until it is told to."""
+
+    def __init__(self, port, name):
+        self.is_read = asks(b"GET ", f"/replicasets/{name} ".encode())
+        self.says, self.refused, self.unsaid = False, 0, itertools.cycle(UNSAID)
+        super().__init__(port)
+
+    def refusal(self, request):
+        with self.lock:
+            if self.says or not self.is_read(request):
+                return None
+            self.refused += 1
+            return next(self.unsaid)
+
+
 def refused_for_now(program):
     """The first commands of several workers are answered 503."""
     serving = server(program)
-    proxy = RefusingProxy(serving.port, REFUSED, NO_MEMORY)
+    proxy = CommandsRefused(serving.port, REFUSED, NO_MEMORY)
     with Ending(serving, control(program, proxy.port, WORKERS)):
         client, began = Client(serving.port), time.monotonic()
         client.create("replicasets", replica_set("web", REPLICAS))
@@ -59,10 +90,32 @@ def refused_for_now(program):
         return f"{REFUSED} commands refused for now, as declared after {time.monotonic() - began:.1f} s"
 
 
+def reads_refused(program):
+    """What is there under the name of a set is not said for as long as it takes the one worker to make and scale another set. Once it is said, the first set adopts
+    the pod that it is read for."""
+    serving = server(program)
+    proxy = ReadsRefused(serving.port, HELD)
+    with Ending(serving, control(program, proxy.port, workers=1)):
+        client, began = Client(serving.port), time.monotonic()
+        client.create("pods", pod("lone", {"set": HELD}))
+        held = uid(client.create("replicasets", replica_set(HELD, HELD_REPLICAS)))
+        until(lambda: proxy.refused >= len(UNSAID), lambda: f"{proxy.refused} live reads were refused, not {len(UNSAID)}")
+        client.create("replicasets", replica_set("web", 1))
+        await_all(client, ["web"], more=0)
+        client.patch("replicasets", "web", {"spec": {"replicas": REPLICAS}})
+        await_all(client, ["web"], more=0)
+        check(not owners(client.get("pods", "lone")), "a pod was adopted by a set that was not read")
+        refused, proxy.says = proxy.refused, True
+        until(lambda: controller(client.get("pods", "lone")) == held, "the pod was not adopted once its set could be read")
+        await_all(client, [HELD, "web"], more=0)
+        proxy.close()
+        return f"{refused} live reads refused, another set scaled meanwhile, all as declared after {time.monotonic() - began:.1f} s"
+
+
 def conflicts(program):
     """The first commands of many sets are refused as conflicts, as where another controller manager writes the same objects."""
     serving = server(program)
-    proxy = RefusingProxy(serving.port, CONFLICTS, CONFLICT)
+    proxy = CommandsRefused(serving.port, CONFLICTS, CONFLICT)
     with Ending(serving, control(program, proxy.port, WORKERS)) as running:
         client, controlling = Client(serving.port), running.programs[1]
         for number in range(SETS):

@@ -1,26 +1,43 @@
--- What is found by a live read (RFC 9110, Status Codes).
-use Rattle.std.specs.Prelude.{◌≡◌, ℕ, List, ◌&&◌, Bool, Some, Ok, option_map}
+-- What is found by a live read (RFC 9110, Status Codes), and what is made of it.
+use Rattle.std.specs.Prelude.{◌≡◌, ℕ, List, ◌&&◌, Bool, false, Some, None, Ok, is_ok, option_map, unwrap_or}
+use Rattle.std.specs.Str.{IsUtf8}
 use Rattle.http_client.specs.declared.answer.Answer as client
 use Rattle.http_client.specs.declared.answer.Answer.TheVariants as outcome
 use Rattle.spec_api.specs.declared.kinds.Kind.{Kind}
 use Rattle.spec_api.specs.Keys.{Key, is_namespace, is_subdomain}
 use Rattle.spec_api.specs.Reading.{reading}
+use Rattle.spec_sim.specs.Turns.{Turn, with_read}
 use Rattle.serde_json.specs.Read.{read}
 use Rattle.manager_worker.specs.declared.live_reads.FoundObject.{FoundObject}
 use Rattle.manager_worker.specs.declared.live_reads.FoundObject.TheVariants as found
+use Rattle.manager_worker.specs.declared.steps.Progress.{Progress}
+use Rattle.manager_worker.specs.declared.steps.Progress.TheVariants as progress
 
 -- whether an object can have this key
 abbrev pub can_be : Key → Bool
 can_be k = is_namespace k.namespace && is_subdomain k.name
 
--- the object that is there is the one of the body; that none is there only the server says
+-- whether a body is an object of a kind
+abbrev pub is_object : Kind → List ℕ → Bool
+is_object k body = unwrap_or (option_map (λ d. is_ok (reading k d)) (read body)) false
+
+-- The object that is there is the one of the body; that none is there only the server says. It is refused where the reply says neither: with another
+-- code, or with a body that is no object, or no text.
 abbrev pub Finds : Kind → ℕ → List ℕ → FoundObject → Type 0
 Finds k code body (found.Present o) = (code ≡ 200) × (option_map (reading k) (read body) ≡ Some (Ok o.value))
 Finds k code body found.Absent = code ≡ 404
-Finds k code body found.Unknown = ¬ (code ≡ 404)
+Finds k code body found.Refused = ¬ (code ≡ 404) × (code ≡ 200 → IsUtf8 body → is_object k body ≡ false)
+Finds k code body found.Unanswered = ⊥
 
--- of an object that was not asked for, or of which no whole reply came, nothing is known
+-- it is unanswered just where the request was not sent, or no whole reply came
 abbrev pub FindsOf : Kind → client.Answer → FoundObject → Type 0
 FindsOf k (outcome.Replied r) f = Finds k r.code r.body.items f
-FindsOf k outcome.NotSent f = f ≡ found.Unknown
-FindsOf k outcome.Lost f = f ≡ found.Unknown
+FindsOf k outcome.NotSent f = f ≡ found.Unanswered
+FindsOf k outcome.Lost f = f ≡ found.Unanswered
+
+-- what was found is added to a turn; one that was refused is given up, and where nobody answered the key is to be read again
+abbrev pub Adds : FoundObject → Key → Turn → Turn → Progress → Type 0
+Adds (found.Present o) k t u p = (p ≡ progress.Went) × (u ≡ with_read (record { key = k; found = Some o.value }) t)
+Adds found.Absent k t u p = (p ≡ progress.Went) × (u ≡ with_read (record { key = k; found = None }) t)
+Adds found.Refused k t u p = (p ≡ progress.GivenUp) × (u ≡ t)
+Adds found.Unanswered k t u p = (p ≡ progress.Again) × (u ≡ t)

@@ -3,3 +3,4 @@ pub mod Learning
 pub mod Finding
 pub mod Stepping
 pub mod Telling
+pub mod Ending

@@ -17,15 +17,17 @@ const OK: u16 = 200;
 /// The status code where no object is there (RFC 9110, 404 Not Found).
 const NOT_FOUND: u16 = 404;
 
-/// What a reply says of the object that was asked for.
+/// What is known of an object that was asked for.
 #[derive(Drop)]
 pub enum FoundObject {
     /// It is there.
     Present(Object),
     /// No object is there.
     Absent,
-    /// It does not say: the object is to be asked for again.
-    Unknown,
+    /// A server replied and says neither.
+    Refused,
+    /// No whole reply came.
+    Unanswered,
 }
 
 /// Returns whether an object can have a key: one whose namespace or name could name no object is not asked for.
@@ -42,12 +44,12 @@ fn object_of(alloc: Global, kind: Kind, text: &str) -> Result<FoundObject, Alloc
     let value = match Value::from_str(alloc, text) {
         Ok(value) => value,
         Err(error) if error.is_memory() => return Err(AllocError),
-        Err(_) => return Ok(FoundObject::Unknown),
+        Err(_) => return Ok(FoundObject::Refused),
     };
     match Object::from_value(alloc, kind, value) {
         Ok(object) => Ok(FoundObject::Present(object)),
         Err(Fault::NoMemory) => Err(AllocError),
-        Err(_) => Ok(FoundObject::Unknown),
+        Err(_) => Ok(FoundObject::Refused),
     }
 }
 
@@ -58,10 +60,10 @@ fn found_in_reply(alloc: Global, kind: Kind, reply: &HttpReply) -> Result<FoundO
     match reply.code {
         OK => match str::from_utf8(reply.body.as_slice()) {
             Ok(text) => object_of(alloc, kind, text),
-            Err(_) => Ok(FoundObject::Unknown),
+            Err(_) => Ok(FoundObject::Refused),
         },
         NOT_FOUND => Ok(FoundObject::Absent),
-        _ => Ok(FoundObject::Unknown),
+        _ => Ok(FoundObject::Refused),
     }
 }
 
@@ -71,7 +73,7 @@ pub fn found_in(alloc: Global, kind: Kind, answer: &Answer) -> Result<FoundObjec
 {
     match answer {
         Answer::Replied(reply) => found_in_reply(alloc, kind, reply),
-        Answer::NotSent => Ok(FoundObject::Unknown),
-        Answer::Lost => Ok(FoundObject::Unknown),
+        Answer::NotSent => Ok(FoundObject::Unanswered),
+        Answer::Lost => Ok(FoundObject::Unanswered),
     }
 }

@@ -9,6 +9,7 @@ ghost use Rattle.control_desk.specs.Calls.{IsCall, Nothing};
 ghost use Rattle.control_desk.specs.Desks.{known, key_in_hand, IsPassAt};
 ghost use Rattle.control_desk.specs.Steps.{changing, forget};
 ghost use Rattle.reconcile_turn.specs.Seen.{answer_of, answered_to, command_issued, expectation};
+ghost use Rattle.manager_worker.specs.Finding.{Adds};
 ghost use Rattle.manager_worker.specs.Stepping.{Looks, Asks, Reads, Expects, Issues, Steps};
 ghost use Rattle.manager_worker.specs.Telling.{expecting};
 
@@ -34,6 +35,8 @@ pub enum Progress {
     Went,
     /// It was not, and is to be tried again.
     Again,
+    /// It was not, and the turn is given up: a server refused a live read.
+    GivenUp,
     /// It is the end of the turn.
     AtEnd,
 }
@@ -43,6 +46,27 @@ const BAD_REQUEST: u16 = 400;
 
 /// How many milliseconds a worker that lacks memory waits before it notes an answer.
 const PAUSE_MILLISECONDS: u64 = 10;
+
+/// Adds to a turn what was found under the key that is read live next. Where a server refused to say it, the turn is given up: it may go on
+/// to refuse this key alone. Where no reply came the key is to be read again, as the server is away for all keys.
+fn add_found(turn: &mut Turn, key: &Key, found: FoundObject) -> Result<Progress, AllocError>
+    requires { next turn.old ≡ steps.read (key_of key.now) }
+    ensures ok { IfOk result (λ p. Adds found (key_of key.now) turn.old turn.new p) }
+    ensures err { OnErr result (turn.new ≡ turn.old) }
+{
+    match found {
+        FoundObject::Present(object) => {
+            turn.add_read(Some(object))?;
+            Ok(Progress::Went)
+        }
+        FoundObject::Absent => {
+            turn.add_read(None)?;
+            Ok(Progress::Went)
+        }
+        FoundObject::Refused => Ok(Progress::GivenUp),
+        FoundObject::Unanswered => Ok(Progress::Again),
+    }
+}
 
 impl<R: Wait + Clock, L: Looking + Drop, A: Api + Drop, G> Tools<'_, R, L, A, G> {
     /// Looks at what is published of a kind.
@@ -109,17 +133,8 @@ impl<R: Wait + Clock, L: Looking + Drop, A: Api + Drop, G> Tools<'_, R, L, A, G>
         ensures ok { IfOk result (λ p. Reads (key_of key.now) turn.old turn.new p) }
         ensures err { OnErr result (turn.new ≡ turn.old) }
     {
-        match self.find(key)? {
-            FoundObject::Present(object) => {
-                turn.add_read(Some(object))?;
-                Ok(Progress::Went)
-            }
-            FoundObject::Absent => {
-                turn.add_read(None)?;
-                Ok(Progress::Went)
-            }
-            FoundObject::Unknown => Ok(Progress::Again),
-        }
+        let found = self.find(key)?;
+        add_found(turn, key, found)
     }
 
     /// Expects what the plan makes of pods.
