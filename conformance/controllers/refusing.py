@@ -22,7 +22,7 @@ AGAIN_AND_AGAIN = "refuses writes as conflicts again and again, as where another
 UNSAID = [
     reply("403 Forbidden", b'{"kind":"Status","apiVersion":"v1","status":"Failure","reason":"Forbidden","code":403}'),
     reply("500 Internal Server Error", b'{"kind":"Status","apiVersion":"v1","status":"Failure","code":500}'),
-    reply("200 OK", b"{}"),
+    reply("200 OK", b"no object"),
 ]
 HELD, HELD_REPLICAS = "held", 2
 
