@@ -91,8 +91,8 @@ def refused_for_now(program):
 
 
 def reads_refused(program):
-    """What is there under the name of a set is not said for as long as it takes the one worker to make and scale another set. Once it is said, the first set adopts
-    the pod that it is read for."""
+    """What is there under the name of a set is not said while the one worker makes and scales another set. Once it is said, the first set adopts the
+    pod that it is read for."""
     serving = server(program)
     proxy = ReadsRefused(serving.port, HELD)
     with Ending(serving, control(program, proxy.port, workers=1)):
