@@ -22,7 +22,7 @@ AGAIN_AND_AGAIN = "refuses writes as conflicts again and again, as where another
 UNSAID = [
     reply("403 Forbidden", b'{"kind":"Status","apiVersion":"v1","status":"Failure","reason":"Forbidden","code":403}'),
     reply("500 Internal Server Error", b'{"kind":"Status","apiVersion":"v1","status":"Failure","code":500}'),
-    reply("200 OK", b"{}"),
+    reply("200 OK", b"no object"),
 ]
 HELD, HELD_REPLICAS = "held", 2
 
@@ -91,8 +91,8 @@ def refused_for_now(program):
 
 
 def reads_refused(program):
-    """What is there under the name of a set is not said for as long as it takes the one worker to make and scale another set. Once it is said, the first set adopts
-    the pod that it is read for."""
+    """What is there under the name of a set is not said while the one worker makes and scales another set. Once it is said, the first set adopts the
+    pod that it is read for."""
     serving = server(program)
     proxy = ReadsRefused(serving.port, HELD)
     with Ending(serving, control(program, proxy.port, workers=1)):

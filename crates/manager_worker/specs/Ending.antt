@@ -9,9 +9,9 @@ use Rattle.object_keys.specs.WorkKeys.{work_key_of}
 use Rattle.object_keys.specs.declared.work_key.WorkKey.{WorkKey}
 use Rattle.manager_worker.specs.Stepping.{Reaches, CanBeOver}
 
--- The step of the board by which the key of a turn is given back that is over before this step of it. At its end the key is done where all was
--- accepted; else it waits for its delay, and what was not done is expected no longer. At a live read, which was refused, it waits for its delay,
--- and nothing was expected yet.
+-- The step of the board that gives back the key of a turn which is over where this step of its own comes next. At the end of the turn the key is
+-- done where all was accepted; else it waits for its delay, and what was not done is expected no longer. At a live read, which was refused, it
+-- waits for its delay, and nothing is taken back.
 abbrev pub giving_back : WorkKey → NextStep → Turn → Step
 giving_back k turn.finish t = if all_accepted t.issues then finish (work_key_of k) else requeue (work_key_of k) (taken_back t)
 giving_back k s t = requeue (work_key_of k) []

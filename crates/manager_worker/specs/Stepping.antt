@@ -74,7 +74,7 @@ pub data Reaches (t : Turn) : Turn → Type 0 where
 abbrev pub CanBeOver : NextStep → Type 0
 CanBeOver s = (s ≡ finish) ⊎ ((k : Key) × (s ≡ read k))
 
--- a turn that is over is at its end, or at a live read that was refused; in one that is not, the step that comes next was taken, or nothing has changed
+-- a turn that is over is at its end, or at a live read that was refused; in one that is not, the next step was taken, or nothing has changed
 abbrev pub Advances : Turn → Turn → Bool → Type 0
 Advances t u true = CanBeOver (next t) × (u ≡ t)
 Advances t u false = ((p : Progress) × Steps t u p) ⊎ (u ≡ t)

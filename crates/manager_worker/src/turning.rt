@@ -85,8 +85,8 @@ impl<R: Wait + Clock, L: Looking + Drop, A: Api + Drop, G: Gate> Tools<'_, R, L,
         Ok(())
     }
 
-    /// Does what a step leaves to be done that was not the end of its turn, and returns whether the turn is over: after a step that is to be
-    /// tried again comes a pause, and the key of a turn that is given up is given back.
+    /// Does what is left to do after a step that was not its turn's end, and returns whether the turn is over: before a step is tried again it
+    /// pauses, and where the turn is given up it gives back its key.
     fn go_on(
         &self,
         desk: &ControlDesk,
