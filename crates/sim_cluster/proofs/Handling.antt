@@ -1,5 +1,5 @@
 -- What is handled makes no difference to what a cluster stands for.
-use Rattle.std.proofs.Common.{◌≡◌, List, drop, sym, ap, subst}
+use Rattle.std.proofs.Common.{◌≡◌, ◌∙◌, List, drop, sym, ap, subst}
 use Rattle.spec_api.specs.declared.kinds.Kind.{Kind}
 use Rattle.spec_api.specs.History.{History}
 use Rattle.spec_api.specs.Reached.{IsReached, IsTimestamp}
@@ -35,6 +35,7 @@ handled_stands w k (c, is, follows) =
       followed c k ns follows,
     )
 
--- the follower of each kind, with what is left
-pub standing_handled : (w : ClusterState) (k : Kind) (f : Follower) → f ≡ with_unhandled (drop 1 (follower k w).unhandled) (follower k w) → Stands w → Stands (with_follower k f w)
-standing_handled w k f same is = subst (λ g. Stands (with_follower k g w)) (sym same) (handled_stands w k is)
+-- the follower of a kind, with what is left
+pub standing_handled : (w : ClusterState) (k : Kind) (g f : Follower) → g ≡ follower k w → f ≡ with_unhandled (drop 1 g.unhandled) g → Stands w → Stands (with_follower k f w)
+standing_handled w k g f found left is =
+    subst (λ h. Stands (with_follower k h w)) (sym (left ∙ ap (λ (h : Follower). with_unhandled (drop 1 h.unhandled) h) found)) (handled_stands w k is)

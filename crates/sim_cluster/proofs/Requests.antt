@@ -53,10 +53,7 @@ stands_after w c q o writes_this is =
       session = subst (λ (s : SessionState). sessions.Follows s (after q c).session) (sym (same_server w.session o)) (server, is.session.1);
       journal = ap (λ j. with_write j o) is.journal ∙ ap (with_write (history c)) this;
       initial = is.initial;
-      config_maps = is.config_maps;
-      pods = is.pods;
-      replica_sets = is.replica_sets;
-      deployments = is.deployments;
+      followers = is.followers;
     }
 
 written_stands : (w : ClusterState) (o : Option Write) → IsWriteOf w.session o → Stands w → Stands (written o w)

@@ -13,27 +13,28 @@ use Rattle.spec_sim.specs.Moves as moving
 use Rattle.spec_sim.specs.Moves.{Move, replied, answers_by, move_by}
 use Rattle.sim_cluster_laws.proofs.Runs.{keeps, runs_followed}
 use Rattle.sim_cluster_laws.proofs.Serving.{servers_serve}
-use Rattle.sim_cluster.specs.Standing.{StandsFor, Stands}
+use Rattle.object_keys.specs.PerKind.{of_kind, with_kind, each_kind}
+use Rattle.object_keys.specs.declared.per_kind.PerKind.{PerKind}
+use Rattle.sim_cluster.specs.Standing.{followers_of, StandsFor, Stands}
 use Rattle.sim_cluster.specs.ClusterStates.{ClusterState, opened, answered_line, follower, with_follower, step, run}
 use Rattle.line_session.proofs.RecordedWrites.{line_recorded}
 
 -- ---- one step
 
+of_followers : (c : Cluster) (k : Kind) → of_kind k (followers_of c) ≡ clusters.follower k c
+of_followers c ConfigMap = refl
+of_followers c Pod = refl
+of_followers c ReplicaSet = refl
+of_followers c Deployment = refl
+
 pub same_follower : (w : ClusterState) (c : Cluster) → StandsFor w c → (k : Kind) → follower k w ≡ clusters.follower k c
-same_follower w c is ConfigMap = is.config_maps
-same_follower w c is Pod = is.pods
-same_follower w c is ReplicaSet = is.replica_sets
-same_follower w c is Deployment = is.deployments
+same_follower w c is k = ap (λ (fs : PerKind Follower). of_kind k fs) is.followers ∙ of_followers c k
 
 pub with_same : (w : ClusterState) (c : Cluster) (k : Kind) (f g : Follower) → StandsFor w c → f ≡ g → StandsFor (with_follower k f w) (clusters.with_follower k g c)
-with_same w c ConfigMap f g is e =
-    record { session = is.session; journal = is.journal; initial = is.initial; config_maps = e; pods = is.pods; replica_sets = is.replica_sets; deployments = is.deployments }
-with_same w c Pod f g is e =
-    record { session = is.session; journal = is.journal; initial = is.initial; config_maps = is.config_maps; pods = e; replica_sets = is.replica_sets; deployments = is.deployments }
-with_same w c ReplicaSet f g is e =
-    record { session = is.session; journal = is.journal; initial = is.initial; config_maps = is.config_maps; pods = is.pods; replica_sets = e; deployments = is.deployments }
-with_same w c Deployment f g is e =
-    record { session = is.session; journal = is.journal; initial = is.initial; config_maps = is.config_maps; pods = is.pods; replica_sets = is.replica_sets; deployments = e }
+with_same w c ConfigMap f g is e = record { session = is.session; journal = is.journal; initial = is.initial; followers = λ i. with_kind ConfigMap (e i) (is.followers i) }
+with_same w c Pod f g is e = record { session = is.session; journal = is.journal; initial = is.initial; followers = λ i. with_kind Pod (e i) (is.followers i) }
+with_same w c ReplicaSet f g is e = record { session = is.session; journal = is.journal; initial = is.initial; followers = λ i. with_kind ReplicaSet (e i) (is.followers i) }
+with_same w c Deployment f g is e = record { session = is.session; journal = is.journal; initial = is.initial; followers = λ i. with_kind Deployment (e i) (is.followers i) }
 
 same_move : (w : ClusterState) (c : Cluster) (k : Kind) (m : Move) → StandsFor w c
     → move_by k (answers_by k w.session.server) (follower k w) m ≡ moving.move k c.session.window c.session.history (clusters.follower k c) m
@@ -47,10 +48,7 @@ after_line w c l is =
       session = follows_line w.session c.session is.session l;
       journal = line_recorded w.journal w.session c.session l is.session is.journal;
       initial = is.initial;
-      config_maps = is.config_maps;
-      pods = is.pods;
-      replica_sets = is.replica_sets;
-      deployments = is.deployments;
+      followers = is.followers;
     }
 
 after_compaction : (w : ClusterState) (c : Cluster) (r : ℕ) → StandsFor w c → StandsFor (step w (compact r)).cluster (clusters.step c (compact r)).cluster
@@ -60,10 +58,7 @@ after_compaction w c r is =
       session = follows_line w.session c.session is.session (lines.compact r);
       journal = line_recorded w.journal w.session c.session (lines.compact r) is.session is.journal;
       initial = is.initial;
-      config_maps = is.config_maps;
-      pods = is.pods;
-      replica_sets = is.replica_sets;
-      deployments = is.deployments;
+      followers = is.followers;
     }
 
 pub steps_follow : (w : ClusterState) (c : Cluster) (s : ClusterStep) → StandsFor w c → StandsFor (step w s).cluster (clusters.step c s).cluster
@@ -72,15 +67,7 @@ steps_follow w c (request t) is = after_line w c (line_of t) is
 steps_follow w c (compact r) is = after_compaction w c r is
 steps_follow w c (moves k m) is = with_same w c k _ _ is (ap (λ (m : moving.Moved). m.follower) (same_move w c k m is))
 steps_follow w c restart is =
-    record {
-      session = is.session;
-      journal = is.journal;
-      initial = is.initial;
-      config_maps = ap (λ i. begun i ConfigMap) is.initial;
-      pods = ap (λ i. begun i Pod) is.initial;
-      replica_sets = ap (λ i. begun i ReplicaSet) is.initial;
-      deployments = ap (λ i. begun i Deployment) is.initial;
-    }
+    record { session = is.session; journal = is.journal; initial = is.initial; followers = ap (λ (i : InitialSync). each_kind (begun i)) is.initial }
 
 -- and the same is told of both
 pub outcomes_same : (w : ClusterState) (c : Cluster) (s : ClusterStep) → StandsFor w c → (step w s).outcome ≡ (clusters.step c s).outcome
@@ -101,7 +88,7 @@ run_stood w [] is = is
 run_stood w (s ∷ ss) is = run_stood (step w s).cluster ss (stood w s is)
 
 pub stands_for_opened : (size : ℕ) (i : InitialSync) → StandsFor (opened size i) (clusters.opened size i)
-stands_for_opened size i = record { session = sessions_follow.0 size; journal = refl; initial = refl; config_maps = refl; pods = refl; replica_sets = refl; deployments = refl }
+stands_for_opened size i = record { session = sessions_follow.0 size; journal = refl; initial = refl; followers = refl }
 
 pub stands_opened : (size : ℕ) (i : InitialSync) → Stands (opened size i)
 unfolding Stands

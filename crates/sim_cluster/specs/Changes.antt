@@ -2,6 +2,8 @@
 use Rattle.std.specs.Prelude.{drop}
 use Rattle.spec_api.specs.declared.kinds.Kind.{Kind}
 use Rattle.spec_client_go.specs.Informers.{Looks}
+use Rattle.spec_sim.specs.Followers.{Follower}
+use Rattle.reconcile_types.specs.Hands.{looks_by}
 use Rattle.sim_cluster.specs.ClusterStates.{ClusterState, follower, with_follower}
 
 -- the cluster once the oldest change of a kind was handled
@@ -10,10 +12,4 @@ without_oldest k w = with_follower k (record (follower k w) { unhandled = drop 1
 
 -- what is published of each kind
 abbrev pub looks : ClusterState → Looks
-looks w =
-    record {
-      config_maps = w.config_maps.informer.published.members;
-      pods = w.pods.informer.published.members;
-      replica_sets = w.replica_sets.informer.published.members;
-      deployments = w.deployments.informer.published.members;
-    }
+looks w = looks_by (λ (f : Follower). f.informer.published.members) w.followers

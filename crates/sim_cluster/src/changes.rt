@@ -25,12 +25,7 @@ impl Cluster {
     pub fn remove_oldest(&mut self, kind: Kind)
         ensures { self.new ≡ without_oldest kind self.old }
     {
-        match kind {
-            Kind::ConfigMap => self.config_maps.remove_oldest(),
-            Kind::Pod => self.pods.remove_oldest(),
-            Kind::ReplicaSet => self.replica_sets.remove_oldest(),
-            Kind::Deployment => self.deployments.remove_oldest(),
-        }
+        self.followers.get_mut(kind).remove_oldest();
     }
 
     /// Returns copies of what is published of each kind, which share the objects. The error is running out of memory.
@@ -38,10 +33,10 @@ impl Cluster {
         ensures { IfOk result (λ l. looks_by (λ (s : Snapshot). s.members) l ≡ looks self.now) }
     {
         Ok(PerKind {
-            config_maps: self.config_maps.published().try_copy()?,
-            pods: self.pods.published().try_copy()?,
-            replica_sets: self.replica_sets.published().try_copy()?,
-            deployments: self.deployments.published().try_copy()?,
+            config_maps: self.published(Kind::ConfigMap).try_copy()?,
+            pods: self.published(Kind::Pod).try_copy()?,
+            replica_sets: self.published(Kind::ReplicaSet).try_copy()?,
+            deployments: self.published(Kind::Deployment).try_copy()?,
         })
     }
 }

@@ -1,7 +1,12 @@
 //! A server with its journal, and what follows each kind of it: its steps, and what holds over all of them.
+ghost use Rattle.std.specs.Prelude.{◌≡◌};
+ghost use Rattle.spec_sim.specs.Followers.{begun};
+ghost use Rattle.object_keys.specs.PerKind.{each_kind};
+
 use crate::stopped::Stopped;
 use indexer::Indexed;
 use line_session::{JournalEntry, RecordedSession};
+use object_keys::PerKind;
 use sim_followers::{ClusterOutcome, SimulatedFollower};
 use sim_steps::{InitialSync, Move, Step};
 use spec_api::kinds::Kind;
@@ -13,10 +18,7 @@ use std::marker::Model;
 pub struct Cluster {
     pub(crate) recorded: RecordedSession,
     pub(crate) initial: InitialSync,
-    pub(crate) config_maps: SimulatedFollower,
-    pub(crate) pods: SimulatedFollower,
-    pub(crate) replica_sets: SimulatedFollower,
-    pub(crate) deployments: SimulatedFollower,
+    pub(crate) followers: PerKind<SimulatedFollower>,
 }
 
 impl Model for Cluster {
@@ -31,21 +33,27 @@ impl Model for Cluster {
       session = w.recorded.session;
       journal = w.recorded.journal;
       initial = w.initial;
-      config_maps = w.config_maps;
-      pods = w.pods;
-      replica_sets = w.replica_sets;
-      deployments = w.deployments;
+      followers = w.followers;
     } };
 
     ghost invariant = { λ w. Stands (record {
       session = w.recorded.session;
       journal = w.recorded.journal;
       initial = w.initial;
-      config_maps = w.config_maps;
-      pods = w.pods;
-      replica_sets = w.replica_sets;
-      deployments = w.deployments;
+      followers = w.followers;
     }) };
+}
+
+/// Returns followers, one of each kind, that have seen nothing yet, and begin so.
+fn new_followers(alloc: Global, initial: InitialSync) -> PerKind<SimulatedFollower>
+    ensures { result ≡ each_kind (begun initial) }
+{
+    PerKind {
+        config_maps: SimulatedFollower::new(alloc, Kind::ConfigMap, initial),
+        pods: SimulatedFollower::new(alloc, Kind::Pod, initial),
+        replica_sets: SimulatedFollower::new(alloc, Kind::ReplicaSet, initial),
+        deployments: SimulatedFollower::new(alloc, Kind::Deployment, initial),
+    }
 }
 
 impl Cluster {
@@ -66,10 +74,7 @@ impl Cluster {
         Ok(Cluster {
             recorded: RecordedSession::new(alloc, window)?,
             initial,
-            config_maps: SimulatedFollower::new(alloc, Kind::ConfigMap, initial),
-            pods: SimulatedFollower::new(alloc, Kind::Pod, initial),
-            replica_sets: SimulatedFollower::new(alloc, Kind::ReplicaSet, initial),
-            deployments: SimulatedFollower::new(alloc, Kind::Deployment, initial),
+            followers: new_followers(alloc, initial),
         })
     }
 
@@ -84,12 +89,7 @@ impl Cluster {
     pub(crate) fn follower(&self, kind: Kind) -> &SimulatedFollower
         ensures { result.now ≡ follower kind self.now }
     {
-        match kind {
-            Kind::ConfigMap => &self.config_maps,
-            Kind::Pod => &self.pods,
-            Kind::ReplicaSet => &self.replica_sets,
-            Kind::Deployment => &self.deployments,
-        }
+        self.followers.get(kind)
     }
 
     /// Returns what is published of a kind: the objects, and the revision at which they are the server's; at first none, and 0.
@@ -133,22 +133,14 @@ impl Cluster {
         ensures err { OnErr result (self.new ≡ self.old) }
     {
         let server = self.recorded.server();
-        match kind {
-            Kind::ConfigMap => self.config_maps.make(alloc, server, movement),
-            Kind::Pod => self.pods.make(alloc, server, movement),
-            Kind::ReplicaSet => self.replica_sets.make(alloc, server, movement),
-            Kind::Deployment => self.deployments.make(alloc, server, movement),
-        }
+        self.followers.get_mut(kind).make(alloc, server, movement)
     }
 
     /// Has all followers begin anew.
     fn restart(&mut self, alloc: Global)
         ensures { self.new ≡ with_new_followers self.old.initial self.old.session self.old.journal }
     {
-        self.config_maps = SimulatedFollower::new(alloc, Kind::ConfigMap, self.initial);
-        self.pods = SimulatedFollower::new(alloc, Kind::Pod, self.initial);
-        self.replica_sets = SimulatedFollower::new(alloc, Kind::ReplicaSet, self.initial);
-        self.deployments = SimulatedFollower::new(alloc, Kind::Deployment, self.initial);
+        self.followers = new_followers(alloc, self.initial);
     }
 
     /// Takes a step, and returns what is told of it. The error is running out of memory, and changes nothing.

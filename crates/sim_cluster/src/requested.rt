@@ -4,6 +4,7 @@ use meta::{StoredObject, Write};
 use object_keys::{Fault, Key};
 use reply::Reply;
 use request_parts::Request;
+use spec_api::kinds::Kind;
 use std::alloc::{AllocError, Global};
 
 impl Cluster {
@@ -16,16 +17,21 @@ impl Cluster {
     ghost use Rattle.meta.specs.Writes.{write_of};
     ghost use Rattle.request_parts.specs.Requests.{request_of};
     ghost use Rattle.line_session.specs.SessionStates.{accepted};
+    ghost use Rattle.sim_cluster.specs.ClusterStates.{follower};
     ghost use Rattle.sim_cluster.specs.Requested.{have_all_listed, IsWriteOf, IsRead, written};
+
+    /// Returns whether the first list of a kind was published.
+    fn has_listed(&self, kind: Kind) -> bool
+        ensures { result ≡ (follower kind self.now).has_listed }
+    {
+        self.follower(kind).has_listed()
+    }
 
     /// Returns whether the first list of each kind was published (client-go, `HasSynced`). It takes no memory.
     pub fn has_synced(&self) -> bool
         ensures { result ≡ have_all_listed self.now }
     {
-        self.config_maps.has_listed()
-            && self.pods.has_listed()
-            && self.replica_sets.has_listed()
-            && self.deployments.has_listed()
+        Kind::ALL.iter().all(|kind| self.has_listed(*kind))
     }
 
     /// Returns the object under a key at the server, if there is one. It takes no memory.

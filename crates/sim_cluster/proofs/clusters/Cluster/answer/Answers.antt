@@ -3,5 +3,5 @@ use Rattle.sim_cluster.proofs.clusters.Cluster.answer.Goals as goal
 
 pub invariant_of-self-2 : goal.invariant_of-self-2
 invariant_of-self-2 c =
-    let w = cluster_of c.self.inside.recorded c.self.inside.initial c.self.inside.config_maps c.self.inside.pods c.self.inside.replica_sets c.self.inside.deployments in
+    let w = cluster_of c.self.inside.recorded c.self.inside.initial c.self.inside.followers in
     standing_answered w c.args.text.now c.serve_text.new.self.session c.serve_text.new.self.journal c.in_ok-reply.ensures.session c.in_ok-reply.ensures.journal c.self.invariant

@@ -14,5 +14,5 @@ take-requires c =
 pub invariant_of-self : goal.invariant_of-self
 invariant_of-self c =
     let o = option_map write_of c.args.write in
-    let w = cluster_of c.self.inside.recorded c.self.inside.initial c.self.inside.config_maps c.self.inside.pods c.self.inside.replica_sets c.self.inside.deployments in
+    let w = cluster_of c.self.inside.recorded c.self.inside.initial c.self.inside.followers in
     standing_taken w o c.take.new.self c.take.result c.take.ensures.session c.take.ensures.journal c.take.ensures.err (subst (λ (z : ClusterState). IsWriteOf z.session o) (sym c.self.view_is) c.requires) c.self.invariant
