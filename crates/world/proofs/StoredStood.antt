@@ -15,6 +15,8 @@ use Rattle.spec_sim.specs.ControlPlanes.{ControlPlane, Step, in_cluster, handle,
 use Rattle.spec_sim.specs.Managers.{Manager, Action, Acted, act}
 use Rattle.spec_sim.specs.Outcomes.{of_cluster, handled, time}
 use Rattle.spec_sim.specs.PodObservations.{observations}
+use Rattle.object_keys.specs.declared.per_kind.PerKind.{PerKind}
+use Rattle.reconcile_types.specs.Hands.{looks_by}
 use Rattle.sim_worker_laws.proofs.Counting.{by_counted}
 use Rattle.sim_cluster.specs.Changes.{looks}
 use Rattle.sim_cluster.specs.ClusterStates.{ClusterState, follower}
@@ -42,13 +44,7 @@ clustered w p s is = (
 -- ---- a change is handled
 
 same_looks : (w : ClusterState) (c : Cluster) → stored.StandsFor w c → looks w ≡ clusters.looks c
-same_looks w c is =
-    λ i. record {
-      config_maps = (is.config_maps i).informer.published.members;
-      pods = (is.pods i).informer.published.members;
-      replica_sets = (is.replica_sets i).informer.published.members;
-      deployments = (is.deployments i).informer.published.members;
-    }
+same_looks w c is = ap (λ (fs : PerKind Follower). looks_by (λ (f : Follower). f.informer.published.members) fs) is.followers
 
 pub same_owed : (w : ClusterState) (c : Cluster) (n : Notification) → stored.StandsFor w c → owed w n ≡ planes.owed c n
 same_owed w c n is = ap (λ (l : Looks). keys_of (change_of n.shift) l) (same_looks w c is)
