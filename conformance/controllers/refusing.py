@@ -18,11 +18,12 @@ NO_MEMORY = reply("503 Service Unavailable", b'{"kind":"Status","apiVersion":"v1
 CONFLICTS, SETS = 60, 20
 CONFLICT = reply("409 Conflict", b'{"kind":"Status","apiVersion":"v1","status":"Failure","reason":"Conflict","code":409}')
 AGAIN_AND_AGAIN = "refuses writes as conflicts again and again, as where another controller manager works"
-# What says neither what is there nor that nothing is: a refusal, a failure, and a body that is no object.
+# What says neither what is there nor that nothing is: a refusal, a failure, a body that is no object, and an object that has not the name.
 UNSAID = [
     reply("403 Forbidden", b'{"kind":"Status","apiVersion":"v1","status":"Failure","reason":"Forbidden","code":403}'),
     reply("500 Internal Server Error", b'{"kind":"Status","apiVersion":"v1","status":"Failure","code":500}'),
     reply("200 OK", b"no object"),
+    reply("200 OK", b"{}"),
 ]
 HELD, HELD_REPLICAS = "held", 2
 

@@ -124,7 +124,7 @@ impl<R: Wait + Clock, L: Looking + Drop, A: Api + Drop, G> Tools<'_, R, L, A, G>
         }
         let request = Request::Get(key.try_copy()?);
         let answer = self.api.call(self.alloc, &request);
-        found_in(self.alloc, key.kind, &answer)
+        found_in(self.alloc, key, &answer)
     }
 
     /// Reads what is there under the key that is read live next.
