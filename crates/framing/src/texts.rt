@@ -47,7 +47,8 @@ fn object_text(alloc: Global, kind: FrameKind, object: &StoredObject) -> Result<
     ensures reads_back { IfOk result (λ t. IsWithin (record { kind = kind; object = object.now.value })
         → ReadsAs (string_bytes t) (record { kind = kind; object = object.now.value })) }
 {
-    let line = framed(alloc, kind, object.text())?;
+    let text = object.to_text(alloc)?;
+    let line = framed(alloc, kind, text.as_str())?;
     Ok(line)
 }
 

@@ -3,3 +3,4 @@ pub mod LabelTexts
 pub mod StoredTexts
 pub mod Tidied
 pub mod Tidying
+pub mod WholeTexts

@@ -2,8 +2,8 @@ pub mod Items
 pub mod Labels
 pub mod Members
 pub mod Owners
-pub mod Pieces
 pub mod Refused
 pub mod Stored
 pub mod Writes
 pub mod Events
+pub mod WholeTexts

@@ -14,11 +14,11 @@ pub mod lent_members;
 pub mod object_members;
 pub mod objects;
 pub mod owners;
-pub(crate) mod pieces;
 pub mod reading;
 pub mod schemas;
 pub mod stored;
 pub(crate) mod stored_texts;
+pub(crate) mod whole_texts;
 pub mod writes;
 
 pub use event::Event;

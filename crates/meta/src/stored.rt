@@ -63,30 +63,39 @@ impl StoredObject {
         self.kept.kind()
     }
 
-    /// Returns the object's text, with no space, which is read back as the object.
-    pub fn text(&self) -> &str
-        ensures text { result.now ≡ compact_text self.now.value }
-        ensures order { IsInOrder result.now self.now.value }
-        ensures reads_back { depth self.now.value ≤ max_depth → read result.now ≡ Some self.now.value }
+    /// Returns the object's text, with no space, which is read back as the object. It is made of what is stored. The error is running out of memory.
+    pub fn to_text(&self, alloc: Global) -> Result<String, AllocError>
+        ensures text { IfOk result (λ s. string_bytes s ≡ compact_text self.now.value) }
+        ensures order { IfOk result (λ s. IsInOrder (string_bytes s) self.now.value) }
+        ensures reads_back { IfOk result (λ s. depth self.now.value ≤ max_depth → read (string_bytes s) ≡ Some self.now.value) }
+        ensures no_float { IfOk result (λ _. has_float self.now.value ≡ false) }
+    {
+        let mut text = String::with_capacity(alloc, self.likely_len())?;
+        self.push_text(&mut text)?;
+        Ok(text)
+    }
+
+    /// Adds the object's text, as `to_text` gives it, to another. The error is running out of memory.
+    pub fn push_text(&self, text: &mut String) -> Result<(), AllocError>
+        ensures text { OnOk result (string_bytes text.new ≡ string_bytes text.old ++ compact_text self.now.value) }
+        ensures order { IsInOrder (compact_text self.now.value) self.now.value }
+        ensures reads_back { depth self.now.value ≤ max_depth
+            → read (compact_text self.now.value) ≡ Some self.now.value }
         ensures no_float { has_float self.now.value ≡ false }
     {
-        self.kept.text()
+        self.kept.push_text(text)
     }
 
-    /// Adds the object's text as an item of a list, which has no `apiVersion` and no `kind`. The error is running out of
-    /// memory.
-    pub fn push_item_text(&self, text: &mut String) -> Result<(), AllocError>
-        ensures { OnOk result (string_bytes text.new
-            ≡ string_bytes text.old ++ compact_text (as_item self.now.value)) }
-    {
-        self.kept.push_item_text(text)
+    /// Returns about how long the object's text is, a little more than less.
+    pub fn likely_len(&self) -> usize {
+        self.kept.likely_len()
     }
 
-    /// Returns how long the object's text is as an item of a list. It makes no text.
-    pub fn item_len(&self) -> usize
-        ensures { result ≡ length (compact_text (as_item self.now.value)) }
+    /// Returns the object's text as an item of a list, which has no `apiVersion` and no `kind`. It stands there in one piece.
+    pub fn item_text(&self) -> &str
+        ensures { result.now ≡ compact_text (as_item self.now.value) }
     {
-        self.kept.item_len()
+        self.kept.item()
     }
 
     /// Returns the value of a label.

@@ -12,7 +12,7 @@ ghost use Rattle.meta.specs.Stored.{IsTree, tree_view};
 
 use crate::labels::{Label, label_text, labels_in};
 use crate::objects::Object;
-use crate::pieces::{Item, pieces_len, push_pieces};
+use crate::whole_texts::WholeText;
 use json_values::values::nests_within;
 use serde_json::Value;
 use spec_api::kinds::Kind;
@@ -22,13 +22,16 @@ use std::marker::Model;
 /// How deep a text may nest that is read back.
 const GREATEST_DEPTH: u32 = 127;
 
-/// An object by its texts. A tree is stored only where the object nests too deep for its text to be read back. No object
-/// that a request brings does, since bodies nest at most 100 deep.
+/// About how much longer an object's text is than its text as an item of a list.
+const MEMBERS_LEN: usize = 48;
+
+/// An object by its texts. The text of its item stands in one piece, since long lists are made of these. A tree is stored only where the object
+/// nests too deep for its text to be read back. No object that a request brings does, since bodies nest at most 100 deep.
 #[derive(Drop)]
 pub(crate) struct StoredTexts {
     kind: Kind,
-    text: String,
-    item: Item,
+    item: String,
+    whole: WholeText,
     labels: Vec<Label>,
     tree: Option<Box<Value>>,
 }
@@ -38,15 +41,19 @@ impl Model for StoredTexts {
     ghost use Rattle.model_encodings.specs.Codes.{coded_object};
     ghost use Rattle.spec_api.specs.Objects as objects;
     ghost use Rattle.meta.specs.Stored.{Keeps, data_kept, tree_view};
+    ghost use Rattle.meta.specs.WholeTexts.{given};
 
     ghost Value = { objects.Object };
 
     ghost coded = { coded_object };
 
-    ghost view = { λ k. record { kind = k.kind; value = data_kept (option_map tree_view k.tree) (string_bytes k.text) } };
+    ghost view = { λ k. record {
+      kind = k.kind;
+      value = data_kept (option_map tree_view k.tree) (given k.kind k.whole (string_bytes k.item));
+    } };
 
-    ghost invariant = { λ k. Keeps (data_kept (option_map tree_view k.tree) (string_bytes k.text))
-        (string_bytes k.text) k.item k.labels.items };
+    ghost invariant = { λ k. Keeps (data_kept (option_map tree_view k.tree) (given k.kind k.whole (string_bytes k.item)))
+        k.kind (string_bytes k.item) k.whole k.labels.items };
 }
 
 impl StoredTexts {
@@ -54,15 +61,16 @@ impl StoredTexts {
     pub(crate) fn new(alloc: Global, object: &Object) -> Result<StoredTexts, AllocError>
         ensures { IfOk result (λ k. k ≡ object.now) }
     {
-        let text = exact_text(alloc, object)?;
-        let shown = item_text(alloc, object, text.len())?;
-        let item = Item::new(object.kind(), text.as_str(), shown);
+        let text = object.text(alloc)?;
+        let item = item_text(alloc, object, text.len())?;
+        let kind = object.kind();
+        let whole = WholeText::new(kind, text, item.as_str());
         let labels = labels_of(alloc, object)?;
         let tree = tree_of(alloc, object.value())?;
         Ok(StoredTexts {
-            kind: object.kind(),
-            text,
+            kind,
             item,
+            whole,
             labels,
             tree,
         })
@@ -75,35 +83,27 @@ impl StoredTexts {
         self.kind
     }
 
-    /// Returns the text.
-    pub(crate) fn text(&self) -> &str
-        ensures text { result.now ≡ compact_text self.now.value }
-        ensures order { IsInOrder result.now self.now.value }
-        ensures reads_back { depth self.now.value ≤ max_depth → read result.now ≡ Some self.now.value }
+    /// Adds the object's text to another. The error is running out of memory.
+    pub(crate) fn push_text(&self, text: &mut String) -> Result<(), AllocError>
+        ensures text { OnOk result (string_bytes text.new ≡ string_bytes text.old ++ compact_text self.now.value) }
+        ensures order { IsInOrder (compact_text self.now.value) self.now.value }
+        ensures reads_back { depth self.now.value ≤ max_depth
+            → read (compact_text self.now.value) ≡ Some self.now.value }
         ensures no_float { has_float self.now.value ≡ false }
     {
-        self.text.as_str()
+        self.whole.push_to(self.kind, self.item.as_str(), text)
     }
 
-    /// Adds the text as an item of a list, which has no `apiVersion` and no `kind`. The error is running out of memory.
-    pub(crate) fn push_item_text(&self, text: &mut String) -> Result<(), AllocError>
-        ensures { OnOk result (string_bytes text.new
-            ≡ string_bytes text.old ++ compact_text (as_item self.now.value)) }
-    {
-        match &self.item {
-            Item::Within(pieces) => push_pieces(self.text.as_str(), *pieces, text),
-            Item::Apart(shown) => text.push_str(shown.as_str()),
-        }
+    /// Returns about how long the object's text is.
+    pub(crate) fn likely_len(&self) -> usize {
+        self.item.len().saturating_add(MEMBERS_LEN)
     }
 
-    /// Returns how long the text is as an item of a list.
-    pub(crate) fn item_len(&self) -> usize
-        ensures { result ≡ length (compact_text (as_item self.now.value)) }
+    /// Returns the object's text as an item of a list, which has no `apiVersion` and no `kind`.
+    pub(crate) fn item(&self) -> &str
+        ensures { result.now ≡ compact_text (as_item self.now.value) }
     {
-        match &self.item {
-            Item::Within(pieces) => pieces_len(self.text.as_str(), *pieces),
-            Item::Apart(shown) => shown.len(),
-        }
+        self.item.as_str()
     }
 
     /// Returns the value of a label.
@@ -119,41 +119,31 @@ impl StoredTexts {
     {
         let value = match &self.tree {
             Some(tree) => (**tree).clone()?,
-            None => read_back(alloc, self.text.as_str())?,
+            None => self.read_back(alloc)?,
         };
         Ok(Object::from_whole(self.kind, value))
     }
-}
 
-/// Returns the value of a text. The text of each object has one, so the error is running out of memory.
-fn read_back(alloc: Global, text: &str) -> Result<Value, AllocError>
-    ensures { IfOk result (λ v. read text.now ≡ Some (view v)) }
-{
-    match Value::from_str(alloc, text) {
-        Ok(value) => Ok(value),
-        Err(_) => Err(AllocError),
+    /// Returns the value of the object's text. It has one, so the error is running out of memory.
+    fn read_back(&self, alloc: Global) -> Result<Value, AllocError>
+        ensures { IfOk result (λ v. read (compact_text self.now.value) ≡ Some (view v)) }
+    {
+        let mut text = String::with_capacity(alloc, self.likely_len())?;
+        self.push_text(&mut text)?;
+        match Value::from_str(alloc, text.as_str()) {
+            Ok(value) => Ok(value),
+            Err(_) => Err(AllocError),
+        }
     }
 }
 
-/// Returns the object's text, in no more memory than it takes.
-fn exact_text(alloc: Global, object: &Object) -> Result<String, AllocError>
-    ensures text { IfOk result (λ s. string_bytes s ≡ compact_text object.now.value) }
-    ensures order { IfOk result (λ s. IsInOrder (string_bytes s) object.now.value) }
-    ensures reads_back { IfOk result (λ s. depth object.now.value ≤ max_depth
-        → read (string_bytes s) ≡ Some object.now.value) }
-    ensures no_float { has_float object.now.value ≡ false }
-{
-    let mut text = object.text(alloc)?;
-    text.shrink_to_fit();
-    Ok(text)
-}
-
-/// Returns the object's text as an item of a list, which is about as long as this.
+/// Returns the object's text as an item of a list, in no more memory than it takes: it is about as long as this.
 fn item_text(alloc: Global, object: &Object, len: usize) -> Result<String, AllocError>
     ensures { IfOk result (λ s. string_bytes s ≡ compact_text (as_item object.now.value)) }
 {
     let mut text = String::with_capacity(alloc, len)?;
     object.push_item_text(alloc, &mut text)?;
+    text.shrink_to_fit();
     Ok(text)
 }
 

@@ -37,7 +37,7 @@ pub fn push_item(later: bool, object: &StoredObject, text: &mut String) -> Resul
     if later {
         text.push_str(",")?;
     }
-    object.push_item_text(text)
+    text.push_str(object.item_text())
 }
 
 /// Returns what comes after the items of a page of a list at a revision. Where more follows, `next` asks for it, and `remaining`

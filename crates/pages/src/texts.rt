@@ -12,7 +12,7 @@ use meta::Member;
 use spec_api::kinds::Kind;
 use std::alloc::{AllocError, Global};
 
-/// About how much longer a page with few objects is than their texts.
+/// About how much longer a page is than the texts of its items, but for what parts these.
 const PAGE_LEN: usize = 256;
 
 /// Returns the text of a page of a list at a revision. Where more follows, `next` asks for it, and `remaining` says how many
@@ -38,12 +38,13 @@ pub fn page_text(
     Ok(text)
 }
 
-/// Returns about how long the text of a page of these objects is: an item is a little shorter than its object's text, which
-/// makes up for what the page says of itself. The text grows if that does not.
+/// Returns about how long the text of a page of these objects is. The text grows if it is longer.
 fn likely_len(members: &[Member<'_>]) -> usize {
     let mut len = PAGE_LEN;
     for member in members {
-        len = len.saturating_add(member.object.text().len());
+        len = len
+            .saturating_add(member.object.item_text().len())
+            .saturating_add(1);
     }
     len
 }

@@ -53,7 +53,7 @@ fn item_len(later: bool, object: &StoredObject) -> Result<usize, AllocError>
     ensures { IfOk result (λ n. n ≡ length (json.comma_if later ++ json.compact_text (as_item object.now.value))) }
 {
     let comma_len = if later { 1 } else { 0 };
-    sum(comma_len, object.item_len())
+    sum(comma_len, object.item_text().len())
 }
 
 /// Returns the sum of two lengths. More than can be counted is more than memory holds.

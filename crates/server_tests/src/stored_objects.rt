@@ -32,7 +32,7 @@ fn deep(alloc: Global) -> Result<Value, AllocError> {
 /// Returns whether what was stored has the same text once it is opened.
 fn is_opened_again(alloc: Global, stored: &StoredObject) -> Result<bool, AllocError> {
     let object = stored.open(alloc)?;
-    Ok(object.text(alloc)?.as_str() == stored.text())
+    Ok(object.text(alloc)? == stored.to_text(alloc)?)
 }
 
 /// Returns whether an object is the same after it was stored and opened, by its text.

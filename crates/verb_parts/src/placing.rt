@@ -26,7 +26,7 @@ pub fn unchanged(
     ensures text { IfOk result (λ found. IfSome found (λ s. string_bytes s ≡ compact_text existing.now.value)) }
 {
     let text = object.text(alloc)?;
-    if text.as_str() == existing.text() {
+    if text == existing.to_text(alloc)? {
         Ok(Some(text))
     } else {
         Ok(None)

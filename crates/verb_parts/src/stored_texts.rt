@@ -15,6 +15,6 @@ pub fn stored_with_text(
     ensures text { IfOk result (λ made. string_bytes made.1 ≡ compact_text object.now.value) }
 {
     let stored = StoredObject::new(alloc, object)?;
-    let text = String::from_str(alloc, stored.text())?;
+    let text = stored.to_text(alloc)?;
     Ok((stored, text))
 }

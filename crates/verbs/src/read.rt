@@ -21,7 +21,7 @@ pub fn get(alloc: Global, store: &Store, key: &Key) -> Result<(Reply, Option<Wri
     match store.get(key) {
         None => Err(Fault::NotFound(key.try_copy()?)),
         Some(kept) => {
-            let text = String::from_str(alloc, kept.text())?;
+            let text = kept.to_text(alloc)?;
             Ok((Reply { code: 200, text }, None))
         }
     }

@@ -127,8 +127,9 @@ fn take(
 
 /// Returns whether two objects have the same key and text.
 fn is_same(alloc: Global, this: &Entry<'_>, that: &Member<'_>) -> Result<bool, AllocError> {
-    let text = this.object.text(alloc)?;
-    Ok(this.key.cmp(that.key).is_eq() && text.as_str() == that.object.text())
+    let this_text = this.object.text(alloc)?;
+    let that_text = that.object.to_text(alloc)?;
+    Ok(this.key.cmp(that.key).is_eq() && this_text == that_text)
 }
 
 /// Returns whether these objects and those are the same, key by key and text by text.
