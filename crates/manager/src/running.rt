@@ -154,7 +154,7 @@ fn members<'a, R: Threads + Wait + Clock + Sync, A: Api + Drop, G: Gate>(
 {
     let (mut passes, mut informers) = (passes, informers);
     let made = workers(floor, &mut passes, &mut informers, apis.workers)?;
-    let listers = PerKind::try_made(|_| listers_of(&mut informers))?;
+    let listers = PerKind::try_made_in_turn(|_| listers_of(&mut informers))?;
     let kinds = informers
         .zip(listers)
         .zip(apis.followers)

@@ -15,6 +15,10 @@ module _ {T : Type 0} where
   of_with_kind ReplicaSet x t = refl
   of_with_kind Deployment x t = refl
 
+-- what a call gave, under another name
+pub gave : {F A R : Type 0} (g : Mut F A R) {f f' : F} {a : A} {r s : R} → Called g f a r f' → r ≡ s → Called g f a s f'
+gave g {f} {f'} {a} called is = subst (λ x. Called g f a x f') is called
+
 module _ {F T R : Type 0} (g : Mut F (MutBor T × Unit {0}) (R × (MutBor T × Unit {0}))) where
   -- a call gives its result
   pub gives : {f f' : F} {p q : MutBor T} {r s : R} → Called g f (p, tt) (r, (q, tt)) f' → r ≡ s → GivesAtMut g p.now s q.now

@@ -33,13 +33,13 @@ EachKind P = P ConfigMap × P Pod × P ReplicaSet × P Deployment
 abbrev pub SomeKind : (Kind → Type 0) → Type 0
 SomeKind P = P ConfigMap ⊎ P Pod ⊎ P ReplicaSet ⊎ P Deployment
 
+-- what stands for each kind, in their order
+abbrev pub values : {T : Type 0} → PerKind T → List T
+values t = map (λ k. of_kind k t) kinds
+
 -- each kind with what stands for it, in their order
 abbrev pub entries : {T : Type 0} → PerKind T → List (Kind × T)
 entries t = map (λ k. (k, of_kind k t)) kinds
-
--- some call at this gives that
-abbrev pub Gives : {F A R : Type 0} → (F → A → R → F → Type 0) → A → R → Type 0
-Gives {F} step a r = (before : F) × (after : F) × step before a r after
 
 module _ {F T R : Type 0} (g : Mut F (MutBor T × Unit {0}) (R × (MutBor T × Unit {0}))) where
   -- some call at a `&mut` to x gives r, and leaves y there

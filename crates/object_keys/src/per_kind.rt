@@ -13,12 +13,12 @@ pub struct PerKind<T> {
 
 impl<T> PerKind<T> {
     ghost use Rattle.std.specs.Prelude.{◌≡◌};
-    ghost use Rattle.object_keys.specs.PerKind.{of_kind, each_kind, EachKind, Gives};
+    ghost use Rattle.object_keys.specs.PerKind.{of_kind, each_kind, EachKind};
 
     /// Returns what is made for each kind, one kind after another.
-    pub fn made<F: FnMut(Kind) -> T>(mut make: F) -> PerKind<T>
+    pub fn made<F: Fn(Kind) -> T>(make: F) -> PerKind<T>
         requires { F.IsAlwaysCallable make }
-        ensures { EachKind (λ k. Gives F.step k (of_kind k result)) }
+        ensures { EachKind (λ k. F.post make k (of_kind k result)) }
     {
         PerKind {
             config_maps: make(Kind::ConfigMap),
@@ -74,13 +74,24 @@ impl<T> PerKind<T> {
 }
 
 impl<T: Drop> PerKind<T> {
-    ghost use Rattle.std.specs.Prelude.{◌≡◌, IfOk};
-    ghost use Rattle.object_keys.specs.PerKind.{of_kind, with_kind, EachKind, Gives, GivesAtMut, MayChange, entries};
+    ghost use Rattle.std.specs.Prelude.{◌≡◌, ◌<◌, ◌++◌, IfOk, IfSome, IfNone, Ok, length, vec_len};
+    ghost use Rattle.std.specs.List.{FoldsTo};
+    ghost use Rattle.spec_api.specs.Kinds.{kinds};
+    ghost use Rattle.object_keys.specs.PerKind.{of_kind, with_kind, EachKind, GivesAtMut, MayChange, values, entries};
 
     /// Returns what is made for each kind, one kind after another, or the first error.
-    pub fn try_made<E, F: FnMut(Kind) -> Result<T, E>>(mut make: F) -> Result<PerKind<T>, E>
+    pub fn try_made<E, F: Fn(Kind) -> Result<T, E>>(make: F) -> Result<PerKind<T>, E>
         requires { F.IsAlwaysCallable make }
-        ensures { IfOk result (λ made. EachKind (λ k. Gives F.step k (Ok (of_kind k made)))) }
+        ensures { IfOk result (λ made. EachKind (λ k. F.post make k (Ok (of_kind k made)))) }
+    {
+        PerKind::try_made_in_turn(make)
+    }
+
+    /// Returns what is made for each kind, one kind after another, or the first error. What is made for a kind may change what is made for those
+    /// after it.
+    pub fn try_made_in_turn<E, F: FnMut(Kind) -> Result<T, E>>(mut make: F) -> Result<PerKind<T>, E>
+        requires { F.IsAlwaysCallable make }
+        ensures { IfOk result (λ made. (last : F) × FoldsTo (λ before entry after. F.step before entry.0 (Ok entry.1) after) make (entries made) last) }
     {
         Ok(PerKind {
             config_maps: make(Kind::ConfigMap)?,
@@ -120,6 +131,45 @@ impl<T: Drop> PerKind<T> {
         })
     }
 
+    /// Takes what stands last in a list for the kinds, in their order. Where less stands there, nothing is taken.
+    pub fn taken_from(items: &mut Vec<T>) -> Option<PerKind<T>>
+        ensures some { IfSome result (λ taken. items.old.items ≡ items.new.items ++ values taken) }
+        ensures none { IfNone result ((vec_len items.old < length kinds) × (items.new ≡ items.old)) }
+    {
+        if items.len() < Kind::ALL.len() {
+            return None;
+        }
+        let deployments = items.pop()?;
+        let replica_sets = items.pop()?;
+        let pods = items.pop()?;
+        let config_maps = items.pop()?;
+        Some(PerKind {
+            config_maps,
+            pods,
+            replica_sets,
+            deployments,
+        })
+    }
+
+    /// Returns what a call gives for what stands for each kind, one kind after another, or the first error.
+    pub fn try_map<U: Drop, E, F: Fn(T) -> Result<U, E>>(self, change: F) -> Result<PerKind<U>, E>
+        requires { EachKind (λ k. F.pre change (of_kind k self)) }
+        ensures { IfOk result (λ made. EachKind (λ k. F.post change (of_kind k self) (Ok (of_kind k made)))) }
+    {
+        let PerKind {
+            config_maps,
+            pods,
+            replica_sets,
+            deployments,
+        } = self;
+        Ok(PerKind {
+            config_maps: change(config_maps)?,
+            pods: change(pods)?,
+            replica_sets: change(replica_sets)?,
+            deployments: change(deployments)?,
+        })
+    }
+
     /// Returns each kind with what stands for it, in their order. The error is running out of memory.
     pub fn into_entries(self, alloc: Global) -> Result<Vec<(Kind, T)>, AllocError>
         ensures { IfOk result (λ v. v.items ≡ entries self) }
@@ -147,30 +197,6 @@ impl<T: Drop> PerKind<Option<T>> {
             pods: self.pods?,
             replica_sets: self.replica_sets?,
             deployments: self.deployments?,
-        })
-    }
-}
-
-impl<T: Drop, E: Drop> PerKind<Result<T, E>> {
-    ghost use Rattle.std.specs.Prelude.{◌≡◌, Ok, Err, IfOk, IfErr};
-    ghost use Rattle.object_keys.specs.PerKind.{of_kind, EachKind, SomeKind};
-
-    /// Returns what was made for each kind, or the first error.
-    pub fn all_made(self) -> Result<PerKind<T>, E>
-        ensures ok { IfOk result (λ all. EachKind (λ k. of_kind k self ≡ Ok (of_kind k all))) }
-        ensures err { IfErr result (λ error. SomeKind (λ k. of_kind k self ≡ Err error)) }
-    {
-        let PerKind {
-            config_maps,
-            pods,
-            replica_sets,
-            deployments,
-        } = self;
-        Ok(PerKind {
-            config_maps: config_maps?,
-            pods: pods?,
-            replica_sets: replica_sets?,
-            deployments: deployments?,
         })
     }
 }
