@@ -12,7 +12,7 @@ use Rattle.circular_buffer.specs.contracts.heap.HeapCircularBuffer as Ring
 use Rattle.object_keys.proofs.key.Key.TheSendSync as key
 use Rattle.meta.proofs.Kind.TheSendSync as kind
 use Rattle.meta.proofs.labels.Label.TheSendSync as label
-use Rattle.meta.proofs.pieces.Item.TheSendSync as item
+use Rattle.meta.proofs.whole_texts.WholeText.TheSendSync as whole_text
 use Rattle.meta.below.serde_json.proofs.value.Value.TheLaws.TheKnot as tree
 use Rattle.watch_cache.specs.contracts.changes.Change as Change
 use Rattle.watch_cache.specs.contracts.cache.Cache as Cache
@@ -28,7 +28,7 @@ number : IsSend (as_row u64-field)
 number = search sendable
 
 change : IsSend Change.the_row
-change = search (kind.the_field_send, kind.the_field_sync, key.the_field_send, key.the_send, label.the_send, label.the_sync, item.the_field_send, item.the_field_sync, maps.crosses, heap.crosses, tree.crosses, tree.crosses_both, sendable) depth 60 fits 20000
+change = search (kind.the_field_send, kind.the_field_sync, key.the_field_send, key.the_send, label.the_send, label.the_sync, whole_text.the_field_send, whole_text.the_field_sync, maps.crosses, heap.crosses, tree.crosses, tree.crosses_both, sendable) depth 60 fits 20000
 
 ring : IsSend (as_row (Ring.the_field Change.the_row Heap.the_row ghosts))
 ring = as_row_send (Ring.the_field Change.the_row Heap.the_row ghosts) (ring_of.the_send Change.the_row Heap.the_row ghosts change heap.send heap.frees)
@@ -49,7 +49,7 @@ caches : IsSend Caches.the_row
 caches = search (caches_inside, view_send)
 
 store : IsSend Store.the_row
-store = search (kind.the_field_send, kind.the_field_sync, key.the_field_send, key.the_send, label.the_send, label.the_sync, item.the_field_send, item.the_field_sync, maps.crosses, heap.crosses, tree.crosses, tree.crosses_both, sendable) depth 60 fits 20000
+store = search (kind.the_field_send, kind.the_field_sync, key.the_field_send, key.the_send, label.the_send, label.the_sync, whole_text.the_field_send, whole_text.the_field_sync, maps.crosses, heap.crosses, tree.crosses, tree.crosses_both, sendable) depth 60 fits 20000
 
 server_inside : IsSend ServerInside.the_row
 server_inside = declared_send ServerInside.the_type (as_row_send Store.the_field store, (as_row_send Caches.the_field caches, tt))
