@@ -33,12 +33,7 @@ pub(crate) fn show(
 fn hand(alloc: Global, key: Key) -> Hand<Indexed> {
     Hand {
         key,
-        looks: PerKind {
-            config_maps: Some(Indexed::new(alloc)),
-            pods: Some(Indexed::new(alloc)),
-            replica_sets: Some(Indexed::new(alloc)),
-            deployments: Some(Indexed::new(alloc)),
-        },
+        looks: PerKind::made(|_| Some(Indexed::new(alloc))),
         is_satisfied: true,
         reads: Vec::new(alloc),
     }

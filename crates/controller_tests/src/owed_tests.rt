@@ -10,12 +10,7 @@ use std::alloc::{AllocError, Global};
 
 /// Looks at which nothing is there.
 fn no_looks(alloc: Global) -> PerKind<Indexed> {
-    PerKind {
-        config_maps: Indexed::new(alloc),
-        pods: Indexed::new(alloc),
-        replica_sets: Indexed::new(alloc),
-        deployments: Indexed::new(alloc),
-    }
+    PerKind::made(|_| Indexed::new(alloc))
 }
 
 /// Puts `web` into a copy.

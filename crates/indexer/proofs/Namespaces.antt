@@ -1,7 +1,8 @@
 -- The objects of a namespace, kind by kind.
-use Rattle.std.proofs.Common.{◌≡◌, ◌&&◌, ◌++◌, ◌+◌, ℕ, List, [], ◌∷◌, Bool, true, false, cond, filter, flat_map, is_eq, is_le, is_lt, nat_cmp, Ordering, Less, Equal, Greater, refl, sym, ap, ◌∙◌, arith, string_bytes}
+use Rattle.std.proofs.Common.{◌≡◌, ◌&&◌, ◌++◌, ◌+◌, ◌<◌, ◌==◌, ℕ, List, [], ◌∷◌, length, Bool, true, false, cond, filter, flat_map, is_eq, is_le, is_lt, nat_cmp, Ordering, Less, Equal, Greater, refl, sym, ap, ◌∙◌, arith, string_bytes}
 use Rattle.std.proofs.lemmas.Cmp.{nat_cmp_total, nat_list_cmp_total}
 use Rattle.std.proofs.lemmas.Map.Text.{is_eq-slice_cmp}
+use Rattle.std.proofs.lemmas.Option.{slice_get_within}
 use Rattle.std.specs.List.{AllByRecursion}
 use Rattle.std.specs.List.Sorted.{IsStrictlySortedBy}
 use Rattle.std.specs.Map.{keys_of}
@@ -9,10 +10,10 @@ use Rattle.std.specs.Ordering.{ordering_then, ordering_reverse}
 use Rattle.std.specs.Str.{bytes_eq}
 use Rattle.std.specs.Cmp.Lexicographic.{slice_cmp}
 use Rattle.serde_json.specs.Data.{Data}
+use Rattle.spec_api.proofs.Truths.{left_true, right_true}
 use Rattle.spec_api.specs.History.{Entries}
-use Rattle.spec_api.specs.Kinds.{rank, kinds}
+use Rattle.spec_api.specs.Kinds.{rank, kinds, kinds_at}
 use Rattle.spec_api.specs.declared.kinds.Kind.{Kind}
-use Rattle.spec_api.specs.declared.kinds.Kind.TheVariants.{ConfigMap, Pod, ReplicaSet, Deployment}
 use Rattle.spec_api.specs.Keys.{Key as Name, key_cmp as name_cmp}
 use Rattle.spec_client_go.specs.Informers.{of_namespace}
 use Rattle.object_keys.specs.Keys.{key_of}
@@ -86,21 +87,8 @@ next_rank i n = grind arith
 next : (i : ℕ) (ns : List ℕ) (ms : Entries) → past i ns ms ≡ from (i + 1) ns ms
 next i ns ms = ap (λ t. filter t ms) (λ j. λ (m : Name × Data). next_rank i (rank m.0.kind) j && bytes_eq ns m.0.namespace)
 
-none_over : (k : Kind) → is_lt (nat_cmp 3 (rank k)) ≡ false
-none_over ConfigMap = refl
-none_over Pod = refl
-none_over ReplicaSet = refl
-none_over Deployment = refl
-
-none_left : (ns : List ℕ) (ms : Entries) → past 3 ns ms ≡ []
-none_left ns [] = refl
-none_left ns (m ∷ ms) = ap (λ b. cond (b && bytes_eq ns m.0.namespace) (m ∷ past 3 ns ms) (past 3 ns ms)) (none_over m.0.kind) ∙ none_left ns ms
-
-all_ranks : (k : Kind) → is_le (nat_cmp 0 (rank k)) ≡ true
-all_ranks ConfigMap = refl
-all_ranks Pod = refl
-all_ranks ReplicaSet = refl
-all_ranks Deployment = refl
+all_ranks : (n : ℕ) → is_le (nat_cmp 0 n) ≡ true
+all_ranks n = grind arith
 
 turned : (s t : List ℕ) → bytes_eq s t ≡ bytes_eq t s
 turned s t = sym (is_eq-slice_cmp s t) ∙ ap is_eq (nat_list_cmp_total.antisymm s t) ∙ is_eq-reverse (slice_cmp nat_cmp t s) ∙ is_eq-slice_cmp t s
@@ -108,17 +96,37 @@ turned s t = sym (is_eq-slice_cmp s t) ∙ ap is_eq (nat_list_cmp_total.antisymm
 all_from : (ns : List ℕ) (ms : Entries) → from 0 ns ms ≡ of_namespace ns ms
 all_from ns [] = refl
 all_from ns (m ∷ ms) =
-    ap (λ b. cond (b && bytes_eq ns m.0.namespace) (m ∷ from 0 ns ms) (from 0 ns ms)) (all_ranks m.0.kind) ∙ ap (λ b. cond b (m ∷ from 0 ns ms) (from 0 ns ms)) (turned ns m.0.namespace)
+    ap (λ b. cond (b && bytes_eq ns m.0.namespace) (m ∷ from 0 ns ms) (from 0 ns ms)) (all_ranks (rank m.0.kind)) ∙ ap (λ b. cond b (m ∷ from 0 ns ms) (from 0 ns ms)) (turned ns m.0.namespace)
     ∙ ap (λ l. cond (bytes_eq m.0.namespace ns) (m ∷ l) l) (all_from ns ms)
+
+-- whether kinds have ranks from this one on
+abbrev are_from : ℕ → List Kind → Bool
+are_from i [] = true
+are_from i (k ∷ ks) = (rank k == i) && are_from (i + 1) ks
+
+below : (i n : ℕ) → n < i → is_le (nat_cmp i n) ≡ false
+below i n h = grind arith
+
+none_from : (i : ℕ) (ns : List ℕ) (ms : Entries) → ((k : Kind) → rank k < i) → from i ns ms ≡ []
+none_from i ns [] all = refl
+none_from i ns (m ∷ ms) all =
+    ap (λ b. cond (b && bytes_eq ns m.0.namespace) (m ∷ from i ns ms) (from i ns ms)) (below i (rank m.0.kind) (all m.0.kind)) ∙ none_from i ns ms all
+
+same_rank : (n i : ℕ) → (n == i) ≡ true → n ≡ i
+same_rank n i h = grind arith
+
+from_kinds : (ks : List Kind) (i : ℕ) (ns : List ℕ) (ms : Entries) → are_from i ks ≡ true → ((k : Kind) → rank k < i + length ks) → IsStrictlySortedBy name_cmp (keys_of ms)
+    → of_kinds ks ns ms ≡ from i ns ms
+from_kinds [] i ns ms h all sorted = sym (none_from i ns ms (λ k. let under = all k in omega (arith, under)))
+from_kinds (k ∷ ks) i ns ms h all sorted =
+    let here : rank k ≡ i = same_rank (rank k) i (left_true (rank k == i) (are_from (i + 1) ks) h) in
+    ap (λ l. of_kind k ns ms ++ l) (from_kinds ks (i + 1) ns ms (right_true (rank k == i) (are_from (i + 1) ks) h) (λ j. let under = all j in omega (arith, under)) sorted)
+    ∙ ap (λ n. at n ns ms ++ from (i + 1) ns ms) here
+    ∙ ap (λ l. at i ns ms ++ l) (sym (next i ns ms)) ∙ sym (split i ns ms sorted)
 
 pub kinds_are_all : (ns : List ℕ) (ms : Entries) → IsStrictlySortedBy name_cmp (keys_of ms) → of_kinds kinds ns ms ≡ of_namespace ns ms
 kinds_are_all ns ms sorted =
-    ap (λ l. at 0 ns ms ++ (at 1 ns ms ++ (at 2 ns ms ++ (at 3 ns ms ++ l)))) (sym (none_left ns ms))
-    ∙ ap (λ l. at 0 ns ms ++ (at 1 ns ms ++ (at 2 ns ms ++ l))) (sym (split 3 ns ms sorted))
-    ∙ ap (λ l. at 0 ns ms ++ (at 1 ns ms ++ l)) (ap (λ l. at 2 ns ms ++ l) (sym (next 2 ns ms)) ∙ sym (split 2 ns ms sorted))
-    ∙ ap (λ l. at 0 ns ms ++ l) (ap (λ l. at 1 ns ms ++ l) (sym (next 1 ns ms)) ∙ sym (split 1 ns ms sorted))
-    ∙ ap (λ l. at 0 ns ms ++ l) (sym (next 0 ns ms)) ∙ sym (split 0 ns ms sorted)
-    ∙ all_from ns ms
+    from_kinds kinds 0 ns ms refl (λ k. slice_get_within kinds (rank k) k (kinds_at k)) sorted ∙ all_from ns ms
 
 -- ---- a range of the map
 

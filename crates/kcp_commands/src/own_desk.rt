@@ -60,14 +60,10 @@ impl<'a, R: Net<Listener = TcpListener, Stream = TcpStream> + Eprint + Wait + Cl
         pass
     }
 
-    /// Returns a way to ask, with the last of the passes. The error is running out of memory.
-    fn server(&self, passes: &mut Vec<StorePass>) -> Result<Own<'a, R>, AllocError>
-        requires new { All (IsNewAt self.now.desk.now) passes.old.items }
-        requires some { 0 < vec_len passes.old }
-        ensures left { All (IsNewAt self.now.desk.now) passes.new.items }
-        ensures count { vec_len passes.new + 1 ≡ vec_len passes.old }
+    /// Returns a way to ask, with a pass. The error is running out of memory.
+    fn server(&self, pass: StorePass) -> Result<Own<'a, R>, AllocError>
+        requires { IsNewAt self.now.desk.now pass }
     {
-        let pass = self.next_pass(passes);
         OwnServer::new(
             self.rt,
             self.alloc,
@@ -85,13 +81,10 @@ impl<'a, R: Net<Listener = TcpListener, Stream = TcpStream> + Eprint + Wait + Cl
         ensures left { All (IsNewAt self.now.desk.now) passes.new.items }
         ensures count { vec_len passes.new + 4 ≡ vec_len passes.old }
     {
-        let made = PerKind {
-            config_maps: self.server(passes),
-            pods: self.server(passes),
-            replica_sets: self.server(passes),
-            deployments: self.server(passes),
+        let Some(taken) = PerKind::taken_from(passes) else {
+            unreachable!()
         };
-        made.all_made()
+        taken.try_map(|pass| self.server(pass))
     }
 
     /// Returns ways to ask for so many workers, with the last of the passes. The error is running out of memory.
@@ -108,7 +101,8 @@ impl<'a, R: Net<Listener = TcpListener, Stream = TcpStream> + Eprint + Wait + Cl
     {
         let mut made = Vec::with_capacity(self.alloc, workers)?;
         while made.len() < workers {
-            add(&mut made, self.server(passes))?;
+            let pass = self.next_pass(passes);
+            add(&mut made, self.server(pass))?;
         }
         Ok(made)
     }

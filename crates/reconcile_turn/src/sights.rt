@@ -72,12 +72,7 @@ fn copy_of_look(sights: &[Sight], kind: Kind) -> Result<Option<Indexed>, AllocEr
 pub fn looks(sights: &[Sight]) -> Result<PerKind<Option<Indexed>>, AllocError>
     ensures { IfOk result (λ l. looks_by (members_of (λ i. i)) l ≡ looks (map sight_of sights.now)) }
 {
-    Ok(PerKind {
-        config_maps: copy_of_look(sights, Kind::ConfigMap)?,
-        pods: copy_of_look(sights, Kind::Pod)?,
-        replica_sets: copy_of_look(sights, Kind::ReplicaSet)?,
-        deployments: copy_of_look(sights, Kind::Deployment)?,
-    })
+    PerKind::try_made(|kind| copy_of_look(sights, kind))
 }
 
 /// Returns copies of sights, which share the objects. The error is running out of memory.

@@ -7,9 +7,11 @@ use Rattle.std.proofs.lemmas.Str.Ascii.{IsAscii-from_all}
 use Rattle.std.specs.List.{list_all}
 use Rattle.form_urlencoded.specs.Form.{byte_serialize, is_nonempty, separator, append_pair, extend_pairs}
 use Rattle.form_urlencoded.proofs.FormLemmas.{IsSerializedByte, All-byte_serialize}
+use Rattle.spec_api.proofs.KindOrder.{each_kind}
 use Rattle.spec_api.proofs.Truths.{and_true, both_true, left_true, right_true}
+use Rattle.spec_api.specs.declared.kinds.Group.{Group}
+use Rattle.spec_api.specs.declared.kinds.Group.TheVariants.{Core, Apps}
 use Rattle.spec_api.specs.declared.kinds.Kind.{Kind}
-use Rattle.spec_api.specs.declared.kinds.Kind.TheVariants.{ConfigMap, Pod, ReplicaSet, Deployment}
 use Rattle.spec_api.specs.Keys.{is_letter_or_digit, is_label, is_namespace}
 use Rattle.spec_api.specs.Kinds.{group, plural}
 use Rattle.spec_api.specs.Targets.{collection, collection_text, names_namespace, prefix}
@@ -76,22 +78,17 @@ namespace_plain t h =
     let ends = is_letter_or_digit (slice_index t (length t - 1)) in
     domain_plain t (right_true long names (left_true (long && names) begins (left_true (long && names && begins) ends (left_true (is_label t) (nat_le (length t) 63) h))))
 
-prefix_plain : (k : Kind) → are_plain (prefix (group k)) ≡ true
-prefix_plain ConfigMap = refl
-prefix_plain Pod = refl
-prefix_plain ReplicaSet = refl
-prefix_plain Deployment = refl
+prefix_plain : (g : Group) → are_plain (prefix g) ≡ true
+prefix_plain Core = refl
+prefix_plain Apps = refl
 
 plural_plain : (k : Kind) → are_plain (47 ∷ plural k) ≡ true
-plural_plain ConfigMap = refl
-plural_plain Pod = refl
-plural_plain ReplicaSet = refl
-plural_plain Deployment = refl
+plural_plain k = each_kind (λ j. are_plain (47 ∷ plural j)) refl k
 
 path_plain : (k : Kind) (ns : Option (List ℕ)) → names_namespace (collection k ns) ≡ true → are_plain (collection_text k ns) ≡ true
-path_plain k None named = joined (prefix (group k)) (47 ∷ plural k) (prefix_plain k) (plural_plain k)
+path_plain k None named = joined (prefix (group k)) (47 ∷ plural k) (prefix_plain (group k)) (plural_plain k)
 path_plain k (Some ns) named =
-    joined (prefix (group k)) (codes "/namespaces/" ++ (ns ++ (47 ∷ plural k))) (prefix_plain k)
+    joined (prefix (group k)) (codes "/namespaces/" ++ (ns ++ (47 ∷ plural k))) (prefix_plain (group k))
     (joined (codes "/namespaces/") (ns ++ (47 ∷ plural k)) refl (joined ns (47 ∷ plural k) (namespace_plain ns named) (plural_plain k)))
 
 -- ---- targets

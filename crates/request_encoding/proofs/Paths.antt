@@ -4,12 +4,11 @@ use Rattle.std.specs.List.{prefix_len}
 use Rattle.form_urlencoded.specs.Form.{extend_pairs}
 use Rattle.spec_api.proofs.Truths.{both_true, right_true}
 use Rattle.spec_api.specs.declared.kinds.Kind.{Kind}
-use Rattle.spec_api.specs.declared.kinds.Kind.TheVariants.{ConfigMap, Pod, ReplicaSet, Deployment}
 use Rattle.spec_api.specs.Queries.{query_of}
 use Rattle.spec_api.specs.Targets.{collection, collection_text, names_namespace, path_of, route}
 use Rattle.request_encoding.specs.Texts.{is_visible, is_of_path}
 use Rattle.request_encoding.proofs.Segments.{is_path, whole_path, no_query}
-use Rattle.request_encoding.proofs.Routed.{collection_routed, collection_clear}
+use Rattle.request_encoding.proofs.Routed.{all_routed, collection_routed, all_clear, collection_clear}
 use Rattle.request_encoding.specs.Targets.{Parameters, query_text}
 
 before_mark : (t q : List ℕ) → is_path t ≡ true → prefix_len (λ b. not (b == 63)) (t ++ 63 ∷ q) ≡ length t
@@ -40,14 +39,8 @@ query_after t (p ∷ ps) h =
 
 pub path_routed : (k : Kind) (ns : Option (List ℕ)) → names_namespace (collection k ns) ≡ true → route (collection_text k ns) ≡ Some (collection k ns)
 path_routed k (Some ns) named = collection_routed k ns named
-path_routed ConfigMap None named = refl
-path_routed Pod None named = refl
-path_routed ReplicaSet None named = refl
-path_routed Deployment None named = refl
+path_routed k None named = all_routed k
 
 pub path_clear : (k : Kind) (ns : Option (List ℕ)) → names_namespace (collection k ns) ≡ true → is_path (collection_text k ns) ≡ true
 path_clear k (Some ns) named = collection_clear k ns named
-path_clear ConfigMap None named = refl
-path_clear Pod None named = refl
-path_clear ReplicaSet None named = refl
-path_clear Deployment None named = refl
+path_clear k None named = all_clear k

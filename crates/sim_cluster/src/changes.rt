@@ -32,11 +32,6 @@ impl Cluster {
     pub fn looks(&self) -> Result<PerKind<Indexed>, AllocError>
         ensures { IfOk result (λ l. looks_by (λ (s : Snapshot). s.members) l ≡ looks self.now) }
     {
-        Ok(PerKind {
-            config_maps: self.published(Kind::ConfigMap).try_copy()?,
-            pods: self.published(Kind::Pod).try_copy()?,
-            replica_sets: self.published(Kind::ReplicaSet).try_copy()?,
-            deployments: self.published(Kind::Deployment).try_copy()?,
-        })
+        PerKind::try_made(|kind| self.published(kind).try_copy())
     }
 }

@@ -48,12 +48,7 @@ impl Model for Cluster {
 fn new_followers(alloc: Global, initial: InitialSync) -> PerKind<SimulatedFollower>
     ensures { result ≡ each_kind (begun initial) }
 {
-    PerKind {
-        config_maps: SimulatedFollower::new(alloc, Kind::ConfigMap, initial),
-        pods: SimulatedFollower::new(alloc, Kind::Pod, initial),
-        replica_sets: SimulatedFollower::new(alloc, Kind::ReplicaSet, initial),
-        deployments: SimulatedFollower::new(alloc, Kind::Deployment, initial),
-    }
+    PerKind::made(|kind| SimulatedFollower::new(alloc, kind, initial))
 }
 
 impl Cluster {
