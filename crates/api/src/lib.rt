@@ -1,4 +1,5 @@
-//! The trait `Site`, what connections ask of a server; and `serve_one`: one connection served: request read, asked, answered.
+//! The trait `Site`, what connections ask of a server; what is written for what was asked; and `serve_one`: one connection served alone, as tests
+//! do.
 //!
 //! `serve_one` has no limit of time: a peer that is silent is given up by the reader and the writer that the caller brings. Who never waits
 //! takes `respond_to`, and writes what it gives piece by piece, as `http_connection` does. `Solo` is the site of one thread, with which

@@ -17,7 +17,7 @@ use std::alloc::{AllocError, Global};
 use std::io::Write;
 
 /// How many events a look asks for at most, so that the memory that a watch takes stays bounded.
-pub(crate) const MOST_CHANGES: usize = 64;
+pub(crate) const MOST_EVENTS: usize = 64;
 
 /// Takes one look of a watch: asks what is new, and returns its frames and where the watch then stands. A refusal is its last frame;
 /// the watch then stands nowhere. The error is out of memory: the watch can only be left then, unfinished.
@@ -31,7 +31,7 @@ pub fn take_look<S: WatchSource>(
     requires idle { at.idle < most_idle }
     ensures { IsLook S.Watches (view_of view.now) bookmarks at source.old source.new result }
 {
-    match source.watch_from(alloc, view, at.revision, MOST_CHANGES) {
+    match source.watch_from(alloc, view, at.revision, MOST_EVENTS) {
         Ok(watched) => match shown(alloc, view.kind, bookmarks, at, &watched) {
             Ok(looked) => Ok(looked),
             Err(error) => Err(error),

@@ -10,7 +10,7 @@ ghost use Rattle.http_watch.specs.Opened.{IsOpened, opening_of};
 use crate::begun::Begun;
 use crate::first_frames::FirstFrames;
 use crate::frames::{idle_after, push_look};
-use crate::looking::MOST_CHANGES;
+use crate::looking::MOST_EVENTS;
 use crate::source::WatchSource;
 use crate::standing::WatchStanding;
 use http_response::watch_head;
@@ -156,7 +156,7 @@ fn open_at<S: WatchSource>(
 ) -> Result<WatchStart, Fault>
     ensures { IsOpened S.Begins S.Watches (view_of view.now) bookmarks (Start.After from) source.old source.new result }
 {
-    let watched = match source.watch_from(alloc, view, from, MOST_CHANGES) {
+    let watched = match source.watch_from(alloc, view, from, MOST_EVENTS) {
         Ok(watched) => watched,
         Err(fault) => return Err(fault),
     };

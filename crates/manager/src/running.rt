@@ -31,7 +31,7 @@ pub struct Apis<A> {
 
 /// What all threads share.
 #[derive(Drop)]
-struct Floor<'a, R, G> {
+struct Shared<'a, R, G> {
     rt: &'a R,
     alloc: Global,
     desk: &'a ControlDesk,
@@ -39,7 +39,7 @@ struct Floor<'a, R, G> {
     gate: &'a G,
 }
 
-impl<'a, R: Threads + Wait + Clock + Sync, G: Gate> Floor<'a, R, G> {
+impl<'a, R: Threads + Wait + Clock + Sync, G: Gate> Shared<'a, R, G> {
     /// Returns the last of the passes.
     fn next_pass(&self, passes: &mut Vec<WorkPass>) -> WorkPass
         requires new { All (IsNewAt self.now.desk.now) passes.old.items }
@@ -100,71 +100,71 @@ impl<'a, R: Threads + Wait + Clock + Sync, G: Gate> Floor<'a, R, G> {
 
 /// Returns the workers, one for each way to ask. The error is running out of memory.
 fn workers<'a, R: Threads + Wait + Clock + Sync, A: Api + Drop, G: Gate>(
-    floor: &Floor<'a, R, G>,
+    shared: &Shared<'a, R, G>,
     passes: &mut Vec<WorkPass>,
     informers: &mut PerKind<SharedInformer<'a, R>>,
     apis: Vec<A>,
 ) -> Result<Vec<ManagerThread<'a, R, A, G>>, AllocError>
-    requires passes { All (IsNewAt floor.now.desk.now) passes.old.items }
+    requires passes { All (IsNewAt shared.now.desk.now) passes.old.items }
     requires enough { vec_len passes.old ≡ vec_len apis + 5 }
-    ensures passes { All (IsNewAt floor.now.desk.now) passes.new.items }
+    ensures passes { All (IsNewAt shared.now.desk.now) passes.new.items }
     ensures left { OnOk result (vec_len passes.new ≡ 5) }
     ensures made { IfOk result (λ made. vec_len made ≡ vec_len apis) }
 {
-    let mut made = Vec::with_capacity(floor.alloc, apis.len())?;
+    let mut made = Vec::with_capacity(shared.alloc, apis.len())?;
     let mut left = apis;
     while let Some(api) = left.pop() {
-        let pass = floor.next_pass(passes);
-        made.push(floor.works(pass, listers_of(informers)?, api))?;
+        let pass = shared.next_pass(passes);
+        made.push(shared.works(pass, listers_of(informers)?, api))?;
     }
     Ok(made)
 }
 
 /// Adds what follows each of the kinds, with the last of the passes. The error is running out of memory.
 fn add_followers<'a, R: Threads + Wait + Clock + Sync, A: Api + Drop, G: Gate>(
-    floor: &Floor<'a, R, G>,
+    shared: &Shared<'a, R, G>,
     passes: &mut Vec<WorkPass>,
     kinds: Vec<(Kind, ((SharedInformer<'a, R>, Listers), A))>,
     made: Vec<ManagerThread<'a, R, A, G>>,
 ) -> Result<Vec<ManagerThread<'a, R, A, G>>, AllocError>
-    requires passes { All (IsNewAt floor.now.desk.now) passes.old.items }
+    requires passes { All (IsNewAt shared.now.desk.now) passes.old.items }
     requires enough { vec_len passes.old ≡ vec_len kinds + 1 }
-    ensures passes { All (IsNewAt floor.now.desk.now) passes.new.items }
+    ensures passes { All (IsNewAt shared.now.desk.now) passes.new.items }
     ensures left { OnOk result (vec_len passes.new ≡ 1) }
     ensures made { IfOk result (λ all. vec_len all ≡ vec_len made.entry + vec_len kinds.entry) }
 {
     let (mut left, mut all) = (kinds, made);
     while let Some((kind, ((informer, listers), api))) = left.pop() {
-        let pass = floor.next_pass(passes);
-        all.push(floor.follows(kind, pass, informer, listers, api))?;
+        let pass = shared.next_pass(passes);
+        all.push(shared.follows(kind, pass, informer, listers, api))?;
     }
     Ok(all)
 }
 
 /// Returns what each thread does. The error is running out of memory.
 fn members<'a, R: Threads + Wait + Clock + Sync, A: Api + Drop, G: Gate>(
-    floor: &Floor<'a, R, G>,
+    shared: &Shared<'a, R, G>,
     passes: Vec<WorkPass>,
     informers: PerKind<SharedInformer<'a, R>>,
     apis: Apis<A>,
 ) -> Result<Vec<ManagerThread<'a, R, A, G>>, AllocError>
-    requires passes { All (IsNewAt floor.now.desk.now) passes.items }
+    requires passes { All (IsNewAt shared.now.desk.now) passes.items }
     requires enough { vec_len passes ≡ vec_len apis.workers + 5 }
     ensures { IfOk result (λ made. vec_len made ≡ vec_len apis.workers + 5) }
 {
     let (mut passes, mut informers) = (passes, informers);
-    let made = workers(floor, &mut passes, &mut informers, apis.workers)?;
+    let made = workers(shared, &mut passes, &mut informers, apis.workers)?;
     let listers = PerKind::try_made_in_turn(|_| listers_of(&mut informers))?;
     let kinds = informers
         .zip(listers)
         .zip(apis.followers)
-        .into_entries(floor.alloc)?;
-    let mut made = add_followers(floor, &mut passes, kinds, made)?;
+        .into_entries(shared.alloc)?;
+    let mut made = add_followers(shared, &mut passes, kinds, made)?;
     made.push(ManagerThread::Ticks(Ticker::new(
-        floor.rt,
-        floor.desk,
-        floor.next_pass(&mut passes),
-        floor.signals,
+        shared.rt,
+        shared.desk,
+        shared.next_pass(&mut passes),
+        shared.signals,
     )))?;
     Ok(made)
 }
@@ -190,7 +190,7 @@ where
 {
     let count = apis.workers.len();
     let (desk, passes) = ControlDesk::open(alloc, count + FOLLOWERS + 1)?;
-    let floor = Floor {
+    let shared = Shared {
         rt,
         alloc,
         desk: &desk,
@@ -198,7 +198,7 @@ where
         gate,
     };
     let informers = open_informers(rt, alloc, count + FOLLOWERS)?;
-    let mut members = members(&floor, passes, informers, apis)?;
+    let mut members = members(&shared, passes, informers, apis)?;
     let threads = members.len().max(1);
     for_each_mut(
         rt,

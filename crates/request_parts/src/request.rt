@@ -10,7 +10,7 @@ use spec_api::kinds::Kind;
 pub enum Request {
     /// The object under a key.
     Get(Key),
-    /// The objects of a view.
+    /// The objects of a view, as a list that is answered at once; connections ask for lists page by page (`server::Server::page`).
     List(View),
     /// A new object of a kind in a namespace.
     Create(Kind, String, Value),

@@ -7,6 +7,8 @@ mod frames;
 #[cfg(test)]
 mod journals;
 #[cfg(test)]
+mod kinds;
+#[cfg(test)]
 mod reflectors;
 #[cfg(test)]
 mod stored_objects;

@@ -5,7 +5,7 @@ use Rattle.manager.proofs.running.workers.Given as goal
 -- a new pass is left for each worker that is to be made, and five more
 abbrev pub invariant-loop-api : goal.invariant-loop-api
 invariant-loop-api g l =
-    All (IsNewAt l.floor.desk.now) l.passes.items
+    All (IsNewAt l.shared.desk.now) l.passes.items
     × (length l.passes.items ≡ length l.left.items + 5)
     × (length l.made.items + length l.left.items ≡ length l.fn.apis.items)
 
