@@ -10,7 +10,7 @@ use Rattle.spec_api.specs.WatchReplies.{told_lines}
 use Rattle.chunked.specs.Bodies.{last_chunk}
 use Rattle.selector.specs.Views.{view_of}
 use Rattle.http_watch.specs.Looked.{StandsAt}
-use Rattle.http_watch.specs.Watches.{Look, most_changes, most_idle, idle_after, look_frames, opening_text}
+use Rattle.http_watch.specs.Watches.{Look, most_events, most_idle, idle_after, look_frames, opening_text}
 use Rattle.http_watch.specs.declared.standing.WatchStanding.{WatchStanding}
 use Rattle.http_connection.specs.declared.phase.ConnectionPhase.{ConnectionPhase}
 use Rattle.http_connection.specs.declared.phase.ConnectionPhase.TheVariants as phase
@@ -34,10 +34,10 @@ module _ {S : Type 0} (calls : S → Request → List ℕ → Outcome → S → 
 
   -- after a look that was given something
   goes_on : (read text more : List ℕ) (v : View) (b : Bool) (at next : WatchStanding) (w : Watched) (s t : S) → IsWatch calls lists begins watches read v b (Some at) text → at.idle < most_idle
-      → watches s v at.revision most_changes (Ok w) t → more ≡ look_frames v.kind b at.revision (Ok w ∷ []) → StandsAt b at (Ok w) (Ok (Some next))
+      → watches s v at.revision most_events (Ok w) t → more ≡ look_frames v.kind b at.revision (Ok w ∷ []) → StandsAt b at (Ok w) (Ok (Some next))
       → IsWatch calls lists begins watches read v b (Some next) (text ++ more)
   goes_on read text more v b at next w s t (options, asks, marks, (o, looks, (opens, made), (lasts, revision, idle), is)) short given frames stands =
-      let here = subst (λ r. watches s v r most_changes (Ok w) t) revision given in
+      let here = subst (λ r. watches s v r most_events (Ok w) t) revision given in
       let now : next.idle ≡ idles_after b o.stands o.idle (looks ++ Ok w ∷ []) =
       stands.1 ∙ ap (λ i. idle_after i (told_lines b at.revision w)) idle ∙ ap (λ r. idle_after (idles_after b o.stands o.idle looks) (told_lines b r w)) revision
       ∙ sym (idles_more b o.stands o.idle looks w) in (
@@ -55,9 +55,9 @@ module _ {S : Type 0} (calls : S → Request → List ℕ → Outcome → S → 
 
   -- after one that was refused
   is_over : (read text more : List ℕ) (v : View) (b : Bool) (at : WatchStanding) (f : Refusal) (s t : S) → IsWatch calls lists begins watches read v b (Some at) text → at.idle < most_idle
-      → watches s v at.revision most_changes (Err f) t → more ≡ look_frames v.kind b at.revision (Err f ∷ []) → IsWatch calls lists begins watches read v b None (text ++ (more ++ last_chunk))
+      → watches s v at.revision most_events (Err f) t → more ≡ look_frames v.kind b at.revision (Err f ∷ []) → IsWatch calls lists begins watches read v b None (text ++ (more ++ last_chunk))
   is_over read text more v b at f s t (options, asks, marks, (o, looks, (opens, made), (lasts, revision, idle), is)) short given frames =
-      let here = subst (λ r. watches s v r most_changes (Err f) t) revision given in
+      let here = subst (λ r. watches s v r most_events (Err f) t) revision given in
       let whole = one_more v b (opening_text v.kind o) text more o.stands at.revision looks (Err f) is frames revision in (
         options,
         asks,
@@ -128,7 +128,7 @@ module _ {S : Type 0} (calls : S → Request → List ℕ → Outcome → S → 
     before : (at : WatchStanding) → w.at ≡ Some at → IsWatch calls lists begins watches read (view_of w.view) w.bookmarks (Some at) (written ++ unwritten w)
     before at here = subst (λ a. IsWatch calls lists begins watches read (view_of w.view) w.bookmarks a (written ++ unwritten w)) here stands.0
 
-    shows_stand : (at : WatchStanding) → w.at ≡ Some at → at.idle < most_idle → (look : Look) → watches s (view_of w.view) at.revision most_changes look t → Shows w at look result
+    shows_stand : (at : WatchStanding) → w.at ≡ Some at → at.idle < most_idle → (look : Look) → watches s (view_of w.view) at.revision most_events look t → Shows w at look result
         → Stands calls lists begins watches result read written
     shows_stand at here short (Ok x) given (next, stood, adds) =
         let frames = look_frames (view_of w.view).kind w.bookmarks at.revision (Ok x ∷ []) in

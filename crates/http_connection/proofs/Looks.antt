@@ -8,11 +8,11 @@ use Rattle.spec_api.specs.Versions.{Watched}
 use Rattle.spec_api.specs.WatchReplies.{told_lines}
 use Rattle.chunked.specs.Bodies.{chunk_text}
 use Rattle.spec_http.specs.Replies.{frames_text}
-use Rattle.http_watch.specs.Watches.{Look, Ends, most_changes, most_idle, stands_after, idle_after, look_frames}
+use Rattle.http_watch.specs.Watches.{Look, Ends, most_events, most_idle, stands_after, idle_after, look_frames}
 use Rattle.http_connection.specs.Watches.{AreLooks, Lasts, revision_after, idles_after}
 
 module _ {S : Type 0} (watches : S → View → ℕ → ℕ → Look → S → Type 0) (v : View) where
-  pub looks_more : (at : ℕ) (looks : List Look) (w : Look) → AreLooks watches v at looks → ((s : S) × (t : S) × watches s v (revision_after at looks) most_changes w t)
+  pub looks_more : (at : ℕ) (looks : List Look) (w : Look) → AreLooks watches v at looks → ((s : S) × (t : S) × watches s v (revision_after at looks) most_events w t)
       → AreLooks watches v at (looks ++ w ∷ [])
   looks_more at [] w made one = (one, tt)
   looks_more at (x ∷ looks) w made one = (made.0, looks_more (stands_after at x) looks w made.1 one)

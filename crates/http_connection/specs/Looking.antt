@@ -4,7 +4,7 @@ use Rattle.chunked.specs.Bodies.{last_chunk}
 use Rattle.spec_api.specs.History.{View}
 use Rattle.selector.specs.Views.{view_of}
 use Rattle.http_watch.specs.Looked.{StandsAt}
-use Rattle.http_watch.specs.Watches.{Look, most_changes, most_idle, look_frames, ended_frames}
+use Rattle.http_watch.specs.Watches.{Look, most_events, most_idle, look_frames, ended_frames}
 use Rattle.http_watch.specs.declared.standing.WatchStanding.{WatchStanding}
 use Rattle.api.specs.declared.served.Served.TheVariants as served
 use Rattle.http_connection.specs.declared.phase.ConnectionPhase.{ConnectionPhase}
@@ -40,4 +40,4 @@ module _ {S : Type 0} (watches : S → View → ℕ → ℕ → Look → S → T
   LooksFrom None result = (t ≡ s) × (result ≡ phase.Watching w)
   LooksFrom (Some at) result =
       ((most_idle ≤ at.idle) × (t ≡ s) × Adds w last_chunk None result)
-      ⊎ ((at.idle < most_idle) × ((look : Look) × watches s (view_of w.view) at.revision most_changes look t × Shows w at look result))
+      ⊎ ((at.idle < most_idle) × ((look : Look) × watches s (view_of w.view) at.revision most_events look t × Shows w at look result))

@@ -7,7 +7,7 @@ use Rattle.spec_api.specs.Refusals.{Refusal}
 use Rattle.spec_api.specs.Targets as targets
 use Rattle.spec_api.specs.Verbs.{Outcome}
 use Rattle.spec_api.specs.Versions.{Listed}
-use Rattle.http_watch.specs.Watches.{Look, most_changes}
+use Rattle.http_watch.specs.Watches.{Look, most_events}
 use Rattle.api.specs.Responding.{Responds}
 use Rattle.api.specs.declared.response.Response.{Response}
 use Rattle.http_event_loop.specs.declared.asker.Asker.{Asker}
@@ -28,7 +28,7 @@ module _ {S : Type 0} (calls : S → Request → List ℕ → Outcome → S → 
 
   -- a watch is given a look
   abbrev pub IsLook : S → S → Type 0
-  IsLook s t = (v : View) × (at : ℕ) × (look : Look) × watches s v at most_changes look t
+  IsLook s t = (v : View) × (at : ℕ) × (look : Look) × watches s v at most_events look t
 
   -- so many looks, one after another
   abbrev pub AreLooks : ℕ → S → S → Type 0

@@ -14,7 +14,7 @@ use Rattle.http_watch.specs.declared.fault.Cut.TheVariants as cut
 use Rattle.http_watch.specs.declared.standing.WatchStanding.{WatchStanding}
 use Rattle.http_watch.specs.Looked.{Writes, LooksOnce}
 use Rattle.http_watch.specs.Served.{Follows, WritesInParts}
-use Rattle.http_watch.specs.Watches.{Look, Looks, Ends, look_frames, ended_frames, idle_after, most_changes, most_idle}
+use Rattle.http_watch.specs.Watches.{Look, Looks, Ends, look_frames, ended_frames, idle_after, most_events, most_idle}
 
 pub appends_none : (known : Option (List ℕ)) → Appends known known []
 appends_none None = tt
@@ -45,7 +45,7 @@ module _ {S D : Type 0} (watches : S → View → ℕ → ℕ → Look → S →
 
   -- one look more that was given something
   pub goes_on : (s : S) (at idle : ℕ) (t u : S) (now_at now_idle : ℕ) (before now after : device.Watched D) (w : Watched) → IsUnderWay s at idle t now_at now_idle before now
-      → watches t v now_at most_changes (Ok w) u → now_idle < most_idle
+      → watches t v now_at most_events (Ok w) u → now_idle < most_idle
       → Appends (contents (device_of now)) (contents (device_of after)) (look_frames v.kind b now_at (Ok w ∷ [])) → has_failed after ≡ false
       → IsUnderWay s at idle u w.stands (idle_after now_idle (told_lines b now_at w)) before after
   goes_on s at idle t u now_at now_idle before now after w h g lt a sound =

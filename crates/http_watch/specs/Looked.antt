@@ -8,7 +8,7 @@ use Rattle.spec_api.specs.WatchReplies.{told_lines}
 use Rattle.chunked.specs.Devices.{AppendsBeginning, device_of, has_failed}
 use Rattle.chunked.specs.declared.watched.Watched as device
 use Rattle.spec_http.specs.Replies.{frames_text}
-use Rattle.http_watch.specs.Watches.{Look, most_changes, idle_after, look_frames}
+use Rattle.http_watch.specs.Watches.{Look, most_events, idle_after, look_frames}
 use Rattle.http_watch.specs.declared.fault.Cut.{Cut}
 use Rattle.http_watch.specs.declared.fault.Cut.TheVariants as cut
 use Rattle.http_watch.specs.declared.looked.Looked.{Looked}
@@ -41,10 +41,10 @@ StandsAt bookmarks at w (Err c) = Unit {0}
 -- a look was made, and its frames were written
 abbrev pub LooksOnce : {S D : Type 0} → (S → View → ℕ → ℕ → Look → S → Type 0) → View → Bool → WatchStanding → S → S → (D → Option (List ℕ)) → device.Watched D → device.Watched D → Result (Option WatchStanding) Cut → Type 0
 LooksOnce watches v bookmarks at s t contents old new result =
-    (w : Look) × watches s v at.revision most_changes w t × Writes (look_frames v.kind bookmarks at.revision (w ∷ [])) contents old new result × StandsAt bookmarks at w result
+    (w : Look) × watches s v at.revision most_events w t × Writes (look_frames v.kind bookmarks at.revision (w ∷ [])) contents old new result × StandsAt bookmarks at w result
 
 -- a look was made, with these frames, and the watch then stands there; or out of memory
 abbrev pub IsLook : {S E : Type 0} → (S → View → ℕ → ℕ → Look → S → Type 0) → View → Bool → WatchStanding → S → S → Result Looked E → Type 0
 IsLook watches v bookmarks at s t (Ok l) =
-    (w : Look) × watches s v at.revision most_changes w t × (l.text.items ≡ look_frames v.kind bookmarks at.revision (w ∷ [])) × StandsAt bookmarks at w (Ok l.next)
-IsLook watches v bookmarks at s t (Err e) = (w : Look) × watches s v at.revision most_changes w t
+    (w : Look) × watches s v at.revision most_events w t × (l.text.items ≡ look_frames v.kind bookmarks at.revision (w ∷ [])) × StandsAt bookmarks at w (Ok l.next)
+IsLook watches v bookmarks at s t (Err e) = (w : Look) × watches s v at.revision most_events w t

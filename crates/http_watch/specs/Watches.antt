@@ -17,9 +17,9 @@ use Rattle.spec_http.specs.Replies.{watch_head, frames_text}
 abbrev pub Look : Type 0
 Look = Result Watched Refusal
 
--- how many changes a look is asked for at most, and how many looks in a row without a line end a watch
-abbrev pub most_changes : ℕ
-most_changes = 64
+-- how many events a look is asked for at most, and how many looks in a row without a line end a watch
+abbrev pub most_events : ℕ
+most_events = 64
 
 abbrev pub most_idle : ℕ
 most_idle = 1024
@@ -84,12 +84,12 @@ module _ {S : Type 0} (watches : S → View → ℕ → ℕ → Look → S → T
   -- these looks are made, each from where the watch stands after the one before it
   abbrev pub Looks : S → ℕ → List Look → S → Type 0
   Looks s at [] t = t ≡ s
-  Looks s at (w ∷ looks) t = (mid : S) × watches s v at most_changes w mid × Looks mid (stands_after at w) looks t
+  Looks s at (w ∷ looks) t = (mid : S) × watches s v at most_events w mid × Looks mid (stands_after at w) looks t
 
 module _ {S : Type 0} (begins : S → View → Option ℕ → Result Listed Refusal → S → Type 0) (watches : S → View → ℕ → ℕ → Look → S → Type 0) (v : View) (bookmarks : Bool) where
   -- a watch opens so, by how it begins, or is refused
   abbrev pub Opens : S → Start → Result Opening Refusal → S → Type 0
   Opens s start.Listed o t = (l : Result Listed Refusal) × begins s v None l t × (o ≡ result_map_both opening_with (λ f. f) l)
   Opens s (start.Streamed least) o t = (l : Result Listed Refusal) × begins s v least l t × (o ≡ result_map_both (opening_closed bookmarks) (λ f. f) l)
-  Opens s (start.After at) o t = (w : Look) × watches s v at most_changes w t × (o ≡ result_map_both (opening_at bookmarks at) (λ f. f) w)
+  Opens s (start.After at) o t = (w : Look) × watches s v at most_events w t × (o ≡ result_map_both (opening_at bookmarks at) (λ f. f) w)
   Opens s start.Present o t = (l : Result Listed Refusal) × begins s v None l t × (o ≡ result_map_both opening_after (λ f. f) l)

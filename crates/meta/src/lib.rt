@@ -2,8 +2,8 @@
 //! stored.
 //!
 //! What is read as an object has the form of its kind, and no more: `defaults` fills in what its spec leaves out, and `validate` says
-//! whether its fields are valid. A `StoredObject` is its text, which copies share: open it only to change or compare it, as `verb_update`
-//! does.
+//! whether its fields are valid. A `StoredObject` is its text as an item of a list, which copies share, and what gives its whole text
+//! by that: open it only to change or compare it, as `verb_update` does.
 #![tactic(auto)]
 
 pub mod event;

@@ -13,8 +13,8 @@ use std::alloc::{AllocError, Global};
 use std::marker::Model;
 use std::sync::Arc;
 
-/// An object as it is stored: its text, which is made once and which copies share. It is read back only to be changed or
-/// compared.
+/// An object as it is stored: its text as an item of a list, and what gives its whole text by that; both are made once, and copies share them. It
+/// is read back only to be changed or compared.
 #[derive(Drop)]
 pub struct StoredObject {
     kept: Arc<StoredTexts, Global>,
@@ -41,7 +41,7 @@ impl StoredObject {
         Ok(StoredObject { kept })
     }
 
-    /// Returns a copy of the object, which shares its text. The error is running out of memory.
+    /// Returns a copy of the object, which shares what is stored. The error is running out of memory.
     pub fn try_copy(&self) -> Result<StoredObject, AllocError>
         ensures { IfOk result (λ s. s ≡ self.now) }
     {

@@ -137,7 +137,7 @@ impl StoredTexts {
     }
 }
 
-/// Returns the object's text as an item of a list, in no more memory than it takes: it is about as long as this.
+/// Returns the object's text as an item of a list, in no more memory than it takes. The length is that of its whole text, a little more.
 fn item_text(alloc: Global, object: &Object, len: usize) -> Result<String, AllocError>
     ensures { IfOk result (λ s. string_bytes s ≡ compact_text (as_item object.now.value)) }
 {

@@ -5,8 +5,7 @@ ghost use Rattle.serde_json.specs.Written.{compact_text};
 use meta::{Object, StoredObject};
 use std::alloc::{AllocError, Global};
 
-/// Returns the object as it is to be stored, with a copy of its text for the reply. The text is made once. The error is running
-/// out of memory.
+/// Returns the object as it is to be stored, with its text for the reply, which is made of what is stored. The error is running out of memory.
 pub fn stored_with_text(
     alloc: Global,
     object: &Object,
