@@ -27,6 +27,20 @@ pub struct SceneControllers<'a, 'g, R, G> {
     gate: &'g G,
 }
 
+/// Returns how the threads that follow a kind ask, with the last of the passes. The error is that too few are left; then none is taken.
+fn followers<'a, R: Wait + Clock>(
+    scene: &Scene<'a, R>,
+    passes: &mut Vec<StorePass>,
+) -> Result<PerKind<SharedServer<'a, R>>, AllocError>
+    requires { All (IsNewAt scene.now.environment.now.desk) passes.old.items }
+    ensures { All (IsNewAt scene.now.environment.now.desk) passes.new.items }
+{
+    let Some(taken) = PerKind::taken_from(passes) else {
+        return Err(AllocError);
+    };
+    taken.try_map(|pass| Ok(SharedServer::new(scene, pass)))
+}
+
 /// Returns how the threads of controllers with so many workers ask, with the last of the passes. The error is running out of memory or of
 /// passes.
 fn apis<'a, R: Wait + Clock>(
@@ -42,12 +56,7 @@ fn apis<'a, R: Wait + Clock>(
         workers.push(SharedServer::next(scene, passes)?)?;
     }
     Ok(Apis {
-        followers: PerKind {
-            config_maps: SharedServer::next(scene, passes)?,
-            pods: SharedServer::next(scene, passes)?,
-            replica_sets: SharedServer::next(scene, passes)?,
-            deployments: SharedServer::next(scene, passes)?,
-        },
+        followers: followers(scene, passes)?,
         workers,
     })
 }
