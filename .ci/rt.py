@@ -3,8 +3,7 @@
     rt.py ci --edits-later    leaves the negative tests of must-fail to what follows (conformance/wrong_code.py), which tries them many at once
 
 `rt ci` begins with the work that has the longest chain of other work behind it, which it measures in lines. Here it is measured in the seconds
-that docs/GATE.md has of a crate, where it has some. Tests that take longest wait for nearly all else and end last: they get jobs for the
-processors that are free then.
+that docs/GATE.md has of a crate, where it has some.
 """
 import sys
 
@@ -13,8 +12,6 @@ import toolchain
 
 # What a line takes where nothing else is known, in processor seconds.
 SECONDS_OF_A_LINE = 0.15
-# From how many processor seconds on tests are proved by several jobs, and by how many.
-SECONDS_OF_LONG_TESTS, JOBS_OF_LONG_TESTS = 600, 3
 
 
 def by_seconds(in_lanes):
@@ -27,12 +24,7 @@ def by_seconds(in_lanes):
             return lines * SECONDS_OF_A_LINE
         return known[name][kind == "tests"] or lines * SECONDS_OF_A_LINE
 
-    def task(key, waits, lines, needs, call):
-        work = seconds(key, lines)
-        is_long = key[1] == "tests" and work >= SECONDS_OF_LONG_TESTS
-        return waits, work, needs, (lambda given, jobs: call(given, max(jobs, JOBS_OF_LONG_TESTS))) if is_long else call
-
-    return lambda tasks: in_lanes({key: task(key, *it) for key, it in tasks.items()})
+    return lambda tasks: in_lanes({key: (waits, seconds(key, lines), *rest) for key, (waits, lines, *rest) in tasks.items()})
 
 
 def without_edits(edits_of):

@@ -35,7 +35,7 @@ pub fn push_item(later: bool, object: &StoredObject, text: &mut String) -> Resul
         ++ (json.comma_if later ++ json.compact_text (as_item object.now.value))) }
 {
     if later {
-        text.push_str(",")?;
+        text.push(',')?;
     }
     text.push_str(object.item_text())
 }

@@ -15,6 +15,10 @@ use object_keys::Key;
 use selector::View;
 use shared_map::EntriesLeft;
 use std::alloc::{AllocError, Global};
+use std::cmp::min;
+
+/// For how many objects room is taken before any was seen.
+const LIKELY_MEMBERS: usize = 1_024;
 
 /// A chunk of what a view asks for (Kubernetes API Concepts, Retrieving large results sets in chunks).
 #[derive(Drop)]
@@ -57,6 +61,15 @@ pub(crate) fn next_member<'a>(
     None
 }
 
+/// Returns about how many objects a limit lets through: room for so many is taken at once.
+fn likely_count(limit: usize) -> usize {
+    if limit == 0 {
+        LIKELY_MEMBERS
+    } else {
+        min(limit, LIKELY_MEMBERS)
+    }
+}
+
 /// Takes the first objects that a view asks for from a range, as many as the limit says or all if it is 0, and leaves what
 /// comes after them. The error is running out of memory.
 pub(crate) fn first_members<'a>(
@@ -72,7 +85,7 @@ pub(crate) fn first_members<'a>(
     ensures all { viewed (view_of view.now) (members_seen range.old) ≡ members_seen range.old
         → viewed (view_of view.now) (members_seen range.new) ≡ members_seen range.new }
 {
-    let mut taken = Vec::new(alloc);
+    let mut taken = Vec::with_capacity(alloc, likely_count(limit))?;
     while limit == 0 || taken.len() < limit {
         match next_member(range, view) {
             Some(member) => taken.push(member)?,

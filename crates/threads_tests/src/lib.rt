@@ -1,4 +1,4 @@
-//! Tests of what threads share: batons, bells, connections that are served side by side, a board and a desk; and of the controllers in threads,
+//! Tests of what threads share: batons, bells, a board and a desk; and of the controllers in threads,
 //! with the environment that they run in: a server of the same process, gates at which a worker waits, and scenarios, which say what a client
 //! does meanwhile.
 #![tactic(auto)]
@@ -53,8 +53,6 @@ mod scenarios;
 mod scenes;
 #[cfg(test)]
 mod servers;
-#[cfg(test)]
-mod serving_tests;
 #[cfg(test)]
 mod waiting;
 #[cfg(test)]
