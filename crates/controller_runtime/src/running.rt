@@ -39,7 +39,7 @@ pub enum Ended {
 }
 
 /// How many threads there are beside the workers at most: one for each kind, the ticker, the stopper.
-pub const OTHER_THREADS: usize = 6;
+pub const OTHER_THREADS: usize = Kind::ALL.len() + 2;
 
 /// What all threads of a run share.
 #[derive(Drop)]

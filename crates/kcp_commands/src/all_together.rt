@@ -13,7 +13,7 @@ use kcp_lines::relay;
 use kcp_loopback::Reach;
 use kcp_options::AllOptions;
 use line_service::RunFault;
-use manager::Signals;
+use manager::{FOLLOWERS, Signals};
 use std::alloc::{AllocError, Global};
 use std::io::{BufRead, Write};
 use std::marker::Brand;
@@ -26,9 +26,6 @@ use std::{io, thread};
 
 /// How many threads serve connections for users at most.
 const MOST_THREADS: usize = 128;
-
-/// How many threads follow a kind.
-const FOLLOWERS: usize = 4;
 
 /// Why a server with its controllers ends before its lines do.
 #[derive(Debug, Clone, Copy, PartialEq, Eq)]

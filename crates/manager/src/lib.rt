@@ -10,4 +10,4 @@ pub mod running;
 pub mod ticking;
 
 pub use manager_worker::{Gate, Open, Signals};
-pub use running::{Apis, run};
+pub use running::{Apis, FOLLOWERS, run};

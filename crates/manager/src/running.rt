@@ -18,7 +18,7 @@ use std::thread::{Threads, for_each_mut};
 use std::time::Clock;
 
 /// How many threads look at what is published beside the workers: each that follows a kind.
-const FOLLOWERS: usize = 4;
+pub const FOLLOWERS: usize = Kind::ALL.len();
 
 /// How the threads of a manager ask its server: each asks for itself.
 #[derive(Drop)]

@@ -1,13 +1,14 @@
 //! What threads tell one another.
 ghost use Rattle.std.specs.Prelude.{◌<◌, IfSome};
 
+use spec_api::kinds::Kind;
 use std::sync::Wait;
 use std::sync::atomic::{AtomicU64, Ordering};
 use std::time::Clock;
 use wakeups::{Bell, Stop};
 
 /// How many kinds are followed.
-const KINDS: u64 = 4;
+const KINDS: u64 = Kind::ALL.len() as u64;
 
 /// How many milliseconds a thread that waits for a ring sleeps at most.
 const LONGEST_SLEEP: u64 = 1000;
