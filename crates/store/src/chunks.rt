@@ -17,7 +17,7 @@ use shared_map::EntriesLeft;
 use std::alloc::{AllocError, Global};
 use std::cmp::min;
 
-/// For how many objects room is taken before any was seen.
+/// How many objects a list has room for before any was seen: one of so many, 16 KiB of places, is not moved as it grows.
 const LIKELY_MEMBERS: usize = 1_024;
 
 /// A chunk of what a view asks for (Kubernetes API Concepts, Retrieving large results sets in chunks).
@@ -61,7 +61,7 @@ pub(crate) fn next_member<'a>(
     None
 }
 
-/// Returns about how many objects a limit lets through: room for so many is taken at once.
+/// Returns about how many objects a limit lets through. A limit may be far above what is there, so it is not believed.
 fn likely_count(limit: usize) -> usize {
     if limit == 0 {
         LIKELY_MEMBERS

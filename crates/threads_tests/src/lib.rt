@@ -1,6 +1,5 @@
-//! Tests of what threads share: batons, bells, a board and a desk; and of the controllers in threads,
-//! with the environment that they run in: a server of the same process, gates at which a worker waits, and scenarios, which say what a client
-//! does meanwhile.
+//! Tests of what threads share: batons, bells, a board and a desk; and of the controllers in threads, with the environment that they run in: a
+//! server of the same process, gates at which a worker waits, and scenarios, which say what a client does meanwhile.
 #![tactic(auto)]
 
 #[cfg(test)]
