@@ -24,7 +24,7 @@ BEGIN, END = "<!-- figures begin -->\n", "<!-- figures end -->\n"
 KINDS = ("proofs", "tests", "programs", "negative tests")
 # Those that the table of crates shows.
 SHOWN = ("proofs", "tests", "negative tests")
-# What the gate runs, in its order.
+# What the gate runs: the first, and then the others beside one another.
 STAGES = ("rt ci", "negative tests", "conformance")
 
 
@@ -85,9 +85,14 @@ def crates_table(of):
     return table(head, rows)
 
 
+def seconds_after(of):
+    """Returns how many seconds passed after the first stage."""
+    return max(of["seconds"][stage] for stage in STAGES[1:])
+
+
 def modelled(of):
     """Says how long the whole takes by the model with these processors, with four and with two."""
-    after = of["seconds"]["negative tests"] + of["seconds"]["conformance"]
+    after = seconds_after(of)
     found = {count: model.seconds_with(of["crates"], count) for count in sorted({of["processors"], 4, 2}, reverse=True)}
     said = ", ".join(f"{seconds:,.0f} seconds on {count} processors" for count, seconds in found.items())
     whole = ", ".join(f"{seconds + after:,.0f} on {count}" for count, seconds in found.items())
@@ -99,7 +104,7 @@ def text_of(of):
     chain = longest_chain(of["crates"])
     steps = ", ".join(f"`{name}` {of['crates'][name]['proofs']:,.0f}" for name in chain)
     counts = ", ".join(f"{what} {passed} passed, {failed} failed" for what, (passed, failed) in of["passed"].items())
-    whole = sum(of["seconds"].values())
+    whole = of["seconds"][STAGES[0]] + seconds_after(of)
     lines = [
         f"Commit {of['commit']}: {counts}. {whole:,.0f} seconds ({whole / 60:,.0f} minutes) on {of['processors']} processors.",
         "",

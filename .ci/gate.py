@@ -1,5 +1,5 @@
-"""Runs the gate: whether the negative tests still apply and the made documents are the present ones, `rt ci`, negative tests over the
-libraries that it built, and with the program that it built the conformance cases, one after another, whatever the others say.
+"""Runs the gate: whether the negative tests still apply and the made documents are the present ones, `rt ci`, and then beside one another
+negative tests over the libraries that it built, and with the program that it built the conformance cases, one after another, whatever the others say.
 
 It shows what they print, then what went wrong in each that failed, what took how long, what the first of them named, and whether each
 passed. The last lines name those that failed, with the last that went wrong in each, and say 'N passed, M failed'. What was printed, with
@@ -14,7 +14,9 @@ import resource
 import subprocess
 import sys
 import tempfile
+import threading
 import time
+from concurrent.futures import ThreadPoolExecutor
 
 sys.dont_write_bytecode = True
 ROOT = pathlib.Path(__file__).resolve().parent.parent
@@ -24,6 +26,8 @@ BENCHMARKS = "crates/benchmarks/out/benchmarks"
 CONTROLLER = "crates/controller_example/out/controller_example"
 # How long negative tests may take, the least and the most, and by which second they are to be over, so that what follows has its time too.
 SECONDS_FOR_NEGATIVE_TESTS, FEWEST_SECONDS, NEGATIVE_TESTS_END = 900, 120, 9000
+# The conformance cases run beside the negative tests, which get the processors only while no case wants them: so no case waits for a prover.
+LAST_OF_ALL = ["nice", "-n", "19"]
 RANDOM_HEADS = 5000
 RANDOM_BYTES = 100_000
 RANDOM_SCHEDULES = 200
@@ -38,23 +42,31 @@ import sampler
 
 
 class Run:
-    """A command, what it printed, and the second at which each line came."""
+    """A command, what it printed, and the second at which each line came. Two may run at once: then what one prints begins with its name."""
 
-    def __init__(self, words, log):
-        began, self.lines, self.status = time.monotonic(), [], 127
-        print(f"$ {' '.join(words)}", flush=True)
+    one_at_a_time = threading.Lock()
+
+    def __init__(self, words, log, name=""):
+        began, self.lines, self.status, self.name = time.monotonic(), [], 127, name
+        self.tell(f"$ {' '.join(words)}\n")
         how = {"stdin": subprocess.DEVNULL, "stdout": subprocess.PIPE, "stderr": subprocess.STDOUT, "encoding": "utf-8"}
         try:
             started = subprocess.Popen(words, cwd=ROOT, errors="replace", **how)
             for line in started.stdout:
                 second = time.monotonic() - began
-                print(line, end="", flush=True)
-                print(f"{second:7.0f}  {line}", end="", file=log, flush=True)
+                self.tell(line, f"{second:7.0f}  {self.name}{line}", log)
                 self.lines.append((second, line.rstrip("\n")))
             self.status = started.wait()
         except OSError as error:
-            print(f"{words[0]}: {error}", flush=True)
+            self.tell(f"{words[0]}: {error}\n")
         self.seconds = time.monotonic() - began
+
+    def tell(self, line, noted="", log=None):
+        """Prints a line, and notes another in the log, if one is given."""
+        with self.one_at_a_time:
+            print(f"{self.name}{line}", end="", flush=True)
+            if log:
+                print(noted, end="", file=log, flush=True)
 
     def counts(self):
         """Returns how many passed and failed by the last line that says so; where the command failed, at least one."""
@@ -201,10 +213,13 @@ def main():
         proved = Run([sys.executable, "-B", ".ci/rt.py", "ci", "--edits-later"], log)
         used = used_by_children() - before
         looking.stage = "negative tests"
-        within = seconds_for_negative_tests(time.monotonic() - began)
-        tried = Run([sys.executable, "-B", "conformance/wrong_code.py", "--within", str(within)], log)
+        within = str(seconds_for_negative_tests(time.monotonic() - began))
+        with ThreadPoolExecutor(max_workers=1) as beside:
+            words = [*LAST_OF_ALL, sys.executable, "-B", "conformance/wrong_code.py", "--within", within]
+            trying = beside.submit(Run, words, log, "negative tests: ")
+            asked = asked_of_program(log)
+            tried = trying.result()
         looking.is_ended.set()
-        asked = asked_of_program(log)
     runs = {**first, "rt ci": proved, "negative tests": tried, **asked}
     tell_wrong(runs, MOST_WRONG)
     show(room, proved, tried, asked, looking, used)
