@@ -1,0 +1,11 @@
+//! A server that is asked, and what is told of how that goes: for who runs a controller, and sees nothing of its connections.
+#![tactic(auto)]
+
+pub mod notes;
+pub(crate) mod teller;
+pub mod told;
+pub mod trouble;
+
+pub use notes::{Notes, Silent, StandardError};
+pub use told::Told;
+pub use trouble::Trouble;

@@ -1,0 +1,71 @@
+//! Who is told how it goes with a server.
+use crate::trouble::Trouble;
+use request_parts::Request;
+use spec_api::kinds::Kind;
+
+/// Is told how it goes with a server. Threads tell side by side, and wait while they do.
+pub trait Notes {
+    /// Is told what keeps the objects of a kind from coming. It is told once, until they come again or something else keeps them.
+    fn trouble(&self, kind: Kind, trouble: Trouble);
+
+    /// Is told that the objects of a kind come again.
+    fn come_again(&self, kind: Kind);
+
+    /// Is told that a request of one object was refused, with a status code and a body, which says why as a Status (Kubernetes API Concepts). It is
+    /// told of each, but of 404 and 409: that an object is gone, or is another by now, is in the nature of working by a copy.
+    fn refused(&self, request: &Request, code: u16, body: &[u8]);
+}
+
+/// Notes nothing.
+#[derive(Debug, Clone, Copy)]
+pub struct Silent;
+
+impl Notes for Silent {
+    fn trouble(&self, _kind: Kind, _trouble: Trouble) {}
+
+    fn come_again(&self, _kind: Kind) {}
+
+    fn refused(&self, _request: &Request, _code: u16, _body: &[u8]) {}
+}
+
+/// Writes a line on standard error for all that it is told, which begins with the name of the program. What cannot be written is left out.
+#[derive(Drop)]
+pub struct StandardError<'a, R> {
+    rt: &'a R,
+    program: &'a str,
+}
+
+impl<'a, R> StandardError<'a, R> {
+    /// Returns what writes for a program of this name.
+    pub fn new(rt: &'a R, program: &'a str) -> StandardError<'a, R> {
+        StandardError { rt, program }
+    }
+}
+
+/// Returns what a request does.
+fn verb(request: &Request) -> &'static str {
+    match request {
+        Request::Get(_) => "get",
+        Request::List(_) => "list",
+        Request::Create(_, _, _) => "create",
+        Request::Update(_, _) => "update",
+        Request::UpdateStatus(_, _) => "status update",
+        Request::Patch(_, _) => "patch",
+        Request::Delete(_, _) => "delete",
+    }
+}
+
+impl<R: Eprint> Notes for StandardError<'_, R> {
+    fn trouble(&self, kind: Kind, trouble: Trouble) {
+        let _ = eprintln!(self.rt; "{}: {}: {trouble}", self.program, kind.plural());
+    }
+
+    fn come_again(&self, kind: Kind) {
+        let _ = eprintln!(self.rt; "{}: {}: the server lists them again", self.program, kind.plural());
+    }
+
+    fn refused(&self, request: &Request, code: u16, body: &[u8]) {
+        let why = str::from_utf8(body).unwrap_or("");
+        let _ = eprintln!(self.rt; "{}: a {} is refused with {code}: {why}", self.program, verb(request));
+    }
+}

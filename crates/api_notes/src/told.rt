@@ -1,0 +1,84 @@
+//! A server that is asked, and told of.
+ghost use Rattle.std.specs.Prelude.{◌≡◌};
+ghost use Rattle.api_notes.specs.Told.{api_of};
+
+use crate::notes::Notes;
+use crate::teller::Teller;
+use crate::trouble::Trouble;
+use api_client::{Api, Opened};
+use http_client::{Answer, More};
+use request_parts::Request;
+use spec_api::kinds::Kind;
+use std::alloc::Global;
+use wakeups::Stop;
+
+/// A server that is asked as an API asks it, and of which is told what goes wrong: of the lists and watches of a kind what keeps them from coming,
+/// and that they come again; of requests of one object which are refused. The kind is to be one for each of these; who asks for no list has none.
+#[derive(Drop)]
+pub struct Told<'a, A: Api + Drop, N> {
+    api: A,
+    teller: Teller<'a, N>,
+}
+
+impl<'a, A: Api + Drop, N: Notes> Told<'a, A, N> {
+    /// Returns the server that an API asks. Nothing is told any more once a stop is asked for.
+    pub fn new(api: A, notes: &'a N, stop: &'a Stop) -> Told<'a, A, N>
+        ensures { api_of result ≡ api }
+    {
+        Told {
+            api,
+            teller: Teller::new(notes, stop),
+        }
+    }
+}
+
+impl<A: Api + Drop, N: Notes> Api for Told<'_, A, N> {
+    ghost answers = { λ before request answer after. A.answers (api_of before) request answer (api_of after) };
+
+    ghost lists = { λ before kind answer after. A.lists (api_of before) kind answer (api_of after) };
+
+    fn call(&mut self, alloc: Global, request: &Request) -> Answer {
+        let answer = self.api.call(alloc, request);
+        self.teller.note_called(request, &answer);
+        answer
+    }
+
+    fn list(&mut self, alloc: Global, kind: Kind) -> Answer {
+        let answer = self.api.list(alloc, kind);
+        self.teller.note_listed(kind, &answer);
+        answer
+    }
+
+    fn first_at(&mut self, alloc: Global, kind: Kind, revision: u64) -> Answer {
+        let answer = self.api.first_at(alloc, kind, revision);
+        let has_replied = matches!(answer, Answer::Replied(_));
+        self.teller.note_asked(kind, has_replied);
+        answer
+    }
+
+    fn open_watch(&mut self, alloc: Global, kind: Kind, revision: u64) -> Opened {
+        let opened = self.api.open_watch(alloc, kind, revision);
+        self.teller.note_watched(kind, opened);
+        opened
+    }
+
+    fn open_stream(&mut self, alloc: Global, kind: Kind) -> Opened {
+        let opened = self.api.open_stream(alloc, kind);
+        self.teller.note_asked(kind, opened != Opened::Lost);
+        opened
+    }
+
+    fn more(&mut self, buf: &mut [u8]) -> More {
+        self.api.more(buf)
+    }
+
+    fn note_understood(&mut self) {
+        self.teller.note_understood();
+        self.api.note_understood();
+    }
+
+    fn note_not_understood(&mut self, bytes: &[u8]) {
+        self.teller.note(Trouble::NotUnderstood);
+        self.api.note_not_understood(bytes);
+    }
+}

@@ -1,0 +1,16 @@
+//! What keeps objects from coming.
+use thiserror::Error;
+
+/// What keeps the objects of a kind from being listed or watched.
+#[derive(Debug, Clone, Copy, PartialEq, Eq, Error)]
+pub enum Trouble {
+    /// No connection comes about, or it ends before a reply is whole.
+    #[error("the server does not reply")]
+    NoReply,
+    /// Lists or watches are refused with this status code (RFC 9110, Status Codes).
+    #[error("the server answers {0}")]
+    Refused(u16),
+    /// What comes in the place of a list, or of frames of a watch, is none.
+    #[error("what the server sends is not understood")]
+    NotUnderstood,
+}
