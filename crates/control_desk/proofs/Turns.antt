@@ -11,7 +11,8 @@ use Rattle.spec_client_go.specs.Boards.{Board, Observation, begun, taken}
 use Rattle.spec_client_go.specs.WorkQueues as queues
 use Rattle.spec_client_go.specs.WorkQueues.{WorkKey, work_key_cmp, WorkQueue, got, got_from, handed, front}
 use Rattle.spec_client_go.proofs.WorkKeyOrder.{work_key_total, work_key_tells}
-use Rattle.control_desk.specs.Calls.{IsCall, HasTaken, after_give}
+use Rattle.baton.proofs.Entries.{happens}
+use Rattle.control_desk.specs.Calls.{IsCall, HasTaken, CallsCanHappen, after_give}
 use Rattle.control_desk.specs.Hands.{board, IsBegun, MayFollow}
 use Rattle.control_desk.specs.Steps.{Step, take, finish, requeue, after, after_steps, is_same, changing, taking, taking_of, in_hand, in_hand_after, IsAllowed}
 use Rattle.spec_client_go.proofs.KeysInHands.{same_itself}
@@ -141,6 +142,12 @@ calls v w x change Says t says is = record {
   knows = is ∙ (λ i. after_give (t.same i) (change (board w.seen)))
       ∙ (λ i. record v { seen = w.seen ++ marked v.name (change (board w.seen)); made = v.made ++ entries (marked v.name (change (board w.seen))); holds = sym t.free i });
 }
+
+-- what a pass has seen after a call
+pub calls_happen : CallsCanHappen
+calls_happen v w h change can made allowed is =
+    let may : IfSome change (λ e. MayFollow h v.name e) = subst (λ (m : List Step). IfSome change (λ e. (after (board h) e ≢ board h) × IsAllowed (in_hand m) (board h) e)) (sym made) allowed in
+    subst (λ (g : List (ℕ × Step)). CanHappen MayFollow g) (sym (ap (λ z. z.seen) is)) (happens MayFollow h v.name change can may)
 
 -- two passes that met hold no key both
 pub meet_apart : (v w : Known Board Step) → Met IsBegun after_steps MayFollow v w → (k : WorkKey) → in_hand v.made ≡ Some k → in_hand w.made ≢ Some k

@@ -1,9 +1,9 @@
 -- What a call of a desk of work means to the pass that makes it.
-use Rattle.std.specs.Prelude.{◌≡◌, ℕ, List, ◌++◌, Option, None, true, false, Result, Ok, Err}
+use Rattle.std.specs.Prelude.{◌≡◌, ◌≢◌, ℕ, List, ◌++◌, Option, None, IfSome, true, false, Result, Ok, Err}
 use Rattle.baton.specs.Marks.{StartsWith, entries, made_by, marked, CanHappen}
 use Rattle.baton.specs.declared.views.Known.{Known}
 use Rattle.spec_client_go.specs.Boards.{Board}
-use Rattle.control_desk.specs.Steps.{Step}
+use Rattle.control_desk.specs.Steps.{Step, after, in_hand, IsAllowed}
 use Rattle.control_desk.specs.Hands.{board, MayFollow}
 
 -- what a pass knows once it has seen a history, and added this step to it
@@ -41,3 +41,11 @@ pub record HasTaken (v w : Known Board Step) : Type 0 where
   pub happened : CanHappen MayFollow w.seen
   pub same : w ≡ record v { seen = w.seen; holds = true }
   pub free : v.holds ≡ false
+
+-- what a pass has seen that adds to a history the step of a call, which changes the board and is allowed to the pass, is again a history of what may
+-- happen
+abbrev pub CallsCanHappen : Type 0
+CallsCanHappen =
+    (v w : Known Board Step) (h : List (ℕ × Step)) (change : Option Step) → CanHappen MayFollow h → made_by v.name h ≡ v.made
+    → IfSome change (λ e. (after (board h) e ≢ board h) × IsAllowed (in_hand v.made) (board h) e)
+    → w ≡ having_seen v h change → CanHappen MayFollow w.seen

@@ -1,15 +1,16 @@
 -- The steps of a pass.
 use Rattle.std.proofs.Common.{◌≡◌, ℕ, List, ◌++◌, sym, ap, ◌∙◌, subst, true, false}
-use Rattle.std.specs.Prelude.{Option, Some}
+use Rattle.std.specs.Prelude.{Option, Some, IfSome}
 use Rattle.baton.specs.Marks.{StartsWith, entries, made_by, marked}
 use Rattle.baton.specs.Passes.{Taken}
+use Rattle.baton.proofs.Entries.{happens}
 use Rattle.baton.specs.declared.views.Known.{Known}
 use Rattle.baton.specs.declared.views.PassView as views
 use Rattle.spec_api.specs.History.{History, Entry}
 use Rattle.spec_api.specs.ObjectRequests.{Request}
 use Rattle.spec_server.specs.Servers.{Server, opened_server, after_entries}
 use Rattle.desk.specs.Histories.{IsOpening, MayFollow, HasCome}
-use Rattle.desk.specs.Steps.{Step, HasTaken, having_seen, after_give}
+use Rattle.desk.specs.Steps.{Step, HasTaken, StepsHaveCome, having_seen, after_give}
 
 -- a take, what is said at the history that it shows, and a give are a step
 pub steps : (may_ask : Request → Type 0) (v w x : Known Server Entry) (change : History → Option Entry) (Says : History → Type 0) → HasTaken may_ask v w → Says (entries w.seen)
@@ -22,6 +23,11 @@ steps may_ask v w x change Says t says is = record {
   says = says;
   knows = is ∙ (λ i. after_give (t.same i) (change (entries w.seen))) ∙ (λ i. record v { seen = w.seen ++ marked v.name (change (entries w.seen)); made = v.made ++ entries (marked v.name (change (entries w.seen))); holds = sym t.free i });
 }
+
+-- what a pass has seen after a step
+pub steps_come : (may_ask : Request → Type 0) → StepsHaveCome may_ask
+steps_come may_ask v w h change came comes is =
+    subst (λ (g : List (ℕ × Entry)). HasCome may_ask g) (sym (ap (λ z. z.seen) is)) (happens (MayFollow may_ask) h v.name change came comes)
 
 -- at the same history more may be said, and the entry be named in other words
 pub restated : (may_ask : Request → Type 0) (v w : Known Server Entry) (change other : History → Option Entry) (Says More : History → Type 0) (s : Step may_ask v change Says w) → other (entries s.history) ≡ change (entries s.history)

@@ -1,11 +1,11 @@
 -- What a call of a desk means to the pass that makes it.
-use Rattle.std.specs.Prelude.{◌≡◌, ℕ, List, ◌++◌, Option, true, false}
+use Rattle.std.specs.Prelude.{◌≡◌, ℕ, List, ◌++◌, Option, IfSome, true, false}
 use Rattle.baton.specs.Marks.{StartsWith, entries, made_by, marked}
 use Rattle.baton.specs.declared.views.Known.{Known}
 use Rattle.spec_api.specs.History.{History, Entry}
 use Rattle.spec_api.specs.ObjectRequests.{Request}
 use Rattle.spec_server.specs.Servers.{Server}
-use Rattle.desk.specs.Histories.{HasCome}
+use Rattle.desk.specs.Histories.{Comes, HasCome}
 
 -- what a pass knows once it has seen a history, and added this entry to it
 abbrev pub having_seen : Known Server Entry → List (ℕ × Entry) → Option Entry → Known Server Entry
@@ -32,3 +32,10 @@ pub record HasTaken (may_ask : Request → Type 0) (v w : Known Server Entry) : 
   pub came : HasCome may_ask w.seen
   pub same : w ≡ record v { seen = w.seen; holds = true }
   pub free : v.holds ≡ false
+
+-- what a pass has seen that adds to what has come an entry that comes after it has come
+abbrev pub StepsHaveCome : (Request → Type 0) → Type 0
+StepsHaveCome may_ask =
+    (v w : Known Server Entry) (h : List (ℕ × Entry)) (change : Option Entry) → HasCome may_ask h
+    → IfSome change (λ e. Comes may_ask (entries h) e)
+    → w ≡ having_seen v h change → HasCome may_ask w.seen

@@ -1,5 +1,6 @@
 //! Laws of the histories that passes see.
 ghost use Rattle.desk.specs.Histories.{ReadHistoriesAreReached, HistoriesCanHappen};
+ghost use Rattle.desk.specs.Steps.{StepsHaveCome};
 
 use crate::askings::Asking;
 
@@ -11,4 +12,9 @@ pub fn read_histories_are_reached()
 /// Whatever is asked, none is compacted that is yet to come.
 pub fn histories_can_happen<A: Asking>()
     ensures { HistoriesCanHappen A.MayAsk }
+{}
+
+/// All that a pass has seen after a call has come, with the entry of the call: so that the laws of such histories speak of it.
+pub fn steps_have_come<A: Asking>()
+    ensures { StepsHaveCome A.MayAsk }
 {}

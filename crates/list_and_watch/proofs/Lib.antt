@@ -3,3 +3,4 @@ mod Steps
 mod Followed
 mod Given
 mod Opened
+mod NotMoved

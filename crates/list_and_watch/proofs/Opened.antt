@@ -1,11 +1,11 @@
 -- Followers that take in pieces of a stream of initial events, and publish after each.
-use Rattle.std.proofs.Common.{◌≡◌, ◌≤◌, ◌⊎◌, ◌++◌, inl, inr, ℕ, List, [], flat_map, None, refl, sym, ap, subst, ◌∙◌}
+use Rattle.std.proofs.Common.{◌≡◌, ◌≤◌, ◌⊎◌, ◌++◌, inl, inr, ℕ, List, flat_map, None, refl, sym, ap, subst, ◌∙◌}
 use Rattle.spec_api.specs.declared.kinds.Kind.{Kind}
 use Rattle.spec_api.specs.History.{History, list}
 use Rattle.spec_api.specs.Streams.{Line, text_of_lines}
 use Rattle.spec_server.specs.Snapshots.{Snapshot}
 use Rattle.spec_client_go.specs.Informers.{all_applied}
-use Rattle.spec_client_go.specs.Reflectors.{Reflector, Fed, all_fed}
+use Rattle.spec_client_go.specs.Reflectors.{Reflector, all_fed}
 use Rattle.spec_laws.specs.SentLaws.{whole}
 use Rattle.reflector.specs.Laws.{IsAtStart, IsServedInitial, Waits, Replaces}
 use Rattle.reflector.proofs.Opened.{initial_streams, cuts_open_again}

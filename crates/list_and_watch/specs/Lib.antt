@@ -2,6 +2,7 @@
 pub mod Followers
 pub mod Listed
 pub mod Recognized
+pub mod Placed
 pub mod Answered
 pub mod Given
 pub mod Pauses

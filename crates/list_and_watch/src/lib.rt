@@ -11,6 +11,7 @@ pub mod follower_laws;
 pub(crate) mod listing;
 pub(crate) mod owed;
 pub mod pauses;
+pub(crate) mod placed;
 pub mod recognizing;
 pub mod running;
 pub(crate) mod sameness;

@@ -1,13 +1,16 @@
 //! Whether what is published shows another server.
-ghost use Rattle.std.specs.Prelude.{◌≡◌, Some, map, option_map};
+ghost use Rattle.std.specs.Prelude.{◌≡◌, Some, IfSome, map, option_map};
 ghost use Rattle.object_keys.specs.Keys.{key_of};
 ghost use Rattle.indexer.specs.Shifted.{shift_of};
-ghost use Rattle.list_and_watch.specs.Recognized.{has_moved, is_created_again, is_elsewhere, is_same_name, shows_other_in, shows_other_server, uid_in, uid_left};
+ghost use Rattle.list_and_watch.specs.Placed.{AreAllPlaced};
+ghost use Rattle.list_and_watch.specs.Recognized.{has_moved, is_created_again, is_elsewhere, is_same_name, shows_other_in, shows_other_server, uid_left};
 
+use crate::placed::{may_be_placed, uid_in, uid_left, uids_placed};
 use crate::sameness::{creation, is_same_text};
 use indexer::Shift;
 use object_keys::Key;
 use reflector::SharedObject;
+use std::collections::BTreeSet;
 
 /// Returns whether an object has the uid of another one, and was created at another moment.
 fn is_created_again(old: &Option<SharedObject>, new: &Option<SharedObject>) -> bool
@@ -19,28 +22,6 @@ fn is_created_again(old: &Option<SharedObject>, new: &Option<SharedObject>) -> b
             is_same_text(old.uid(), new.uid()) && !is_same_text(creation(old), creation(new))
         }
         _ => false,
-    }
-}
-
-/// Returns the uid of an object that is there.
-fn uid_in(object: &Option<SharedObject>) -> Option<&str>
-    ensures { option_map (λ s. s.now) result ≡ uid_in (option_map (λ o. o.value) object.now) }
-{
-    match object {
-        Some(object) => object.object().uid(),
-        None => None,
-    }
-}
-
-/// Returns the uid that a change leaves no longer where it was.
-fn uid_left(shift: &Shift) -> Option<&str>
-    ensures { option_map (λ s. s.now) result ≡ uid_left (shift_of shift.now) }
-{
-    let old = uid_in(&shift.old);
-    if is_same_text(old, uid_in(&shift.new)) {
-        None
-    } else {
-        old
     }
 }
 
@@ -70,26 +51,35 @@ fn has_moved(uid: &str, key: &Key, shifts: &[Shift]) -> bool
     false
 }
 
-/// Returns whether a change shows another server, beside the other changes of its publish.
-fn shows_other_in(shifts: &[Shift], shift: &Shift) -> bool
-    ensures { result ≡ shows_other_in (map shift_of shifts.now) (shift_of shift.now) }
+/// Returns whether the uid that a change leaves has moved to another name by one of the changes.
+fn left_has_moved(uids: &Option<BTreeSet<&str>>, shifts: &[Shift], shift: &Shift) -> bool
+    requires { IfSome uids.now (λ uids. AreAllPlaced uids (map shift_of shifts.now)) }
+    ensures { result ≡ has_moved (uid_left (shift_of shift.now)) (key_of shift.now.key) (map shift_of shifts.now) }
 {
-    if is_created_again(&shift.old, &shift.new) {
-        return true;
-    }
     match uid_left(shift) {
-        Some(uid) => has_moved(uid, &shift.key, shifts),
+        Some(uid) => may_be_placed(uids, uid) && has_moved(uid, &shift.key, shifts),
         None => false,
     }
 }
 
+/// Returns whether a change shows another server, beside the other changes of its publish.
+fn shows_other_in(uids: &Option<BTreeSet<&str>>, shifts: &[Shift], shift: &Shift) -> bool
+    requires { IfSome uids.now (λ uids. AreAllPlaced uids (map shift_of shifts.now)) }
+    ensures { result ≡ shows_other_in (map shift_of shifts.now) (shift_of shift.now) }
+{
+    is_created_again(&shift.old, &shift.new) || left_has_moved(uids, shifts, shift)
+}
+
 /// Returns whether the changes of a publish show that another server gave what is now there: an object has the uid that it had, and was created
-/// at another moment; or the uid of an object that is gone is that of one of another name. It takes no memory.
+/// at another moment; or the uid of an object that is gone is that of one of another name. It takes as long as there are changes, and no memory,
+/// where they are few or leave no uid. Else it takes as long as sorting the uids that they put in place, and memory for a set of them; where that
+/// memory is refused, all changes are gone through for each uid that is left.
 pub fn shows_other_server(shifts: &[Shift]) -> bool
     ensures { result ≡ shows_other_server (map shift_of shifts.now) }
 {
+    let uids = uids_placed(shifts);
     for shift in shifts {
-        if shows_other_in(shifts, shift) {
+        if shows_other_in(&uids, shifts, shift) {
             return true;
         }
     }

@@ -1,20 +1,21 @@
 -- What a pass knows once it has taken the board, and once it has given it back.
 use Rattle.std.proofs.Common.{◌≡◌, ◌≢◌, ◌⊎◌, inl, inr, ⊎_elim, ℕ, List, [], ◌∷◌, ◌++◌, append-nil, append_assoc, refl, sym, ap, ◌∙◌, subst, true}
-use Rattle.std.specs.Prelude.{Option, Some, None, is_some}
+use Rattle.std.specs.Prelude.{Option, Some, None, IfSome, is_some}
 use Rattle.std.specs.Cmp.{IsTotalOrder}
 use Rattle.std.specs.FinSet.{IsAntisymmetric}
 use Rattle.std.specs.declared.cmp.Ordering.{Ordering}
 use Rattle.baton.specs.Marks.{StartsWith, entries, made_by, marked, CanHappen}
 use Rattle.baton.specs.Passes.{Met, Longer, Taken, given}
+use Rattle.baton.proofs.Entries.{happens}
 use Rattle.baton.specs.declared.views.Known.{Known}
 use Rattle.baton.specs.declared.views.PassView as views
 use Rattle.keyed_queues.specs.Queues.{got_from, handed, front}
 use Rattle.keyed_board.specs.Boards.{KeyBoard, taken}
 use Rattle.keyed_board.specs.Said.{Parts, said}
 use Rattle.keyed_board.specs.Steps.{Step}
-use Rattle.shared_keyed_board.specs.Calls.{Sight, IsCall, IsLater, HasLooked, HasSeenAll, HaveMet, having_seen}
+use Rattle.shared_keyed_board.specs.Calls.{Sight, IsCall, IsLater, HasLooked, HasSeenAll, HaveMet, CallsCanHappen, having_seen}
 use Rattle.shared_keyed_board.specs.Entries.{step_told, told, steps_told, latest, IsBegun, Follows}
-use Rattle.shared_keyed_board.specs.Histories.{board, hand, in_hand, in_hand_after, MayFollow}
+use Rattle.shared_keyed_board.specs.Histories.{History, board, hand, in_hand, in_hand_after, IsAllowed, MayFollow}
 use Rattle.shared_keyed_board.specs.Passes.{sight_of}
 use Rattle.shared_keyed_board.specs.declared.entries.BoardEntry.{BoardEntry}
 use Rattle.shared_keyed_board.proofs.Standing.{hands_apart, in_hand_snoc}
@@ -47,6 +48,12 @@ module _ {N : Type 0} (R : N → N → Ordering) where
     says = says;
     knows = is ∙ (λ i. having_seen (t.same i) w.seen (change (board R w.seen)));
   }
+
+  -- what a pass has seen after a call
+  pub calls_happen : CallsCanHappen R
+  calls_happen v w h change can made allowed is =
+      let may : IfSome change (λ e. MayFollow R h v.name e) = subst (λ (m : List (Step N)). IfSome change (λ e. IsAllowed (in_hand m) (board R h) e)) (sym made) allowed in
+      subst (λ (g : History N). CanHappen (MayFollow R) g) (sym (ap (λ z. z.seen) is)) (happens (MayFollow R) h v.name change can may)
 
   -- a look that makes no step
   pub looks : (v w x : Sight N) (Says : KeyBoard R → Type 0) → HasLooked R v w → Says (board R w.seen) → x ≡ w → IsCall R v (λ b. None) Says x

@@ -1,11 +1,11 @@
 -- What a call of a board means to the pass that makes it.
-use Rattle.std.specs.Prelude.{◌≡◌, ◌≢◌, ◌⊎◌, ℕ, List, ◌++◌, Option, None, option_map, Result, Ok, Err}
+use Rattle.std.specs.Prelude.{◌≡◌, ◌≢◌, ◌⊎◌, ℕ, List, ◌++◌, Option, None, IfSome, option_map, Result, Ok, Err}
 use Rattle.std.specs.declared.cmp.Ordering.{Ordering}
 use Rattle.baton.specs.Marks.{StartsWith, entries, made_by, marked, CanHappen}
 use Rattle.keyed_queues.specs.Queues.{handed}
 use Rattle.keyed_board.specs.Boards.{KeyBoard}
 use Rattle.keyed_board.specs.Steps.{Step, take}
-use Rattle.shared_keyed_board.specs.Histories.{History, board, MayFollow}
+use Rattle.shared_keyed_board.specs.Histories.{History, board, in_hand, IsAllowed, MayFollow}
 
 -- the name of a pass, what it has seen of the history, and the steps that it made
 pub record Sight (N : Type 0) : Type 0 where
@@ -64,3 +64,10 @@ pub record HasSeenAll {N : Type 0} (R : N → N → Ordering) (v w : Sight N) : 
 -- two passes have met: one of them has seen all that the other has
 abbrev pub HaveMet : {N : Type 0} → (N → N → Ordering) → Sight N → Sight N → Type 0
 HaveMet R v w = (v.name ≢ w.name) × (HasSeenAll R v w ⊎ HasSeenAll R w v)
+
+-- what a pass has seen that adds to a history the step of a call, which is allowed to the pass, is again a history of what may happen
+abbrev pub CallsCanHappen : {N : Type 0} → (N → N → Ordering) → Type 0
+CallsCanHappen {N = N} R =
+    (v w : Sight N) (h : History N) (change : Option (Step N)) → CanHappen (MayFollow R) h → made_by v.name h ≡ v.made
+    → IfSome change (λ e. IsAllowed (in_hand v.made) (board R h) e)
+    → w ≡ having_seen v h change → CanHappen (MayFollow R) w.seen
