@@ -61,11 +61,19 @@ impl<R: Eprint> Notes for StandardError<'_, R> {
     }
 
     fn come_again(&self, kind: Kind) {
-        let _ = eprintln!(self.rt; "{}: {}: the server lists them again", self.program, kind.plural());
+        let _ = eprintln!(self.rt;
+            "{}: {}: the server lists them again",
+            self.program,
+            kind.plural()
+        );
     }
 
     fn refused(&self, request: &Request, code: u16, body: &[u8]) {
         let why = str::from_utf8(body).unwrap_or("");
-        let _ = eprintln!(self.rt; "{}: a {} is refused with {code}: {why}", self.program, verb(request));
+        let _ = eprintln!(self.rt;
+            "{}: a {} is refused with {code}: {why}",
+            self.program,
+            verb(request)
+        );
     }
 }
