@@ -5,11 +5,11 @@ use spec_api::kinds::Kind;
 
 /// Is told how it goes with a server. Threads tell side by side, and wait while they do.
 pub trait Notes {
-    /// Is told what keeps the objects of a kind from coming. It is told once, until they come again or something else keeps them.
+    /// Is told what keeps the objects of a kind from coming: once, until that is over or something else keeps them.
     fn trouble(&self, kind: Kind, trouble: Trouble);
 
-    /// Is told that the objects of a kind come again.
-    fn come_again(&self, kind: Kind);
+    /// Is told that this is over, which it was told last of the kind.
+    fn over(&self, kind: Kind, trouble: Trouble);
 
     /// Is told that a request of one object was refused, with a status code and a body, which says why as a Status (Kubernetes API Concepts). It is
     /// told of each, but of 404 and 409: that an object is gone, or is another by now, is in the nature of working by a copy.
@@ -23,12 +23,12 @@ pub struct Silent;
 impl Notes for Silent {
     fn trouble(&self, _kind: Kind, _trouble: Trouble) {}
 
-    fn come_again(&self, _kind: Kind) {}
+    fn over(&self, _kind: Kind, _trouble: Trouble) {}
 
     fn refused(&self, _request: &Request, _code: u16, _body: &[u8]) {}
 }
 
-/// Writes a line on standard error for all that it is told, which begins with the name of the program. What cannot be written is left out.
+/// Writes what it is told on standard error, each time behind the name of the program. What cannot be written is left out.
 #[derive(Drop)]
 pub struct StandardError<'a, R> {
     rt: &'a R,
@@ -60,12 +60,8 @@ impl<R: Eprint> Notes for StandardError<'_, R> {
         let _ = eprintln!(self.rt; "{}: {}: {trouble}", self.program, kind.plural());
     }
 
-    fn come_again(&self, kind: Kind) {
-        let _ = eprintln!(self.rt;
-            "{}: {}: the server lists them again",
-            self.program,
-            kind.plural()
-        );
+    fn over(&self, kind: Kind, trouble: Trouble) {
+        let _ = eprintln!(self.rt; "{}: {}: no longer: {trouble}", self.program, kind.plural());
     }
 
     fn refused(&self, request: &Request, code: u16, body: &[u8]) {

@@ -52,22 +52,26 @@ impl<'a, N: Notes> Teller<'a, N> {
         }
     }
 
-    /// Notes that a list, or bytes of a watch, were read as such.
+    /// Notes that the trouble is over, if there was one.
     pub(crate) fn note_understood(&mut self) {
-        if self.trouble.is_none() {
-            return;
-        }
-        if let Some(kind) = self.kind {
-            self.notes.come_again(kind);
+        if let (Some(kind), Some(trouble)) = (self.kind, self.trouble) {
+            self.notes.over(kind, trouble);
         }
         self.trouble = None;
+    }
+
+    /// Notes that the server replies.
+    fn note_replied(&mut self) {
+        if self.trouble == Some(Trouble::NoReply) {
+            self.note_understood();
+        }
     }
 
     /// Notes the answer to a list of a kind. Whether its body is one, who reads it says.
     pub(crate) fn note_listed(&mut self, kind: Kind, answer: &Answer) {
         self.kind = Some(kind);
         match answer {
-            Answer::Replied(reply) if reply.code == OK => {}
+            Answer::Replied(reply) if reply.code == OK => self.note_replied(),
             Answer::Replied(reply) => self.note(Trouble::Refused(reply.code)),
             Answer::NotSent | Answer::Lost => self.note(Trouble::NoReply),
         }
@@ -77,16 +81,18 @@ impl<'a, N: Notes> Teller<'a, N> {
     pub(crate) fn note_watched(&mut self, kind: Kind, opened: Opened) {
         self.kind = Some(kind);
         match opened {
-            Opened::Open | Opened::Expired => {}
+            Opened::Open | Opened::Expired => self.note_replied(),
             Opened::Refused(code) => self.note(Trouble::Refused(code)),
             Opened::Lost => self.note(Trouble::NoReply),
         }
     }
 
-    /// Notes whether a server of whom only that is asked replies: which code it replies with says nothing here, as a list follows.
+    /// Notes whether the server replies where it does not matter with which code, as a list follows.
     pub(crate) fn note_asked(&mut self, kind: Kind, has_replied: bool) {
         self.kind = Some(kind);
-        if !has_replied {
+        if has_replied {
+            self.note_replied();
+        } else {
             self.note(Trouble::NoReply);
         }
     }
