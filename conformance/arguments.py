@@ -1,12 +1,17 @@
 #!/usr/bin/env python3
 """Asks a built program how it is used, and looks whether it names each command, and of each the options that docs/API.md has in its tables.
 
-Words that ask no command are bad arguments whatever is said of them: standard error and the status say so.
+Words that ask no command are bad arguments whatever is said of them: standard error and the status say so. They say too which fault ended a
+command: standard input that cannot be read, standard output that cannot be written, a port that another listens on (refusals/run.py has the
+want of memory).
 Usage: arguments.py [--program PATH]
 """
 import argparse
+import contextlib
+import os
 import pathlib
 import re
+import socket
 import subprocess
 import sys
 
@@ -16,6 +21,23 @@ COMMANDS = ("replay", "simulate", "serve", "control", "all")
 # Words, and whether they are told how the program is used.
 TOLD = {"": True, "help": True, "--help": True, "help serve": False, "served --help": False, "serve --port": False, "replay now": False}
 SECONDS = 20
+# What standard input is, and how it is open: of a folder nothing can be read, nor of what is open to be written.
+NOTHING, FOLDER, WRITTEN = (os.devnull, os.O_RDONLY), (os.sep, os.O_RDONLY), (os.devnull, os.O_WRONLY)
+KEPT, FULL = os.devnull, "/dev/full"
+LINE = b"GET /api/v1/configmaps\n"
+# Words, standard input (where it is bytes, a pipe with these), standard output, and the fault. TAKEN stands for a port that another listens on.
+FAULTS = [
+    ("replay", FOLDER, KEPT, "read"),
+    ("replay", WRITTEN, KEPT, "read"),
+    ("simulate", FOLDER, KEPT, "read"),
+    ("all --port 0", FOLDER, KEPT, "read"),
+    ("replay", LINE, FULL, "write"),
+    ("simulate", b"request " + LINE, FULL, "write"),
+    ("all --port 0", LINE, FULL, "write"),
+    ("serve --port 0", NOTHING, FULL, "write"),
+    ("serve --port TAKEN", NOTHING, KEPT, "listen"),
+    ("all --port TAKEN", NOTHING, KEPT, "listen"),
+]
 
 
 def asked(program, words):
@@ -42,6 +64,39 @@ def wrong_of(program, options):
             yield f"kcp {words}: status {status}, lacks {lacks}, has {sorted(more)}: {said!r} {told!r}"
 
 
+@contextlib.contextmanager
+def opened(source):
+    """Gives what a program is to be run with to read a standard input."""
+    if isinstance(source, bytes):
+        yield {"input": source}
+        return
+    descriptor = os.open(*source)
+    try:
+        yield {"stdin": descriptor}
+    finally:
+        os.close(descriptor)
+
+
+def ended(program, words, source, sink):
+    """Returns the last line of standard error and the status of a program, or what it did in their place."""
+    with opened(source) as given, open(sink, "wb") as written:
+        try:
+            ran = subprocess.run([program, *words.split()], **given, stdout=written, stderr=subprocess.PIPE, timeout=SECONDS)
+        except subprocess.TimeoutExpired:
+            return f"still runs after {SECONDS} s"
+    return ran.stderr.decode("utf-8", "replace").splitlines(keepends=True)[-1:], ran.returncode
+
+
+def wrong_of_faults(program):
+    """Returns which commands do not end as their fault has them to, a line for each."""
+    with socket.create_server(("127.0.0.1", 0)) as taken:
+        for words, source, sink, fault in FAULTS:
+            words = words.replace("TAKEN", str(taken.getsockname()[1]))
+            found = ended(program, words, source, sink)
+            if found != ([f"kcp: {fault}\n"], 1):
+                yield f"kcp {words}, {source} to {sink}: {found}, not {fault}"
+
+
 def main():
     parser = argparse.ArgumentParser(description=__doc__.splitlines()[0])
     parser.add_argument("--program", default=BUILT)
@@ -49,9 +104,10 @@ def main():
     options = options_of((ROOT / "docs" / "API.md").read_text(encoding="utf-8"))
     failed = [] if all(options.values()) and len(options) == 3 else ["docs/API.md lacks tables of options"]
     failed += wrong_of(program, options)
+    failed += wrong_of_faults(program)
     for line in failed:
         print(f"FAILED {line}")
-    print(f"{len(TOLD) + len(COMMANDS) - len(failed)} passed, {len(failed)} failed")
+    print(f"{len(TOLD) + len(COMMANDS) + len(FAULTS) - len(failed)} passed, {len(failed)} failed")
     sys.exit(1 if failed else 0)
 
 

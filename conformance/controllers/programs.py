@@ -83,10 +83,14 @@ class Program:
         if not self.ends_with_input:
             return self.kill()
         self.started.stdin.close()
+        self.await_end(f"{Limit.seconds:g} s after the end of its standard input")
+
+    def await_end(self, late):
+        """Waits until it ends by itself, which is to go well; the text says when it still runs if it does not end."""
         try:
             status = self.started.wait(Limit.seconds)
         except subprocess.TimeoutExpired:
-            raise Wrong(f"{self.told()} still runs {Limit.seconds:g} s after the end of its standard input") from None
+            raise Wrong(f"{self.told()} still runs {late}") from None
         check(status == 0, f"{self.told()} ended with status {status}; it said last {self.errors.last!r}")
 
 
@@ -129,9 +133,9 @@ def server(program, port=0):
     return Listener([program, "serve", "--port", port, "--window", WINDOW, "--threads", THREADS])
 
 
-def control(program, port, workers=WORKERS, settings=None):
-    """Starts `kcp control` at a server."""
-    return Program([program, "control", "--server", f"127.0.0.1:{port}", "--workers", workers], settings)
+def control(program, port, workers=WORKERS, settings=None, more=()):
+    """Starts `kcp control` at a server, with more words after the others."""
+    return Program([program, "control", "--server", f"127.0.0.1:{port}", "--workers", workers, *more], settings)
 
 
 def lasting_port():

@@ -1,6 +1,8 @@
 #!/usr/bin/env python3
 """Has `kcp replay` answer worked examples while the n-th growth of its memory is refused, for each n until none is.
 
+`kcp simulate` answers the one whose window is small.
+
 A small library, refusing.c, which `cc` builds here, refuses that growth in the place of the C library. Each line then gets the reply that is
 wanted, or the constant 503; one that got 503 is sent again, and gets its reply. Where there was no memory to begin or to read a line, the
 program ends with status 1 and says so, and all that it wrote before is right.
@@ -25,21 +27,28 @@ NO_MEMORY = (
 )
 FAULT = b"kcp: no memory\n"
 WATCH = b"200 watch "
-# One for each kind of request and of what is kept: creates, lists, updates by version, names that are made, finalizers, selectors, frames of
-# watches, windows and pages.
-CASES = [
-    "first-create",
-    "empty-list",
-    "second-update-conflicts",
-    "an-update-that-changes-nothing-is-no-write",
-    "generated-names",
-    "finalizers-hold-an-object",
-    "selectors-of-an-object-without-labels",
-    "watch-of-an-object-that-leaves-the-selection",
-    "compactions-move-the-floor",
-    "pages-of-one-list",
-    "patches-of-deployments",
-]
+# For each kind of request and of what is kept: creates, lists, updates by version, names that are made and that are taken, finalizers, selectors,
+# frames of watches, compactions, pages with writes between, patches; and a window that is full.
+CASES = {
+    "replay": [
+        "first-create",
+        "empty-list",
+        "second-update-conflicts",
+        "an-update-that-changes-nothing-is-no-write",
+        "generated-names",
+        "a-generated-name-that-is-taken",
+        "finalizers-hold-an-object-and-none-is-added",
+        "selectors-of-an-object-without-labels",
+        "a-watch-of-an-object-that-leaves-and-comes-back",
+        "compactions-move-the-floor",
+        "pages-are-of-one-list",
+        "a-page-after-a-compaction-is-gone",
+        "patches-of-deployments",
+    ],
+    "simulate": ["a-window-of-four-keeps-four-of-six-changes"],
+}
+FOLDERS = {"replay": HERE.parent / "cases", "simulate": HERE.parent / "simulate" / "cases"}
+UNANSWERED = (b"AT ", b"config ")
 
 
 class Wrong(Exception):
@@ -48,7 +57,7 @@ class Wrong(Exception):
 
 def has_reply(line):
     """Returns whether a line is answered by any lines."""
-    return bool(line) and not line.startswith(b"AT ")
+    return bool(line) and not line.removeprefix(b"request ").startswith(UNANSWERED)
 
 
 def next_reply(lines):
@@ -71,11 +80,11 @@ class Wanted:
 class Run:
     """One run of the program, in which one growth is refused."""
 
-    def __init__(self, program, library, growth):
+    def __init__(self, program, command, library, growth):
         told, tells = os.pipe()
         settings = {**os.environ, "LD_PRELOAD": str(library), "REFUSED_GROWTH": str(growth), "REFUSED_TOLD": str(tells)}
         pipes = {"stdin": subprocess.PIPE, "stdout": subprocess.PIPE, "stderr": subprocess.PIPE}
-        self.started = subprocess.Popen([program, "replay"], env=settings, pass_fds=[tells], **pipes)
+        self.started = subprocess.Popen([program, command], env=settings, pass_fds=[tells], **pipes)
         os.close(tells)
         self.told, self.refusals = told, 0
 
@@ -115,9 +124,9 @@ class Run:
         raise Wrong(f"it ended with status {status} and said {said[:200]!r}")
 
 
-def refused(program, library, wanted, growth):
-    """Runs a case with one growth refused; returns whether there was one, and how many lines were answered 503."""
-    run = Run(program, library, growth)
+def refused(program, command, library, wanted, growth):
+    """Runs a case of a command with one growth refused; returns whether there was one, and how many lines were answered 503."""
+    run = Run(program, command, library, growth)
     try:
         went_on = all(run.answer(line, reply) for line, reply in wanted.lines)
         return run.end(went_on), run.refusals
@@ -128,14 +137,22 @@ def refused(program, library, wanted, growth):
         run.started.wait()
 
 
-def run_case(program, library, case):
-    """Refuses each growth of a case in turn, and returns how many there were, and how many lines were answered 503."""
+def run_case(program, command, library, case):
+    """Refuses each growth of a case of a command in turn, and returns how many there were, and how many lines were answered 503."""
     wanted, growth, told = Wanted(case), 1, 0
     while True:
-        was_refused, lines = refused(program, library, wanted, growth)
+        was_refused, lines = refused(program, command, library, wanted, growth)
         if not was_refused:
             return growth - 1, told
         told, growth = told + lines, growth + 1
+
+
+def cases(word):
+    """Returns each case whose name has a word, behind its command."""
+    for command, folder in FOLDERS.items():
+        for name in CASES[command]:
+            if word in name:
+                yield command, replays.Case(name, replays.read(folder, name, command), replays.read(folder, name, "expect"))
 
 
 def told_of(case, future):
@@ -156,11 +173,9 @@ def main():
     parser.add_argument("word", nargs="?", default="")
     asked = parser.parse_args()
     program = str(pathlib.Path(asked.program).resolve())
-    folder = HERE.parent / "cases"
-    cases = [replays.Case(name, replays.read(folder, name, "replay"), replays.read(folder, name, "expect")) for name in CASES if asked.word in name]
     with tempfile.TemporaryDirectory() as room, concurrent.futures.ThreadPoolExecutor(asked.jobs) as pool:
         library = preloading.built(HERE / "refusing.c", room)
-        futures = [(case, pool.submit(run_case, program, library, case)) for case in cases]
+        futures = [(case, pool.submit(run_case, program, command, library, case)) for command, case in cases(asked.word)]
         went_well = [told_of(case, future) for case, future in futures]
     print(f"{sum(went_well)} passed, {len(went_well) - sum(went_well)} failed")
     sys.exit(0 if went_well and all(went_well) else 1)

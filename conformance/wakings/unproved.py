@@ -1,4 +1,5 @@
 """Builds from a tree without any proof: runs the tests of a crate, or gets the program, by `rt try`."""
+import contextlib
 import os
 import pathlib
 import shlex
@@ -32,11 +33,12 @@ def ran_tests(tree, crate):
 
 
 def below(process):
-    """Returns the processes that a process has started, at any depth."""
+    """Returns the processes that a process has started, at any depth. A thread of it may end meanwhile."""
     found = []
     for path in pathlib.Path(f"/proc/{process}/task").glob("*/children"):
-        for it in path.read_text().split():
-            found += [it, *below(it)]
+        with contextlib.suppress(OSError):
+            for it in path.read_text().split():
+                found += [it, *below(it)]
     return found
 
 

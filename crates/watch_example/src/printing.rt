@@ -4,6 +4,7 @@ ghost use Rattle.std.specs.Prelude.{⊤};
 use list_and_watch::{Indexed, Onward, Shift, Sink};
 use meta::Object;
 use object_keys::Key;
+use reconcile_types::Entry;
 use spec_api::kinds::Kind;
 use std::alloc::{AllocError, Global};
 use std::io;
@@ -50,6 +51,19 @@ fn write_shift<W: Write>(writer: &mut W, shift: &Shift) -> io::Result<()> {
     writeln!(writer, "{} {namespace}/{name} {revision}", word(shift))
 }
 
+/// Writes each object, as `NAMESPACE/NAME REVISION`.
+fn write_all<W: Write>(writer: &mut W, entries: &[Entry<'_>]) -> io::Result<()> {
+    for entry in entries {
+        let Key {
+            namespace,
+            name,
+            ..
+        } = entry.key;
+        writeln!(writer, "{namespace}/{name} {}", version(entry.object))?;
+    }
+    Ok(())
+}
+
 impl<W: Write> Printer<W> {
     /// Returns what writes the changes of a kind, until a revision, if one is given.
     pub fn new(alloc: Global, writer: W, kind: Kind, until: Option<u64>) -> Printer<W> {
@@ -68,7 +82,7 @@ impl<W: Write> Printer<W> {
         !self.has_failed
     }
 
-    /// Writes `published KIND REVISION OBJECTS`, and where it is the last publish all that is there, as `NAMESPACE/NAME REVISION`.
+    /// Writes `published KIND REVISION OBJECTS`.
     fn write_published(&mut self, objects: &Indexed) -> io::Result<()> {
         let revision = objects.revision();
         writeln!(
@@ -76,26 +90,24 @@ impl<W: Write> Printer<W> {
             "published {} {revision} {}",
             self.kind.name(),
             objects.len()
-        )?;
-        if self.is_over {
-            for entry in objects.list(self.alloc)? {
-                let Key {
-                    namespace,
-                    name,
-                    ..
-                } = entry.key;
-                writeln!(self.writer, "{namespace}/{name} {}", version(entry.object))?;
-            }
-        }
-        self.writer.flush()
+        )
     }
 
-    /// Writes a line for each change, and what is then published.
-    fn write_changed(&mut self, shifts: &[Shift], objects: &Indexed) -> io::Result<()> {
+    /// Writes a line for each change, and what is then published, and after the last publish all that is there.
+    fn write_changed(
+        &mut self,
+        shifts: &[Shift],
+        objects: &Indexed,
+        last: &Option<Vec<Entry<'_>>>,
+    ) -> io::Result<()> {
         for shift in shifts {
             write_shift(&mut self.writer, shift)?;
         }
-        self.write_published(objects)
+        self.write_published(objects)?;
+        if let Some(entries) = last {
+            write_all(&mut self.writer, entries.as_slice())?;
+        }
+        self.writer.flush()
     }
 
     /// Returns whether the program ends at a revision.
@@ -105,20 +117,31 @@ impl<W: Write> Printer<W> {
             None => false,
         }
     }
+
+    /// Returns all that is there, if the publish is the last. The error is running out of memory.
+    fn last_entries<'a>(&self, objects: &'a Indexed) -> Result<Option<Vec<Entry<'a>>>, AllocError> {
+        if self.ends_at(objects.revision()) {
+            Ok(Some(objects.list(self.alloc)?))
+        } else {
+            Ok(None)
+        }
+    }
 }
 
 impl<W: Write> Sink for Printer<W> {
     ghost takes = { λ before changes objects is_first after. ⊤ };
 
+    /// Writes the publish. Where memory runs out nothing was written.
     fn changed(
         &mut self,
         shifts: &[Shift],
         objects: &Indexed,
         _is_first: bool,
     ) -> Result<(), AllocError> {
-        self.is_over = self.ends_at(objects.revision());
-        if self.write_changed(shifts, objects).is_err() {
-            self.has_failed = true;
+        let last = self.last_entries(objects)?;
+        match self.write_changed(shifts, objects, &last) {
+            Ok(()) => self.is_over = last.is_some(),
+            Err(_) => self.has_failed = true,
         }
         Ok(())
     }
