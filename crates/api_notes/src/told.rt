@@ -15,12 +15,12 @@ use wakeups::Stop;
 /// A server that is asked as an API asks it, and of which is told what goes wrong: of the lists and watches of a kind what keeps them from coming,
 /// and that they come again; of requests of one object which are refused. The kind is to be one for each of these; who asks for no list has none.
 #[derive(Drop)]
-pub struct Told<'a, A: Api + Drop, N> {
+pub struct Told<'a, A: Drop, N> {
     api: A,
     teller: Teller<'a, N>,
 }
 
-impl<'a, A: Api + Drop, N: Notes> Told<'a, A, N> {
+impl<'a, A: Drop, N: Notes> Told<'a, A, N> {
     /// Returns the server that an API asks. Nothing is told any more once a stop is asked for.
     pub fn new(api: A, notes: &'a N, stop: &'a Stop) -> Told<'a, A, N>
         ensures { api_of result ≡ api }

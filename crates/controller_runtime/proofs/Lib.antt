@@ -8,3 +8,4 @@ mod Added
 mod LookedBack
 mod Sent
 mod Asked
+mod Watched

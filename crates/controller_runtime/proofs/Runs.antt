@@ -19,9 +19,8 @@ use Rattle.shared_keyed_board.specs.Histories.{board, in_hand}
 use Rattle.shared_keyed_board.specs.Passes.{AnyPass, IsPassAt, IsNewAt, key_in_hand, sight}
 use Rattle.shared_keyed_board.specs.declared.boards.SharedKeyedBoard.{SharedKeyedBoard}
 use Rattle.shared_keyed_board.specs.declared.entries.BoardEntry.{BoardEntry}
-use Rattle.controller_runtime.specs.Owing.{AreOwed}
 use Rattle.controller_runtime.specs.Reconciled.{OnlyTicks, Makes, Reconciles}
-use Rattle.controller_runtime.specs.Runs.{AddsOwedKeys, IsRunStep, AreRunSteps, IsAtWork, IsBack, OnlyAddsOwed}
+use Rattle.controller_runtime.specs.Runs.{IsRunStep, AreRunSteps, IsAtWork, IsBack, OnlyAddsOwed}
 use Rattle.controller_runtime.specs.Runs.AreRunSteps.{all_so, let_go}
 
 -- what is so is so of an error

@@ -84,8 +84,8 @@ module _ (K : RattleType) (n : named.Ghosts K.Denot) (o : ord.Ghosts K.Denot) (q
     lent_board : IsSend (as_row (Field.shr_ref_field a (Shared.the_row K n o q e p) tt))
     lent_board = search (shared, sendable)
 
-    lent_under_way : IsSend (as_row (Field.shr_ref_field a UnderWay.the_row tt))
-    lent_under_way = search (under_way_of.the_sync, heap.crosses, sendable) depth 20
+    lent_under_way : IsSend (as_row (Field.shr_ref_field a (UnderWay.the_row a) tt))
+    lent_under_way = search (under_way_of.the_sync a, heap.crosses, sendable) depth 20
 
     clock : IsSend (as_row (StoppableClock.the_field a R))
     clock = as_row_send (StoppableClock.the_field a R) (clock_of.the_field_send a R r)

@@ -6,3 +6,4 @@ pub mod Reconciled
 pub mod Runs
 pub mod Threads
 pub mod Asked
+pub mod Watched

@@ -3,7 +3,7 @@ ghost use Rattle.std.specs.Prelude.{◌≡◌, IfOk, IfErr, None, Ok};
 ghost use Rattle.keyed_board.specs.declared.outcome.Outcome.TheVariants.{Done, Failed};
 ghost use Rattle.object_keys.specs.Keys.{key_of};
 ghost use Rattle.request_parts.specs.Requests.{request_of};
-ghost use Rattle.controller_runtime.specs.Asked.{outcome_of, AsksOne, deletes};
+ghost use Rattle.controller_runtime.specs.Asked.{is_delete, is_done, outcome_of, AsksOne, deletes};
 
 use api_client::Api;
 use http_client::Answer;
@@ -14,6 +14,12 @@ use object_keys::Key;
 use request_parts::Request;
 use spec_api::kinds::Kind;
 use std::alloc::{AllocError, Global};
+
+/// Below this a reply's code says that what was asked was done.
+const DONE_BELOW: u16 = 300;
+
+/// The code of a reply that there is no such object.
+const NOT_FOUND: u16 = 404;
 
 /// Returns the key of the object of a kind that is called as another. The error is running out of memory.
 pub fn namesake(key: &Key, kind: Kind) -> Result<Key, AllocError>
@@ -44,13 +50,27 @@ pub fn deletion(alloc: Global, key: Key, object: &Object) -> Result<Request, All
     Ok(Request::Delete(key, options))
 }
 
-/// Returns how it went with a key, by what became of the request for it: done where the server did it.
-fn outcome_of(answer: &Answer) -> Outcome
-    ensures { result ≡ outcome_of answer.now }
+/// Returns whether a request is a delete.
+fn is_delete(request: &Request) -> bool
+    ensures { result ≡ is_delete (request_of request.now) }
+{
+    matches!(request, Request::Delete(_, _))
+}
+
+/// Returns whether a reply of this code says that it is as was asked: the server did it, or what was to be deleted is not there.
+fn is_done(request: &Request, code: u16) -> bool
+    ensures { result ≡ is_done (request_of request.now) code }
+{
+    code < DONE_BELOW || (code == NOT_FOUND && is_delete(request))
+}
+
+/// Returns how it went with a key, by what became of the request for it.
+fn outcome_of(request: &Request, answer: &Answer) -> Outcome
+    ensures { result ≡ outcome_of (request_of request.now) answer.now }
 {
     match answer {
         Answer::Replied(reply) => {
-            if reply.code < 300 {
+            if is_done(request, reply.code) {
                 Outcome::Done
             } else {
                 Outcome::Failed
@@ -60,15 +80,15 @@ fn outcome_of(answer: &Answer) -> Outcome
     }
 }
 
-/// Asks what is to be asked for a key, if something is, and returns how it went: done where nothing is, or where the server did it; failed where it
-/// refused, as at a conflict, where nothing came back, and where memory ran out.
+/// Asks what is to be asked for a key, if something is, and returns how it went: done where nothing is, where the server did it, or where what it was
+/// to delete is not there (404); failed where it refused else, as at a conflict, where nothing came back, and where memory ran out.
 pub fn ask<A: Api>(alloc: Global, api: &mut A, next: Result<Option<Request>, AllocError>) -> Outcome
     ensures nothing { next ≡ Ok None → result ≡ Done }
     ensures err { IfErr next (λ e. result ≡ Failed) }
     ensures asked { IfOk next (AsksOne A.answers api.old api.new result) }
 {
     match next {
-        Ok(Some(request)) => outcome_of(&api.call(alloc, &request)),
+        Ok(Some(request)) => outcome_of(&request, &api.call(alloc, &request)),
         Ok(None) => Outcome::Done,
         Err(_) => Outcome::Failed,
     }

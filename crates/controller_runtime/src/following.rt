@@ -39,7 +39,7 @@ impl<'a, R: Wait + Clock, K: Named, C: Reconciler<K>, A: Api + Drop> KindFollowe
             api,
             handler,
         } = self;
-        let mut clock = StoppableClock::new(handler.rt, &handler.under_way.over);
+        let mut clock = StoppableClock::new(handler.rt, handler.under_way.over);
         follow(*alloc, *kind, follower, api, &mut clock, handler);
     }
 }

@@ -23,7 +23,7 @@ pub(crate) struct ChangeHandler<'a, R, C, K: Named> {
     pub(crate) controller: &'a C,
     pub(crate) board: &'a SharedKeyedBoard<K>,
     pub(crate) pass: BoardPass<K>,
-    pub(crate) under_way: &'a UnderWay,
+    pub(crate) under_way: &'a UnderWay<'a>,
     /// The revision that was published last.
     pub(crate) revision: u64,
     ghost sits: { IsPassAt board.now pass },
@@ -53,7 +53,7 @@ impl<'a, R, K: Named, C> ChangeHandler<'a, R, C, K> {
         controller: &'a C,
         board: &'a SharedKeyedBoard<K>,
         pass: BoardPass<K>,
-        under_way: &'a UnderWay,
+        under_way: &'a UnderWay<'a>,
     ) -> ChangeHandler<'a, R, C, K>
         requires { IsPassAt board.now pass }
         ensures board { result.board.now ≡ board.entry.now }

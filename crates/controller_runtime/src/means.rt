@@ -23,7 +23,7 @@ pub(crate) struct Means<'a, R, C, A: Drop> {
     pub(crate) rt: &'a R,
     pub(crate) alloc: Global,
     pub(crate) controller: &'a C,
-    pub(crate) under_way: &'a UnderWay,
+    pub(crate) under_way: &'a UnderWay<'a>,
     pub(crate) clock: StoppableClock<'a, R>,
     pub(crate) listers: Listers,
     pub(crate) api: A,
@@ -55,12 +55,14 @@ impl<R: Wait + Clock, C, A: Api + Drop> Means<'_, R, C, A> {
         unreachable!()
     }
 
-    /// Reconciles a key, by what is published, unless the run is over before that.
+    /// Reconciles a key, by what is published, unless the run is over before that: what is published then may be another server's, or the key be
+    /// of one that is there no more.
     fn reconcile<K: Named>(&mut self, key: &K) -> Result<Outcome, Over>
     where
         C: Reconciler<K>,
         ensures { IfOk result (λ outcome. EndsAsShown C.ends key.now self.new.listers.listers outcome) }
     {
+        self.under_way.check()?;
         let shown = self.look()?;
         Ok(
             self.controller

@@ -1,13 +1,16 @@
 //! Controllers as programs: at a server over TCP, until standard input ends.
-ghost use Rattle.std.specs.Prelude.{◌<◌, ◌^◌};
+ghost use Rattle.std.specs.Prelude.{◌≡◌, ◌<◌, ◌^◌, None, OnOk, IfErr, All};
+ghost use Rattle.controller_runtime.specs.Watched.{kind_watched_twice, IsScoped, RefusesScopes, RefusesWatches};
 
 use crate::followed::Followed;
 use crate::reconciler::Reconciler;
-use crate::running::{Ended, run_workers};
+use crate::running::{Ended, OTHER_THREADS, run_until_over};
+use crate::start_fault::StartFault;
+use crate::watches::{Watch, check_watches};
 use api_client::{Connect, Remote};
 use keyed_queues::Named;
 use request_encoding::{Scope, ScopeFault};
-use spec_api::kinds::Kind;
+use shared_keyed_board::SharedKeyedBoard;
 use std::alloc::{AllocError, Global};
 use std::io;
 use std::io::{BufReader, Input};
@@ -20,44 +23,6 @@ use wakeups::Stop;
 
 /// How many workers there are at most.
 pub const MOST_WORKERS: usize = 64;
-
-/// Objects that a controller follows: those of a kind, in a namespace or in all, and of these all or those with the labels that a selector asks for.
-#[derive(Debug, Clone, Copy)]
-pub struct Watch<'a> {
-    pub kind: Kind,
-    pub namespace: Option<&'a str>,
-    pub selector: Option<&'a str>,
-}
-
-impl<'a> Watch<'a> {
-    ghost use Rattle.std.specs.Prelude.{◌≡◌, None, Some};
-
-    /// Returns all objects of a kind.
-    pub fn all(kind: Kind) -> Watch<'a>
-        ensures kind { result.kind ≡ kind }
-        ensures all { result.namespace ≡ None }
-        ensures any { result.selector ≡ None }
-    {
-        Watch {
-            kind,
-            namespace: None,
-            selector: None,
-        }
-    }
-
-    /// Returns the objects of a kind, in all namespaces, with the labels that a selector asks for.
-    pub fn selected(kind: Kind, selector: &'a str) -> Watch<'a>
-        ensures kind { result.kind ≡ kind }
-        ensures all { result.namespace ≡ None }
-        ensures selector { result.selector ≡ Some selector.entry }
-    {
-        Watch {
-            kind,
-            namespace: None,
-            selector: Some(selector),
-        }
-    }
-}
 
 /// What connects to a server, named by a text, until a stop.
 #[derive(Drop)]
@@ -78,17 +43,19 @@ impl<'a, R: Net<Stream = TcpStream>> Connect for Connector<'a, R> {
 /// How a server is asked over TCP, until a stop.
 type Asked<'a, R> = Remote<Connector<'a, R>>;
 
-/// Where a server is, and what stops who asks it.
+/// Where a server is, and what stops who asks it in a run: its end.
 #[derive(Drop)]
 struct Server<'a, R> {
     rt: &'a R,
     alloc: Global,
     address: &'a str,
-    stop: &'a Stop,
+    over: &'a Stop,
 }
 
 impl<'a, R: Net<Stream = TcpStream>> Server<'a, R> {
-    ghost use Rattle.std.specs.Prelude.{◌≡◌, IfOk, vec_len};
+    ghost use Rattle.std.specs.Prelude.{◌≡◌, IfOk, IfErr, vec_len};
+    ghost use Rattle.request_encoding.specs.Given.{Refuses};
+    ghost use Rattle.controller_runtime.specs.Watched.{scope_asked, RefusesScopes};
 
     /// Returns what connects to it.
     fn connector(&self) -> Connector<'a, R> {
@@ -98,14 +65,15 @@ impl<'a, R: Net<Stream = TcpStream>> Server<'a, R> {
                 self.alloc,
                 self.address,
                 TimeLimits::usual(),
-                self.stop,
+                self.over,
             ),
         }
     }
 
     /// Returns how it is asked for the objects of a watch.
     fn followed(&self, watch: &Watch<'_>) -> Result<Followed<Asked<'a, R>>, ScopeFault>
-        ensures { IfOk result (λ it. it.kind ≡ watch.now.kind) }
+        ensures kind { IfOk result (λ it. it.kind ≡ watch.now.kind) }
+        ensures refused { IfErr result (Refuses (scope_asked watch.now)) }
     {
         let scope = Scope::new(self.alloc, watch.namespace, watch.selector)?;
         Ok(Followed {
@@ -115,10 +83,9 @@ impl<'a, R: Net<Stream = TcpStream>> Server<'a, R> {
     }
 
     /// Returns how it is asked for the objects of all watches.
-    fn all_followed(
-        &self,
-        watches: &[Watch<'_>],
-    ) -> Result<Vec<Followed<Asked<'a, R>>>, ScopeFault> {
+    fn all_followed(&self, watches: &[Watch<'_>]) -> Result<Vec<Followed<Asked<'a, R>>>, ScopeFault>
+        ensures { IfErr result (RefusesScopes watches.now) }
+    {
         let mut followed = Vec::new(self.alloc);
         for watch in watches {
             if followed.push(self.followed(watch)?).is_err() {
@@ -140,35 +107,45 @@ impl<'a, R: Net<Stream = TcpStream>> Server<'a, R> {
     }
 }
 
-/// Runs a controller at a server until a stop, or until another server answers than before.
+/// Runs a controller at a server until a stop, or until another server answers than before. From then on nothing connects for this run.
 fn run_once<R, K, C>(
-    server: &Server<'_, R>,
+    rt: &R,
+    alloc: Global,
+    address: &str,
     controller: &C,
     watches: &[Watch<'_>],
     workers: usize,
+    stop: &Stop,
 ) -> Result<Ended, ScopeFault>
 where
     R: Net<Listener = TcpListener, Stream = TcpStream> + Threads + Wait + Clock + Sync,
     K: Named + Send,
     C: Reconciler<K> + Sync,
     requires { workers < 2 ^ 16 }
+    ensures { IfErr result (RefusesScopes watches.now) }
 {
+    let over = Stop::new();
+    let server = Server {
+        rt,
+        alloc,
+        address,
+        over: &over,
+    };
     let followed = server.all_followed(watches)?;
     let asking = server.ways(workers)?;
-    Ok(run_workers(
-        server.rt,
-        server.alloc,
-        controller,
-        followed,
-        asking,
-        server.stop,
-    )?)
+    let (board, passes) = SharedKeyedBoard::open(alloc, workers + OTHER_THREADS)?;
+    let (ended, _passes) = run_until_over(
+        rt, alloc, controller, followed, asking, stop, &over, &board, passes,
+    )?;
+    Ok(ended)
 }
 
-/// Runs a controller at a server over TCP until a stop, as `run_workers` does, with so many workers, 64 at most. Where another server answers than
-/// before it begins anew. The server is named as for `TcpStream::connect`, as `"HOST:PORT"`; while none answers it is tried again.
+/// Runs a controller at a server over TCP until a stop, as `run_workers` does, with so many workers, one at least and 64 at most. Where another
+/// server answers than before it begins anew; from then on nothing is asked by what the one before showed. The server is named as for
+/// `TcpStream::connect`, as `"HOST:PORT"`; while none answers it is tried again.
 ///
-/// The error is that a namespace or a selector cannot be one, before anything is asked; or running out of memory before a thread was started.
+/// The error is that `check_watches` refuses the watches, before anything is asked; or running out of memory before a thread was started, of this
+/// run or of one that begins anew.
 pub fn run_at<R, K, C>(
     rt: &R,
     alloc: Global,
@@ -177,20 +154,19 @@ pub fn run_at<R, K, C>(
     watches: &[Watch<'_>],
     workers: usize,
     stop: &Stop,
-) -> Result<(), ScopeFault>
+) -> Result<(), StartFault>
 where
     R: Net<Listener = TcpListener, Stream = TcpStream> + Threads + Wait + Clock + Sync,
     K: Named + Send,
     C: Reconciler<K> + Sync,
+    ensures once { OnOk result (kind_watched_twice watches.now ≡ None) }
+    ensures scoped { OnOk result (All IsScoped watches.now) }
+    ensures refused { IfErr result (RefusesWatches watches.now) }
 {
-    let server = Server {
-        rt,
-        alloc,
-        address,
-        stop,
-    };
+    check_watches(alloc, watches)?;
+    let workers = workers.clamp(1, MOST_WORKERS);
     for _ in rt.forever() {
-        let ended = run_once(&server, controller, watches, workers.min(MOST_WORKERS))?;
+        let ended = run_once(rt, alloc, address, controller, watches, workers, stop)?;
         if ended == Ended::Stopped {
             return Ok(());
         }

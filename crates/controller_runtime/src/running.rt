@@ -48,7 +48,7 @@ struct Ground<'a, R, C, K: Named> {
     alloc: Global,
     controller: &'a C,
     board: &'a SharedKeyedBoard<K>,
-    under_way: &'a UnderWay,
+    under_way: &'a UnderWay<'a>,
     stop: &'a Stop,
 }
 
@@ -110,7 +110,7 @@ impl<'a, R: Threads + Wait + Clock + Sync, K: Named, C: Reconciler<K>> Ground<'a
             alloc: self.alloc,
             controller: self.controller,
             under_way: self.under_way,
-            clock: StoppableClock::new(self.rt, &self.under_way.over),
+            clock: StoppableClock::new(self.rt, self.under_way.over),
             listers,
             api,
         };
@@ -126,7 +126,7 @@ impl<'a, R: Threads + Wait + Clock + Sync, K: Named, C: Reconciler<K>> Ground<'a
             rt: self.rt,
             pass,
             under_way: self.under_way,
-            clock: StoppableClock::new(self.rt, &self.under_way.over),
+            clock: StoppableClock::new(self.rt, self.under_way.over),
         })
     }
 
@@ -252,12 +252,55 @@ fn all_members<'a, R: Threads + Wait + Clock + Sync, K: Named, C: Reconciler<K>,
 }
 
 /// Returns why a run has ended.
-fn end_of(under_way: &UnderWay) -> Ended {
+fn end_of(under_way: &UnderWay<'_>) -> Ended {
     if under_way.has_lost() {
         Ended::OtherServer
     } else {
         Ended::Stopped
     }
+}
+
+/// Runs a controller at a board, as `run_at_board` does, and has the run's end stop what the caller made for it alone, as the connections of the
+/// ways to ask: it stops at the caller's stop, and where another server answers than before.
+pub(crate) fn run_until_over<R, K, C, A>(
+    rt: &R,
+    alloc: Global,
+    controller: &C,
+    followed: Vec<Followed<A>>,
+    asking: Vec<A>,
+    stop: &Stop,
+    over: &Stop,
+    board: &SharedKeyedBoard<K>,
+    passes: Vec<BoardPass<K>>,
+) -> Result<(Ended, Vec<BoardPass<K>>), AllocError>
+where
+    R: Threads + Wait + Clock + Sync,
+    K: Named + Send,
+    C: Reconciler<K> + Sync,
+    A: Api + Send + Drop,
+    requires few { vec_len asking < 2 ^ 16 }
+    requires enough { vec_len passes ≡ vec_len asking + 6 }
+    requires new { All (IsNewAt board.now) passes.items }
+    ensures back { IfOk result (λ r. All (IsBack C.owes C.ends K.says board.now) r.1.items) }
+    ensures count { IfOk result (λ r. vec_len r.1 ≡ vec_len passes) }
+{
+    let mut passes = passes;
+    let informers = open_informers(rt, alloc, asking.len() + 1)?;
+    let apis = apis_of(followed);
+    let under_way = UnderWay::new(over, kinds_in(&apis));
+    let ground = Ground {
+        rt,
+        alloc,
+        controller,
+        board,
+        under_way: &under_way,
+        stop,
+    };
+    let mut members = all_members(&ground, &mut passes, informers, apis, asking)?;
+    passes.reserve(members.threads.len())?;
+    run_all(rt, board, &mut members.threads);
+    take_back(board, &mut passes, members.threads);
+    Ok((end_of(&under_way), passes))
 }
 
 /// Runs a controller at a board of the caller's, as `run_workers` does at one of its own, and gives its passes back. It is given a pass for each
@@ -292,23 +335,10 @@ where
     ensures back { IfOk result (λ r. All (IsBack C.owes C.ends K.says board.now) r.1.items) }
     ensures count { IfOk result (λ r. vec_len r.1 ≡ vec_len passes) }
 {
-    let mut passes = passes;
-    let informers = open_informers(rt, alloc, asking.len() + 1)?;
-    let apis = apis_of(followed);
-    let under_way = UnderWay::new(kinds_in(&apis));
-    let ground = Ground {
-        rt,
-        alloc,
-        controller,
-        board,
-        under_way: &under_way,
-        stop,
-    };
-    let mut members = all_members(&ground, &mut passes, informers, apis, asking)?;
-    passes.reserve(members.threads.len())?;
-    run_all(rt, board, &mut members.threads);
-    take_back(board, &mut passes, members.threads);
-    Ok((end_of(&under_way), passes))
+    let over = Stop::new();
+    run_until_over(
+        rt, alloc, controller, followed, asking, stop, &over, board, passes,
+    )
 }
 
 /// Runs a controller until it is to stop, or another server answers than before, and joins all threads: one for each kind that is followed, which

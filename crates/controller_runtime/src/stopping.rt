@@ -14,7 +14,7 @@ const PIECE_MILLISECONDS: u64 = 250;
 pub(crate) struct Stopper<'a, R, K: Named> {
     pub(crate) rt: &'a R,
     pub(crate) pass: BoardPass<K>,
-    pub(crate) under_way: &'a UnderWay,
+    pub(crate) under_way: &'a UnderWay<'a>,
     /// Tells the run to stop.
     pub(crate) stop: &'a Stop,
 }

@@ -14,7 +14,7 @@ const PAUSE_MILLISECONDS: u64 = 50;
 pub(crate) struct Ticker<'a, R, K: Named> {
     pub(crate) rt: &'a R,
     pub(crate) pass: BoardPass<K>,
-    pub(crate) under_way: &'a UnderWay,
+    pub(crate) under_way: &'a UnderWay<'a>,
     pub(crate) clock: StoppableClock<'a, R>,
 }
 

@@ -12,9 +12,9 @@ const LONGEST_SLEEP: u64 = 60_000;
 
 /// What the threads of a run tell one another beside their board.
 #[derive(Drop)]
-pub(crate) struct UnderWay {
-    /// Tells the threads of this run that it is over.
-    pub(crate) over: Stop,
+pub(crate) struct UnderWay<'a> {
+    /// Tells the threads of this run that it is over, and what connects for them.
+    pub(crate) over: &'a Stop,
     /// How many kinds are followed.
     pub(crate) kinds: u64,
     /// How many of them have published their first list; and once more at the end.
@@ -23,13 +23,13 @@ pub(crate) struct UnderWay {
     lost: AtomicU64,
 }
 
-impl UnderWay {
-    /// Returns a run of which nothing was published yet.
-    pub(crate) const fn new(kinds: u64) -> UnderWay
+impl<'a> UnderWay<'a> {
+    /// Returns a run of which nothing was published yet, and whose end stops this.
+    pub(crate) fn new(over: &'a Stop, kinds: u64) -> UnderWay<'a>
         ensures { result.kinds ≡ kinds }
     {
         UnderWay {
-            over: Stop::new(),
+            over,
             kinds,
             listed: Bell::new(),
             lost: AtomicU64::new(0),
@@ -38,12 +38,12 @@ impl UnderWay {
 
     /// Looks whether the run is over.
     pub(crate) fn check(&self) -> Result<(), Over> {
-        Over::look(&self.over)
+        Over::look(self.over)
     }
 
     /// Waits for so many milliseconds, or until the run is over.
     pub(crate) fn rest<R: Wait + Clock>(&self, rt: &R, milliseconds: u64) -> Result<(), Over> {
-        Over::rest(rt, &self.over, milliseconds)
+        Over::rest(rt, self.over, milliseconds)
     }
 
     /// Notes that a kind has published its first list.

@@ -22,10 +22,10 @@ pub struct StoppableConnect<'a, R, A: Drop> {
 }
 
 impl<'a, R, A: Drop> StoppableConnect<'a, R, A> {
-    ghost use Rattle.std.specs.Prelude.{◌≡◌};
-    ghost use Rattle.tcp_client.specs.Connections.{limits_of, server_of, connector_of};
+    ghost use Rattle.std.specs.Prelude.{◌≡◌, ◌≤◌};
+    ghost use Rattle.tcp_client.specs.Connections.{limits_of, server_of, connector_of, seconds_of};
 
-    /// Returns what connects to a server, named as for `TcpConnect`, within these time limits, of which whole seconds count for reads.
+    /// Returns what connects to a server, named as for `TcpConnect`, within these time limits. For reads whole seconds count, and one at least.
     pub fn new(
         rt: &'a R,
         alloc: Global,
@@ -35,11 +35,14 @@ impl<'a, R, A: Drop> StoppableConnect<'a, R, A> {
     ) -> StoppableConnect<'a, R, A>
         ensures server { server_of (connector_of result) ≡ server }
         ensures limits { limits_of (connector_of result) ≡ limits }
+        ensures some { 1 ≤ seconds_of result }
     {
         StoppableConnect {
             alloc,
             connector: TcpConnect::new(rt, alloc, server, limits),
-            seconds: u32::try_from(limits.read.as_secs()).unwrap_or(u32::MAX),
+            seconds: u32::try_from(limits.read.as_secs())
+                .unwrap_or(u32::MAX)
+                .max(1),
             stop,
         }
     }

@@ -1,4 +1,4 @@
-use Rattle.std.proofs.Common.{rules, ◌<◌, length, subst}
+use Rattle.std.proofs.Common.{rules, subst}
 use denote.Exit.{no}
 use denote.Param.{param}
 use denote.Param.Send.{IsSend, IsSync, sendable, param_send, arg_send}

@@ -4,7 +4,7 @@ use denote.Param.Send.{IsSync, sendable, param_send, arg_send}
 use Rattle.controller_runtime.proofs.Asked.{asked}
 use Rattle.controller_runtime.proofs.programs.run_once.Goals as goal
 
-pub run_workers-requires-send-A : goal.run_workers-requires-send-A
-run_workers-requires-send-A g c κs within =
+pub run_until_over-requires-send-A : goal.run_until_over-requires-send-A
+run_until_over-requires-send-A g c κs within =
     let lent : IsSync (param 0 g.row.R) = search (c, sendable) in
     param_send 3 _ (arg_send _ no _ (asked _ (param 0 g.row.R) lent))

@@ -1,4 +1,3 @@
-use Rattle.std.proofs.Common.{refl}
 use Rattle.controller_runtime.proofs.Runs.{begins}
 use Rattle.controller_runtime.proofs.running.Ground.works.Goals as goal
 

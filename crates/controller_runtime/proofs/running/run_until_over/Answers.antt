@@ -3,7 +3,7 @@ use Rattle.std.proofs.lemmas.List.Elements.{All-weaker}
 use Rattle.shared_keyed_board.specs.Passes.{IsNewAt}
 use Rattle.controller_runtime.specs.Runs.{IsBack}
 use Rattle.controller_runtime.proofs.Runs.{begins, comes_back}
-use Rattle.controller_runtime.proofs.running.run_at_board.Goals as goal
+use Rattle.controller_runtime.proofs.running.run_until_over.Goals as goal
 
 pub take_back-requires-clause-passes : goal.take_back-requires-clause-passes
 take_back-requires-clause-passes g c =
