@@ -15,6 +15,8 @@ use Rattle.controller_runtime.proofs.programs.Connector.TheSendSync as connector
 use Rattle.controller_runtime.specs.contracts.programs.Connector as Connector
 use Rattle.api_client.proofs.asking.Remote.TheSendSync as remote_of
 use Rattle.api_client.specs.contracts.asking.Remote as Remote
+use Rattle.api_notes.proofs.told.Told.TheSendSync as told_of
+use Rattle.api_notes.specs.contracts.told.Told as Told
 
 module _ (a : NamedLft) (R : RattleType) (r : IsSync R) where
   -- what reads a connection
@@ -27,5 +29,11 @@ module _ (a : NamedLft) (R : RattleType) (r : IsSync R) where
   connector : IsSend (Connector.the_row a R)
   connector = connector_of.the_send a R r
 
-  pub asked : IsSend (Remote.the_row (Connector.the_row a R) Reading TcpStream.the_row)
-  asked = remote_of.the_send (Connector.the_row a R) Reading TcpStream.the_row connector reading
+  abbrev Asking : RattleType
+  Asking = Remote.the_row (Connector.the_row a R) Reading TcpStream.the_row
+
+  asking : IsSend Asking
+  asking = remote_of.the_send (Connector.the_row a R) Reading TcpStream.the_row connector reading
+
+  pub asked : (N : RattleType) → IsSync N → IsSend (Told.the_row a Asking N)
+  asked N n = told_of.the_send a Asking N asking n

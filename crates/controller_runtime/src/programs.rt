@@ -8,6 +8,7 @@ use crate::running::{Ended, OTHER_THREADS, run_until_over};
 use crate::start_fault::StartFault;
 use crate::watches::{Watch, check_watches};
 use api_client::{Connect, Remote};
+use api_notes::{Notes, Told};
 use keyed_queues::Named;
 use request_encoding::{Scope, ScopeFault};
 use shared_keyed_board::SharedKeyedBoard;
@@ -40,19 +41,20 @@ impl<'a, R: Net<Stream = TcpStream>> Connect for Connector<'a, R> {
     }
 }
 
-/// How a server is asked over TCP, until a stop.
-type Asked<'a, R> = Remote<Connector<'a, R>>;
+/// How a server is asked over TCP, until a stop, and told of.
+type Asked<'a, R, N> = Told<'a, Remote<Connector<'a, R>>, N>;
 
-/// Where a server is, and what stops who asks it in a run: its end.
+/// Where a server is, who is told of it, and what stops who asks it in a run: its end.
 #[derive(Drop)]
-struct Server<'a, R> {
+struct Server<'a, R, N> {
     rt: &'a R,
     alloc: Global,
     address: &'a str,
+    notes: &'a N,
     over: &'a Stop,
 }
 
-impl<'a, R: Net<Stream = TcpStream>> Server<'a, R> {
+impl<'a, R: Net<Stream = TcpStream>, N: Notes> Server<'a, R, N> {
     ghost use Rattle.std.specs.Prelude.{◌≡◌, IfOk, IfErr, vec_len};
     ghost use Rattle.request_encoding.specs.Given.{Refuses};
     ghost use Rattle.controller_runtime.specs.Watched.{scope_asked, RefusesScopes};
@@ -70,20 +72,29 @@ impl<'a, R: Net<Stream = TcpStream>> Server<'a, R> {
         }
     }
 
+    /// Returns how it is asked for the objects of a scope.
+    fn api(&self, scope: Scope) -> Asked<'a, R, N> {
+        Told::new(
+            Remote::within(self.connector(), scope),
+            self.notes,
+            self.over,
+        )
+    }
+
     /// Returns how it is asked for the objects of a watch.
-    fn followed(&self, watch: &Watch<'_>) -> Result<Followed<Asked<'a, R>>, ScopeFault>
+    fn followed(&self, watch: &Watch<'_>) -> Result<Followed<Asked<'a, R, N>>, ScopeFault>
         ensures kind { IfOk result (λ it. it.kind ≡ watch.now.kind) }
         ensures refused { IfErr result (Refuses (scope_asked watch.now)) }
     {
         let scope = Scope::new(self.alloc, watch.namespace, watch.selector)?;
         Ok(Followed {
             kind: watch.kind,
-            api: Remote::within(self.connector(), scope),
+            api: self.api(scope),
         })
     }
 
     /// Returns how it is asked for the objects of all watches.
-    fn all_followed(&self, watches: &[Watch<'_>]) -> Result<Vec<Followed<Asked<'a, R>>>, ScopeFault>
+    fn all_followed(&self, watches: &[Watch<'_>]) -> Result<Vec<Followed<Asked<'a, R, N>>>, ScopeFault>
         ensures { IfErr result (RefusesScopes watches.now) }
     {
         let mut followed = Vec::new(self.alloc);
@@ -96,31 +107,33 @@ impl<'a, R: Net<Stream = TcpStream>> Server<'a, R> {
     }
 
     /// Returns so many ways to ask it, one for each worker.
-    fn ways(&self, workers: usize) -> Result<Vec<Asked<'a, R>>, AllocError>
+    fn ways(&self, workers: usize) -> Result<Vec<Asked<'a, R, N>>, AllocError>
         ensures { IfOk result (λ made. vec_len made ≡ workers) }
     {
         let mut made = Vec::with_capacity(self.alloc, workers)?;
         while made.len() < workers {
-            made.push(Remote::new(self.connector()))?;
+            made.push(self.api(Scope::everything()))?;
         }
         Ok(made)
     }
 }
 
 /// Runs a controller at a server until a stop, or until another server answers than before. From then on nothing connects for this run.
-fn run_once<R, K, C>(
+fn run_once<R, K, C, N>(
     rt: &R,
     alloc: Global,
     address: &str,
     controller: &C,
     watches: &[Watch<'_>],
     workers: usize,
+    notes: &N,
     stop: &Stop,
 ) -> Result<Ended, ScopeFault>
 where
     R: Net<Listener = TcpListener, Stream = TcpStream> + Threads + Wait + Clock + Sync,
     K: Named + Send,
     C: Reconciler<K> + Sync,
+    N: Notes + Sync,
     requires { workers < 2 ^ 16 }
     ensures { IfErr result (RefusesScopes watches.now) }
 {
@@ -129,6 +142,7 @@ where
         rt,
         alloc,
         address,
+        notes,
         over: &over,
     };
     let followed = server.all_followed(watches)?;
@@ -142,23 +156,26 @@ where
 
 /// Runs a controller at a server over TCP until a stop, as `run_workers` does, with so many workers, one at least and 64 at most. Where another
 /// server answers than before it begins anew; from then on nothing is asked by what the one before showed. The server is named as for
-/// `TcpStream::connect`, as `"HOST:PORT"`; while none answers it is tried again.
+/// `TcpStream::connect`, as `"HOST:PORT"`; while none answers it is tried again. What keeps it from answering, and which requests it refuses, the
+/// notes are told (`api_notes::StandardError` writes it, `api_notes::Silent` does not).
 ///
 /// The error is that `check_watches` refuses the watches, before anything is asked; or running out of memory before a thread was started, of this
 /// run or of one that begins anew.
-pub fn run_at<R, K, C>(
+pub fn run_at<R, K, C, N>(
     rt: &R,
     alloc: Global,
     address: &str,
     controller: &C,
     watches: &[Watch<'_>],
     workers: usize,
+    notes: &N,
     stop: &Stop,
 ) -> Result<(), StartFault>
 where
     R: Net<Listener = TcpListener, Stream = TcpStream> + Threads + Wait + Clock + Sync,
     K: Named + Send,
     C: Reconciler<K> + Sync,
+    N: Notes + Sync,
     ensures once { OnOk result (kind_watched_twice watches.now ≡ None) }
     ensures scoped { OnOk result (All IsScoped watches.now) }
     ensures refused { IfErr result (RefusesWatches watches.now) }
@@ -166,7 +183,9 @@ where
     check_watches(alloc, watches)?;
     let workers = workers.clamp(1, MOST_WORKERS);
     for _ in rt.forever() {
-        let ended = run_once(rt, alloc, address, controller, watches, workers, stop)?;
+        let ended = run_once(
+            rt, alloc, address, controller, watches, workers, notes, stop,
+        )?;
         if ended == Ended::Stopped {
             return Ok(());
         }

@@ -7,4 +7,5 @@ use Rattle.controller_runtime.proofs.programs.run_once.Goals as goal
 pub run_until_over-requires-send-A : goal.run_until_over-requires-send-A
 run_until_over-requires-send-A g c κs within =
     let lent : IsSync (param 0 g.row.R) = search (c, sendable) in
-    param_send 3 _ (arg_send _ no _ (asked _ (param 0 g.row.R) lent))
+    let noted : IsSync (param 3 g.row.N) = search (c, sendable) in
+    param_send 3 _ (arg_send _ no _ (asked _ (param 0 g.row.R) lent (param 3 g.row.N) noted))
