@@ -2,10 +2,11 @@
 """Has the controller of `controller_example` keep a ConfigMap for each Pod with a label, at a `kcp serve` and at a `kcp all`, while Pods come and go.
 
 First single changes: Pods are made, labelled, run and deleted, the ConfigMap of one is deleted by another writer, and one is written by it
-right before the controller's own write, which is so refused as a conflict. Then so many changes at random, one right after another. What has to
-be there follows from the Pods, after each single change within a second. The server is then killed and started anew, empty, on the same port, and what
-has to be there follows from the Pods that are made then. At the end the controller's input ends, and so does it; at a `kcp all` a Pod is then
-deleted, and the garbage collector removes what it owned.
+right before the controller's own write, which is so refused as a conflict. A Pod is being deleted, and another writer deletes its ConfigMap, which
+is then not made again. Then so many changes at random, one right after another. What has to be there follows from the Pods, after each single
+change within a second. The server is then killed and started anew, empty, on the same port, and what has to be there follows from the Pods that
+are made then. At the end the controller's input ends, and so does it; at a `kcp all` a Pod is then deleted, and the garbage collector removes what
+it owned. Words that are refused are told at once, while the input stays open.
 Usage: controllers.py --program PATH [--controller PATH] [--writes N] [--seed N] [--within SECONDS]
 """
 import argparse
@@ -41,7 +42,15 @@ CHANGES = [
     ("a Pod is deleted", "a", None),
     ("a Pod of the same name is made", "a", {"app": "api"}),
 ]
-REFUSED = [[], ["--server", "127.0.0.1:1"], ["--server", "127.0.0.1:1", "--label", "app"], ["--server", "127.0.0.1:1", "--selector", "app in web"]]
+# Words that are refused, and what is said of them.
+REFUSED = [
+    ([], "bad arguments"),
+    (["--server", "127.0.0.1:1"], "bad arguments"),
+    (["--server", "127.0.0.1:1", "--label", "app"], "bad arguments"),
+    (["--server", "127.0.0.1:1", "--selector", "app in web"], "a watch has a selector that cannot be understood"),
+]
+AT_ONCE = 2
+HELD = "example.com/held"
 
 
 def has_label(labels):
@@ -184,6 +193,11 @@ class Run:
         self.slowest = max(self.slowest, took or seconds)
         self.check(f"{what}: {self.pods.found()} in the place of {self.pods.wanted()}", took is not None)
 
+    def stays(self, what):
+        """Checks that there is what has to be, after a time in which it could have changed."""
+        time.sleep(self.asked.within)
+        self.check(f"{what}: {self.pods.found()} in the place of {self.pods.wanted()}", self.pods.found() == self.pods.wanted())
+
     def annotate(self, name):
         """Writes to a ConfigMap as another writer."""
         self.pods.ask("PATCH", f"/api/v1/namespaces/one/configmaps/{name}", {"metadata": {"annotations": {"written": "by another"}}})
@@ -209,6 +223,21 @@ class Run:
                 value = self.pods.ask("GET", f"/api/v1/namespaces/one/configmaps/{name}")
                 self.check("a write was refused as a conflict", self.relay.conflicts > 0)
                 self.check("what the other writer wrote is still there", "annotations" in value["metadata"])
+
+    def being_deleted(self):
+        """Deletes a Pod that a finalizer keeps, then its ConfigMap as another writer, and takes the finalizer away."""
+        path, key = "/api/v1/namespaces/one/pods", ("one", "held")
+        metadata = {"name": "held", "labels": {"app": "web"}, "finalizers": [HELD]}
+        self.pods.ask("POST", path, {"metadata": metadata, "spec": {"containers": [{"name": "main", "image": "main:1"}]}})
+        self.pods.labels[key], self.pods.phases[key] = {"app": "web"}, PHASES[0]
+        self.reaches("a Pod with a finalizer is made", self.asked.within)
+        self.pods.ask("DELETE", f"{path}/held")
+        self.stays("a Pod is being deleted")
+        self.pods.ask("DELETE", "/api/v1/namespaces/one/configmaps/held")
+        del self.pods.labels[key]
+        self.stays("another writer deletes the ConfigMap of a Pod that is being deleted")
+        self.pods.ask("PATCH", f"{path}/held", {"metadata": {"finalizers": None}})
+        self.stays("a Pod that was being deleted is gone")
 
     def churn(self, rolls):
         """Makes changes at random, one right after another."""
@@ -259,6 +288,7 @@ def ran(asked, name):
     try:
         run.reaches("nothing is made of nothing", PATIENCE)
         run.single_changes()
+        run.being_deleted()
         run.churn(random.Random(asked.seed))
         slowest = run.slowest
         run.restart()
@@ -272,13 +302,18 @@ def ran(asked, name):
 
 
 def refusals(controller):
-    """Returns for each words that are bad arguments whether the controller took them."""
+    """Returns for each words that are refused whether they were not: at once, while the input stays open."""
     wrong = []
-    for words in REFUSED:
-        tried = subprocess.run([controller, *words], stdin=subprocess.DEVNULL, capture_output=True, timeout=PATIENCE)
-        wrong.append((tried.returncode, tried.stderr) != (2, b"controller_example: bad arguments\n"))
+    for words, told in REFUSED:
+        with subprocess.Popen([controller, *words], stdin=subprocess.PIPE, stderr=subprocess.PIPE) as tried:
+            with contextlib.suppress(subprocess.TimeoutExpired):
+                tried.wait(AT_ONCE)
+            status = tried.poll()
+            tried.kill()
+            said = tried.stderr.read()
+        wrong.append((status, said) != (2, f"controller_example: {told}\n".encode()))
         if wrong[-1]:
-            print(f"FAILED {' '.join(words)}: it ended with {tried.returncode}")
+            print(f"FAILED {' '.join(words)}: it ended with {status} and said {said}")
     return wrong
 
 

@@ -4,46 +4,44 @@
 
 mod mirror;
 
-use controller_runtime::{Watch, run_at, stop_at_end_of_input};
+use controller_runtime::{StartFault, Watch, check_watches, run_at, stop_at_end_of_input};
 use mirror::Mirror;
 use spec_api::kinds::Kind;
-use std::alloc::Global;
-use std::io::Input;
-use std::net::{Net, TcpListener, TcpStream};
+use std::alloc::{AllocError, Global};
 use std::process::ExitCode;
-use std::sync::Wait;
-use std::thread::Threads;
-use std::time::Clock;
+use std::sync::Arc;
 use std::{env, io, thread};
 use wakeups::Stop;
 
 /// How many Pods are looked after side by side.
 const WORKERS: usize = 4;
 
-/// Keeps the ConfigMaps at a server until a stop, and returns whether that could be begun.
-fn keep<R>(rt: &R, alloc: Global, server: &str, selector: &str, stop: &Stop) -> bool
-where
-    R: Net<Listener = TcpListener, Stream = TcpStream> + Threads + Wait + Clock + Sync,
-{
-    let watches = [
-        Watch::all(Kind::ConfigMap),
-        Watch::selected(Kind::Pod, selector),
-    ];
-    run_at(rt, alloc, server, &Mirror, &watches, WORKERS, stop).is_ok()
+/// Returns the server and the selector that the words name, if they name them.
+fn named(words: &[String]) -> Option<(&str, &str)> {
+    match words {
+        [first, server, second, selector]
+            if first.as_str() == "--server" && second.as_str() == "--selector" => {
+            Some((server.as_str(), selector.as_str()))
+        }
+        _ => None,
+    }
 }
 
-/// Keeps them until standard input ends, and returns whether that could be begun.
-fn keep_until_input_ends<R>(rt: &R, alloc: Global, server: &str, selector: &str) -> bool
-where
-    R: Net<Listener = TcpListener, Stream = TcpStream> + Threads + Wait + Clock + Input + Sync,
-{
-    let stop = Stop::new();
-    let (has_begun, ()) = thread::join(
-        rt,
-        || keep(rt, alloc, server, selector, &stop),
-        || stop_at_end_of_input(rt, alloc, &stop),
-    );
-    has_begun
+/// Returns a stop for two threads, where the watches can be followed.
+fn stop_for_two(
+    alloc: Global,
+    watches: &[Watch<'_>],
+) -> Result<(Arc<Stop, Global>, Arc<Stop, Global>), StartFault> {
+    check_watches(alloc, watches)?;
+    let stop = Arc::new(alloc, Stop::new())?;
+    let same = Arc::try_clone(&stop)?;
+    Ok((stop, same))
+}
+
+/// Says why the program ends before its input does, and returns its status then.
+fn refuse(rt: &HostRuntime, fault: StartFault) -> io::Result<ExitCode> {
+    eprintln!(rt; "controller_example: {fault}")?;
+    Ok(ExitCode::from(if fault.wants_memory() { 1 } else { 2 }))
 }
 
 fn main(rt: HostRuntime) -> io::Result<ExitCode> {
@@ -52,14 +50,25 @@ fn main(rt: HostRuntime) -> io::Result<ExitCode> {
     for word in env::args(&rt)?.skip(1) {
         words.push(word)?;
     }
-    if let [first, server, second, selector] = words.as_slice() {
-        if first.as_str() == "--server"
-            && second.as_str() == "--selector"
-            && keep_until_input_ends(&rt, alloc, server.as_str(), selector.as_str())
-        {
-            return Ok(ExitCode::SUCCESS);
-        }
+    let Some((server, selector)) = named(&words) else {
+        eprintln!(rt; "controller_example: bad arguments")?;
+        return Ok(ExitCode::from(2));
+    };
+    let watches = [
+        Watch::all(Kind::ConfigMap),
+        Watch::selected(Kind::Pod, selector),
+    ];
+    let (stop, same) = match stop_for_two(alloc, &watches) {
+        Ok(stops) => stops,
+        Err(fault) => return refuse(&rt, fault),
+    };
+    // It is not joined: where the program ends before its input does, so does this thread.
+    let reading = thread::spawn(&rt, move || stop_at_end_of_input(&rt, alloc, &same));
+    if reading.is_err() {
+        return refuse(&rt, StartFault::from(AllocError));
     }
-    eprintln!(rt; "controller_example: bad arguments")?;
-    Ok(ExitCode::from(2))
+    match run_at(&rt, alloc, server, &Mirror, &watches, WORKERS, &stop) {
+        Ok(()) => Ok(ExitCode::SUCCESS),
+        Err(fault) => refuse(&rt, fault),
+    }
 }

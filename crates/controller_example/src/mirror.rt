@@ -1,4 +1,5 @@
-//! A ConfigMap for each Pod: it has the Pod's name, the Pod owns it, and it says the Pod's phase.
+//! A ConfigMap for each Pod: it has the Pod's name, the Pod owns it, and it says the Pod's phase. None is made for a Pod that is being deleted; what
+//! is there stays until the Pod is gone.
 use api_client::Api;
 use controller_runtime::{Outcome, Reconciler, ask, deletion, namesake};
 use indexer::{Indexed, Shift};
@@ -59,7 +60,7 @@ fn next(alloc: Global, key: &Key, shown: &PerKind<Indexed>) -> Result<Option<Req
     let target = namesake(key, Kind::ConfigMap)?;
     Ok(
         match (shown.pods.get(key), shown.config_maps.get(&target)) {
-            (Some(pod), None) => Some(creating(alloc, key, pod)?),
+            (Some(pod), None) if !pod.is_being_deleted() => Some(creating(alloc, key, pod)?),
             (pod, Some(map)) if is_left(alloc, key, pod, map)? => {
                 Some(deletion(alloc, target, map)?)
             }
