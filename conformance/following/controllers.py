@@ -1,12 +1,12 @@
 #!/usr/bin/env python3
 """Has the controller of `controller_example` keep a ConfigMap for each Pod with a label, at a `kcp serve` and at a `kcp all`, while Pods come and go.
 
-First single changes: Pods are made, labelled, run and deleted, the ConfigMap of one is deleted by another writer, and one is written by it
-right before the controller's own write, which is so refused as a conflict. A Pod is being deleted, and another writer deletes its ConfigMap, which
-is then not made again. Then so many changes at random, one right after another. What has to be there follows from the Pods, after each single
-change within a second. The server is then killed and started anew, empty, on the same port, and what has to be there follows from the Pods that
-are made then. At the end the controller's input ends, and so does it; at a `kcp all` a Pod is then deleted, and the garbage collector removes what
-it owned. Words that are refused are told at once, while the input stays open.
+First single changes: Pods are made, labelled, run and deleted, the ConfigMap of one is deleted by another writer, and one is written by it right
+before the controller's own write, which is so refused as a conflict. A Pod is being deleted, and another writer deletes its ConfigMap, which is then
+not made again. Then so many changes at random, one right after another. What has to be there follows from the Pods, after each single change within a
+second. The server is then killed, which the controller says, and started anew, empty, on the same port, and what has to be there follows from the
+Pods that are made then. At the end the controller's input ends, and so does it; at a `kcp all` a Pod is then deleted, and the garbage collector
+removes what it owned. Words that are refused are told at once, while the input stays open.
 Usage: controllers.py --program PATH [--controller PATH] [--writes N] [--seed N] [--within SECONDS]
 """
 import argparse
@@ -16,6 +16,7 @@ import re
 import socket
 import subprocess
 import sys
+import tempfile
 import threading
 import time
 
@@ -49,7 +50,8 @@ REFUSED = [
     (["--server", "127.0.0.1:1", "--label", "app"], "bad arguments"),
     (["--server", "127.0.0.1:1", "--selector", "app in web"], "a watch has a selector that cannot be understood"),
 ]
-AT_ONCE = 2
+AT_ONCE = 20
+AWAY = "the server does not reply"
 HELD = "example.com/held"
 
 
@@ -172,7 +174,8 @@ class Run:
         self.server, self.port = self.serve(0)
         self.relay, self.pods = Relay(self.port), Pods(self.port)
         words = [asked.controller, "--server", f"127.0.0.1:{self.relay.listening}", "--selector", SELECTOR]
-        self.controller = subprocess.Popen(words, stdin=subprocess.PIPE)
+        self.told = tempfile.TemporaryFile()
+        self.controller = subprocess.Popen(words, stdin=subprocess.PIPE, stderr=self.told)
 
     def serve(self, port):
         """Starts a server, and returns it with its port, which `kcp serve` says on its output, and `kcp all`, whose output has replies, beside it."""
@@ -197,6 +200,17 @@ class Run:
         """Checks that there is what has to be, after a time in which it could have changed."""
         time.sleep(self.asked.within)
         self.check(f"{what}: {self.pods.found()} in the place of {self.pods.wanted()}", self.pods.found() == self.pods.wanted())
+
+    def hears(self, words):
+        """Checks that the controller soon says this on standard error, of one kind at least."""
+        ends = time.monotonic() + PATIENCE
+        while time.monotonic() < ends:
+            self.told.seek(0)
+            said = self.told.read().decode("utf-8", "replace")
+            if re.search(rf"(?m)^controller_example: \w+: {re.escape(words)}$", said):
+                return
+            time.sleep(PAUSE_SECONDS)
+        self.check(f"it does not say {words!r}, but {said!r}", False)
 
     def annotate(self, name):
         """Writes to a ConfigMap as another writer."""
@@ -253,7 +267,9 @@ class Run:
         """Kills the server and starts an empty one on its port, with other Pods."""
         self.server.kill()
         self.server.wait(PATIENCE)
+        self.hears(AWAY)
         self.server, _ = self.serve(self.port)
+        self.hears(f"no longer: {AWAY}")
         self.pods.labels, self.pods.phases = {}, {}
         for name, labels in [("a", {"app": "web"}), ("new", {"app": "api"}), ("other", {"app": "db"})]:
             self.pods.set("one", name, labels)

@@ -4,6 +4,7 @@
 
 mod mirror;
 
+use api_notes::StandardError;
 use controller_runtime::{StartFault, Watch, check_watches, run_at, stop_at_end_of_input};
 use mirror::Mirror;
 use spec_api::kinds::Kind;
@@ -67,7 +68,10 @@ fn main(rt: HostRuntime) -> io::Result<ExitCode> {
     if reading.is_err() {
         return refuse(&rt, StartFault::from(AllocError));
     }
-    match run_at(&rt, alloc, server, &Mirror, &watches, WORKERS, &stop) {
+    let notes = StandardError::new(&rt, "controller_example");
+    match run_at(
+        &rt, alloc, server, &Mirror, &watches, WORKERS, &notes, &stop,
+    ) {
         Ok(()) => Ok(ExitCode::SUCCESS),
         Err(fault) => refuse(&rt, fault),
     }
