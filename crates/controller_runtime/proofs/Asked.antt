@@ -35,5 +35,5 @@ module _ (a : NamedLft) (R : RattleType) (r : IsSync R) where
   asking : IsSend Asking
   asking = remote_of.the_send (Connector.the_row a R) Reading TcpStream.the_row connector reading
 
-  pub asked : (N : RattleType) → IsSync N → IsSend (Told.the_row a Asking N)
-  asked N n = told_of.the_send a Asking N asking n
+  pub asked : (b : NamedLft) (N : RattleType) → IsSync N → IsSend (Told.the_row b Asking N)
+  asked b N n = told_of.the_send b Asking N asking n

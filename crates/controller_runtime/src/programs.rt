@@ -94,7 +94,10 @@ impl<'a, R: Net<Stream = TcpStream>, N: Notes> Server<'a, R, N> {
     }
 
     /// Returns how it is asked for the objects of all watches.
-    fn all_followed(&self, watches: &[Watch<'_>]) -> Result<Vec<Followed<Asked<'a, R, N>>>, ScopeFault>
+    fn all_followed(
+        &self,
+        watches: &[Watch<'_>],
+    ) -> Result<Vec<Followed<Asked<'a, R, N>>>, ScopeFault>
         ensures { IfErr result (RefusesScopes watches.now) }
     {
         let mut followed = Vec::new(self.alloc);
