@@ -2,7 +2,6 @@
 ghost use Rattle.std.specs.Prelude.{◌≡◌, ◌≤◌, ◌+◌, All, vec_len};
 ghost use Rattle.desk.specs.Desks.{IsNewAt};
 
-use crate::controlling::MOST_WORKERS;
 use crate::ground::Ground;
 use crate::own_desk::OwnDesk;
 use crate::parts::{Answering, Controllers, Own, run_controllers};
@@ -11,7 +10,7 @@ use desk::{Anything, Desk, StorePass};
 use http_event_loop::{ListenFault, LoopPlace, Loops, Turns, listen, not_listening};
 use kcp_lines::relay;
 use kcp_loopback::Reach;
-use kcp_options::AllOptions;
+use kcp_options::{AllOptions, MOST_THREADS, MOST_WORKERS};
 use line_service::RunFault;
 use manager::{FOLLOWERS, Signals};
 use std::alloc::{AllocError, Global};
@@ -23,9 +22,6 @@ use std::sync::{Mutex, Wait};
 use std::thread::Threads;
 use std::time::Clock;
 use std::{io, thread};
-
-/// How many threads serve connections for users at most.
-const MOST_THREADS: usize = 128;
 
 /// Why a server with its controllers ends before its lines do.
 #[derive(Debug, Clone, Copy, PartialEq, Eq)]
