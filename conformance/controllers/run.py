@@ -4,10 +4,10 @@
 A Deployment is made, rolled, scaled and deleted by each policy, where the script marks pods ready, as a kubelet does; a ReplicaSet adopts
 and releases pods; 20 ReplicaSets are declared at once, undisturbed, while the server is killed and started again, and while a proxy cuts
 connections, and no list of pods ever shows a pod too many of a set; each kind of command is lost once on its way, or its reply; a server is
-started anew behind a proxy, and known as another one; what is not understood is told of; the controllers end after so many turns; workers
-are woken though the clock stands still; commands are answered 503 for a while, and as conflicts, which is told of; live reads of a set are
-refused; streams of initial events are given, and refused; a stand-in for a Kubernetes API server takes each request of a rollout; and watches
-fall silent. Each scenario begins with nothing.
+started anew behind a proxy, and known as another one; what is not understood is told of, and lists that are refused; the controllers end
+after so many turns; workers are woken though the clock stands still; commands are answered 503 for a while, and as conflicts, which is told
+of; live reads of a set are refused; streams of initial events are given, and refused; a stand-in for a Kubernetes API server takes each
+request of a rollout; and watches fall silent. Each scenario begins with nothing.
 
 Nothing has to happen within a certain time but that of `--limit`, which is long. In short, answers and watches are cut, but no requests:
 a controller that cannot know whether a create has arrived waits 300 seconds for the pod.
@@ -59,6 +59,7 @@ def scenarios(asked):
         "many-sets-connections-cut": lambda: sets.connections_cut(program, lists, cuts, asked.seed, cuts_requests=not few),
         "restarted-behind-a-proxy": lambda: restarting.restarted(program, [0, 1000] if few else [0, 1, 1000]),
         "not-understood": lambda: understanding.not_understood(program),
+        "lists-refused": lambda: understanding.lists_refused(program, ["404 Not Found", "401 Unauthorized", "302 Found"]),
         "ends-after-turns": lambda: turns.ended_after(program),
         "workers-are-woken": lambda: waking.woken(program),
         "refused-for-now": lambda: refusing.refused_for_now(program),

@@ -1,4 +1,4 @@
-"""A server of which nothing is understood, or which fails, and what standard error says of it, once each."""
+"""A server of which nothing is understood, which fails or refuses lists, and what standard error says of it, once each."""
 import contextlib
 import json
 import socket
@@ -13,6 +13,8 @@ from waiting import check, until
 REPLICAS = 2
 # Followers ask again after 0.8 seconds and more, all at once: what one was answered all were by then.
 ALL_ANSWERED_SECONDS = 0.3
+# How long a refusal lasts: two more of each follower, at least.
+ASKED_AGAIN_SECONDS = 4
 GARBAGE = b"\x00\x1b[31mno reply\xff\r\n"
 NODES = json.dumps({"kind": "NodeList", "apiVersion": "v1", "metadata": {"resourceVersion": "7", "continue": "x" * 100}, "items": []}).encode() + b"\n"
 SHOWN = 100
@@ -55,6 +57,31 @@ def check_told(controlling, port, texts):
     check(lines == expected, f"standard error has {lines!r}, not {expected!r}")
 
 
+def check_works(client, controlling):
+    """Checks that the controllers work, and that standard error says nothing more."""
+    client.create("replicasets", replica_set("web", REPLICAS))
+    until(lambda: len(staying(client.present("pods"))) == REPLICAS, "the set has not got its pods")
+    check(controlling.errors.waiting.empty(), f"standard error says more: {controlling.errors.last!r}")
+
+
+def lists_refused(program, statuses):
+    """What listens is another server of HTTP, which refuses all with some status: that is told of once, and once more when lists are answered."""
+    for status in statuses:
+        serving = server(program)
+        pretender = Pretender(serving.port)
+        pretender.answer_all = reply(status, b"{}")
+        with Ending(serving, control(program, pretender.port)) as running:
+            controlling = running.programs[1]
+            check_told(controlling, pretender.port, [f"answers {status.split()[0]}"])
+            time.sleep(ASKED_AGAIN_SECONDS)
+            check(controlling.errors.waiting.empty(), f"standard error says more: {controlling.errors.last!r}")
+            pretender.answer_all = None
+            check_told(controlling, pretender.port, ["answers again"])
+            check_works(Client(serving.port), controlling)
+            pretender.close()
+    return f"{', '.join(it.split()[0] for it in statuses)} are told of once each, and that lists are answered again"
+
+
 def not_understood(program):
     """What comes is no HTTP, then a failure, then a list of something else in the place of initial events, and then it is a server's."""
     serving = server(program)
@@ -70,9 +97,6 @@ def not_understood(program):
             pretender.answer_all = answer
             check_told(controlling, pretender.port, texts)
             time.sleep(ALL_ANSWERED_SECONDS)
-        client = Client(serving.port)
-        client.create("replicasets", replica_set("web", REPLICAS))
-        until(lambda: len(staying(client.present("pods"))) == REPLICAS, "the set has not got its pods")
-        check(controlling.errors.waiting.empty(), f"standard error says more: {controlling.errors.last!r}")
+        check_works(Client(serving.port), controlling)
         pretender.close()
         return "garbage, a failure and another kind are told of once each, and that all is well again"

@@ -2,17 +2,15 @@
 ghost use Rattle.std.specs.Prelude.{◌≡◌, ◌≤◌, ◌+◌, All, vec_len};
 ghost use Rattle.desk.specs.Desks.{IsNewAt};
 
-use crate::controlling::MOST_WORKERS;
 use crate::ground::Ground;
 use crate::own_desk::OwnDesk;
 use crate::parts::{Answering, Controllers, Own, run_controllers};
 use chunked::Watched;
 use desk::{Anything, Desk, StorePass};
 use http_event_loop::{ListenFault, LoopPlace, Loops, Turns, listen, not_listening};
-use kcp_lines::relay;
+use kcp_lines::{RelayFault, relay};
 use kcp_loopback::Reach;
-use kcp_options::AllOptions;
-use line_service::RunFault;
+use kcp_options::{AllOptions, MOST_THREADS, MOST_WORKERS};
 use manager::{FOLLOWERS, Signals};
 use std::alloc::{AllocError, Global};
 use std::io::{BufRead, Write};
@@ -24,16 +22,13 @@ use std::thread::Threads;
 use std::time::Clock;
 use std::{io, thread};
 
-/// How many threads serve connections for users at most.
-const MOST_THREADS: usize = 128;
-
 /// Why a server with its controllers ends before its lines do.
 #[derive(Debug, Clone, Copy, PartialEq, Eq)]
 pub enum AllFault {
     /// It could not serve, or out of memory.
     Serve(ListenFault),
     /// A line was not answered.
-    Run(RunFault),
+    Relay(RelayFault),
 }
 
 /// Returns the fault of an error of the system before anything is served.
@@ -51,7 +46,7 @@ fn answer_lines<R, I, W>(
     own: &OwnDesk<'_, R>,
     reader: &mut I,
     writer: &mut W,
-) -> Result<(), RunFault>
+) -> Result<(), RelayFault>
 where
     R: Net<Listener = TcpListener, Stream = TcpStream> + Eprint + Wait + Clock,
     I: BufRead,
@@ -72,11 +67,11 @@ where
 fn outcome_of(
     served: Result<(), ListenFault>,
     worked: Result<(), AllocError>,
-    ran: Result<(), RunFault>,
+    relayed: Result<(), RelayFault>,
 ) -> Result<(), AllFault> {
     served.map_err(AllFault::Serve)?;
     worked.map_err(no_memory)?;
-    ran.map_err(AllFault::Run)
+    relayed.map_err(AllFault::Relay)
 }
 
 /// Runs all threads: the loops that answer connections, the controllers, and this one, which answers the lines.
@@ -93,7 +88,7 @@ where
     I: BufRead,
     W: Write,
 {
-    let (served, (worked, ran)) = thread::join(
+    let (served, (worked, relayed)) = thread::join(
         own.rt,
         || answering.run(),
         || {
@@ -104,7 +99,7 @@ where
             )
         },
     );
-    outcome_of(served, worked, ran)
+    outcome_of(served, worked, relayed)
 }
 
 /// Returns the controllers beside what answers connections, if that was made.

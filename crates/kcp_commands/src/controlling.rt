@@ -4,7 +4,7 @@ ghost use Rattle.std.specs.Prelude.{◌<◌, ◌^◌};
 use crate::made::add;
 use api_client::Remote;
 use kcp_loopback::{LoopbackConnector, OtherServer, Reach};
-use kcp_options::ControlOptions;
+use kcp_options::{ControlOptions, MOST_WORKERS};
 use manager::{Apis, Open, Signals};
 use object_keys::PerKind;
 use std::alloc::{AllocError, Global};
@@ -12,9 +12,6 @@ use std::net::{Net, TcpListener, TcpStream};
 use std::sync::Wait;
 use std::thread::Threads;
 use std::time::Clock;
-
-/// How many workers there are at most.
-pub const MOST_WORKERS: usize = 64;
 
 /// How a server of another process is asked.
 type Asked<'a, R> = OtherServer<'a, R, Remote<LoopbackConnector<'a, R>>>;
@@ -81,8 +78,9 @@ where
     manager::run(server.rt, server.alloc, apis, server.signals, &Open)
 }
 
-/// Runs the controllers at a server that they know nothing of, until all is to stop, and returns whether they are to begin anew then. Of the
-/// turns, if a number is given, those are left that were not finished. The error is running out of memory.
+/// Runs the controllers at a server that they know nothing of, until all is to stop, and returns whether they are to begin anew then: turns are
+/// left, and the server has ended, or is another one. Of the turns, if a number is given, those are left that were not finished. The error is
+/// running out of memory.
 fn work_anew<R>(
     rt: &R,
     alloc: Global,
@@ -106,7 +104,7 @@ where
     reach.begin();
     work_at(&server, workers)?;
     *left = signals.turns_left();
-    Ok(signals.has_lost() || reach.is_gone())
+    Ok(!signals.has_finished() && (signals.has_lost() || reach.is_gone()))
 }
 
 /// Runs the controllers at the server of a port until so many turns are finished, if a number is given. Where the server ends, loses its

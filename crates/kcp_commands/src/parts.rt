@@ -1,7 +1,7 @@
 //! What `kcp all` runs in threads beside its lines.
-use crate::controlling::MOST_WORKERS;
 use http_event_loop::{ListenFault, run_row};
 use kcp_loopback::{LoopbackConnector, OwnServer, SeatedLoop};
+use kcp_options::MOST_WORKERS;
 use manager::{Apis, Open, Signals};
 use std::alloc::{AllocError, Global};
 use std::net::{Net, TcpListener, TcpStream};

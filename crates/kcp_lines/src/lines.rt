@@ -1,12 +1,8 @@
 //! The lines that are written of a reply that came over a connection: a code and a text, or the frames of a watch.
 ghost use Rattle.std.specs.Prelude.{◌≡◌, ◌==◌, IfOk, count_by};
-ghost use Rattle.object_keys.specs.Faults.{refusal_of};
-ghost use Rattle.spec_api.specs.Refusals.{code, status_body};
-ghost use Rattle.serde_json.specs.Written.{compact_text};
 ghost use Rattle.kcp_lines.specs.Replies.{line_text, is_of_lines, watch_text, reply_text};
 
 use http_client::HttpReply;
-use object_keys::Fault;
 use std::alloc::{AllocError, Global};
 
 /// The status code of what is there, and of a watch (RFC 9110, 200 OK).
@@ -23,14 +19,6 @@ fn line(alloc: Global, code: u16, text: &[u8]) -> Result<Vec<u8>, AllocError>
     line.extend_from_slice(text)?;
     line.push(b'\n')?;
     Ok(line)
-}
-
-/// Returns the line of a refusal. The error is running out of memory.
-pub fn refusal_line(alloc: Global, fault: &Fault) -> Result<Vec<u8>, AllocError>
-    ensures { IfOk result (λ l. l.items ≡ line_text (code (refusal_of fault.now)) (compact_text (status_body (refusal_of fault.now)))) }
-{
-    let reply = reply::Reply::refusal(alloc, fault)?;
-    line(alloc, reply.code, reply.text.as_bytes())
 }
 
 /// Returns whether a body is one of a watch: each frame ends its line, and no other body does.

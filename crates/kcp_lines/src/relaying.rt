@@ -1,10 +1,15 @@
 //! The loop that relays lines.
-use crate::lines::{refusal_line, reply_lines};
+ghost use Rattle.std.specs.Prelude.{◌≡◌, ◌⊎◌, IfErr, true};
+ghost use Rattle.chunked.specs.Devices.{has_failed};
+
+use crate::lines::reply_lines;
+use crate::relay_fault::RelayFault;
 use api_client::outgoing::{media_type, method_text};
 use api_client::{Connect, Limits};
 use chunked::Watched;
 use http_client::{Answer, Outgoing, call};
 use line_service::RunFault;
+use line_service::lines::refusal_line;
 use line_service::run_loop::{make_ready, send, unread, without_newline};
 use object_keys::Fault;
 use request_parts::line::{Line, read_line};
@@ -14,8 +19,10 @@ use std::alloc::{AllocError, Global};
 use std::io::{BufRead, Write};
 
 /// Returns the fault of running out of memory.
-fn want(_: AllocError) -> RunFault {
-    RunFault::Want
+fn want(_: AllocError) -> RelayFault
+    ensures { result ≡ RelayFault.Run RunFault.Want }
+{
+    RelayFault::Run(RunFault::Want)
 }
 
 /// Returns the reply lines of a request that is asked over a connection of its own, with a body as long as one of a list. The error is that no
@@ -26,7 +33,9 @@ fn ask<C: Connect>(
     method: Method,
     target: &str,
     body: &[u8],
-) -> Result<Vec<u8>, RunFault> {
+) -> Result<Vec<u8>, RelayFault>
+    ensures { IfErr result (λ fault. (fault ≡ RelayFault.NoReply) ⊎ (fault ≡ RelayFault.Run RunFault.Want)) }
+{
     let request = Outgoing {
         method: method_text(method),
         target,
@@ -35,7 +44,7 @@ fn ask<C: Connect>(
         body,
     };
     let Ok((reader, writer)) = connector.connect() else {
-        return Err(RunFault::Read);
+        return Err(RelayFault::NoReply);
     };
     match call(
         alloc,
@@ -45,12 +54,14 @@ fn ask<C: Connect>(
         Limits::USUAL.list,
     ) {
         Answer::Replied(reply) => reply_lines(alloc, &reply).map_err(want),
-        Answer::NotSent | Answer::Lost => Err(RunFault::Read),
+        Answer::NotSent | Answer::Lost => Err(RelayFault::NoReply),
     }
 }
 
 /// Returns the line by which a line is refused that is no request, as a head is that cannot be read.
-fn unreadable(alloc: Global) -> Result<Vec<u8>, RunFault> {
+fn unreadable(alloc: Global) -> Result<Vec<u8>, RelayFault>
+    ensures { IfErr result (λ fault. fault ≡ RelayFault.Run RunFault.Want) }
+{
     refusal_line(alloc, &Fault::BadRequest(Part::Head)).map_err(want)
 }
 
@@ -59,7 +70,9 @@ fn reply_to<C: Connect>(
     alloc: Global,
     connector: &mut C,
     line: &[u8],
-) -> Result<Vec<u8>, RunFault> {
+) -> Result<Vec<u8>, RelayFault>
+    ensures { IfErr result (λ fault. (fault ≡ RelayFault.NoReply) ⊎ (fault ≡ RelayFault.Run RunFault.Want)) }
+{
     if line.is_empty() {
         return Ok(Vec::new(alloc));
     }
@@ -78,23 +91,27 @@ fn reply_to<C: Connect>(
 
 /// Sends the request of each line that is read to a server, each over a connection of its own, and writes the reply lines, in the form of a
 /// replay. A watch ends where the server ends it. Each reply is flushed before the next line is waited for. The error is that a line could
-/// not be read, or its reply not be had or written, or running out of memory; it ends the run.
+/// not be read, or its reply not be had or written, or running out of memory; it ends the run. That the reader or the writer failed is the error
+/// only where its flag is up.
 pub fn relay<C: Connect, R: BufRead + Drop, W: Write + Drop>(
     alloc: Global,
     connector: &mut C,
     reader: &mut Watched<R>,
     writer: &mut Watched<W>,
-) -> Result<(), RunFault> {
+) -> Result<(), RelayFault>
+    ensures reader { IfErr result (λ fault. fault ≡ RelayFault.Run RunFault.Read → has_failed reader.new ≡ true) }
+    ensures writer { IfErr result (λ fault. fault ≡ RelayFault.Run RunFault.Write → has_failed writer.new ≡ true) }
+{
     let mut line = Vec::new(alloc);
     for _ in 0..u64::MAX {
         make_ready(&mut line);
         match reader.read_through(b'\n', &mut line) {
             Ok(0) => return Ok(()),
             Ok(_) => {}
-            Err(fault) => return Err(unread(fault)),
+            Err(fault) => return Err(RelayFault::Run(unread(fault))),
         }
         let reply = reply_to(alloc, connector, without_newline(line.as_slice()))?;
-        send(writer, reply.as_slice())?;
+        send(writer, reply.as_slice()).map_err(RelayFault::Run)?;
     }
-    Err(RunFault::Want)
+    Err(RelayFault::Run(RunFault::Want))
 }

@@ -6,3 +6,4 @@ pub mod Troubles
 pub mod Escaped
 pub mod Heard
 pub mod Others
+pub mod Refusals

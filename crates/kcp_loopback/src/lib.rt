@@ -8,6 +8,7 @@ pub mod heard;
 pub mod other_server;
 pub mod own_server;
 pub mod reach;
+pub(crate) mod refusals;
 pub mod ringing;
 pub(crate) mod strife;
 pub mod telling;

@@ -1,8 +1,8 @@
 //! A server of another process, whose end is seen.
-ghost use Rattle.std.specs.Prelude.{◌≡◌};
 ghost use Rattle.kcp_loopback.specs.Others.{api_of};
 
 use crate::connecting::LoopbackConnector;
+use crate::refusals::refuses_stream;
 use crate::trouble::Trouble;
 use api_client::{Api, Opened};
 use http_client::{Answer, More};
@@ -35,22 +35,33 @@ impl<'a, R, A: Api + Drop> OtherServer<'a, R, A> {
 }
 
 impl<R: Net<Stream = TcpStream> + Eprint, A: Api + Drop> OtherServer<'_, R, A> {
-    /// Returns an answer, after a look at the server where it broke off, and a note of the code that it was answered with.
-    fn looked_after(&self, answer: Answer) -> Answer
-        ensures { result ≡ answer }
-    {
-        match &answer {
-            Answer::Lost => self.connector.look(),
-            Answer::Replied(reply) => self.connector.teller().note_answered(reply.code),
-            Answer::NotSent => {}
+    /// Returns the code that was answered, if one was, after a look at the server where the answer broke off.
+    fn code_of(&self, answer: &Answer) -> Option<u16> {
+        match answer {
+            Answer::Lost => {
+                self.connector.look();
+                None
+            }
+            Answer::Replied(reply) => Some(reply.code),
+            Answer::NotSent => None,
         }
-        answer
     }
 
-    /// Notes the code that a write was answered with.
-    fn note_written(&self, answer: &Answer) {
-        if let Answer::Replied(reply) = answer {
-            self.connector.teller().note_written(reply.code);
+    /// Notes what a request of one object was answered.
+    fn note_answer(&self, request: &Request, answer: &Answer) {
+        if let Some(code) = self.code_of(answer) {
+            let teller = self.connector.teller();
+            if is_write(request) {
+                teller.note_written(code);
+            }
+            teller.note_answered(code);
+        }
+    }
+
+    /// Notes what was answered in the place of a list of a kind, or of its first object.
+    fn note_list(&self, kind: Kind, answer: &Answer) {
+        if let Some(code) = self.code_of(answer) {
+            self.connector.teller().note_listed(kind, code);
         }
     }
 
@@ -67,6 +78,18 @@ impl<R: Net<Stream = TcpStream> + Eprint, A: Api + Drop> OtherServer<'_, R, A> {
             Opened::Open => self.connector.teller().note_answered(OK),
         }
     }
+
+    /// Looks at the server as after a watch where a stream of a kind was asked for, which stands for a list. Where streams alone are refused, the
+    /// list that is asked for next tells whether it is answered.
+    fn look_after_stream(&self, kind: Kind, opened: Opened) {
+        match opened {
+            Opened::Open => self.connector.teller().note_listed(kind, OK),
+            Opened::Refused(code) if refuses_stream(code) => {
+                self.connector.teller().note_listed(kind, code)
+            }
+            _ => self.look_after(opened),
+        }
+    }
 }
 
 impl<R: Net<Stream = TcpStream> + Eprint, A: Api + Drop> Api for OtherServer<'_, R, A> {
@@ -76,20 +99,20 @@ impl<R: Net<Stream = TcpStream> + Eprint, A: Api + Drop> Api for OtherServer<'_,
 
     fn call(&mut self, alloc: Global, request: &Request) -> Answer {
         let answer = self.api.call(alloc, request);
-        if is_write(request) {
-            self.note_written(&answer);
-        }
-        self.looked_after(answer)
+        self.note_answer(request, &answer);
+        answer
     }
 
     fn list(&mut self, alloc: Global, kind: Kind) -> Answer {
         let answer = self.api.list(alloc, kind);
-        self.looked_after(answer)
+        self.note_list(kind, &answer);
+        answer
     }
 
     fn first_at(&mut self, alloc: Global, kind: Kind, revision: u64) -> Answer {
         let answer = self.api.first_at(alloc, kind, revision);
-        self.looked_after(answer)
+        self.note_list(kind, &answer);
+        answer
     }
 
     fn open_watch(&mut self, alloc: Global, kind: Kind, revision: u64) -> Opened {
@@ -100,7 +123,7 @@ impl<R: Net<Stream = TcpStream> + Eprint, A: Api + Drop> Api for OtherServer<'_,
 
     fn open_stream(&mut self, alloc: Global, kind: Kind) -> Opened {
         let opened = self.api.open_stream(alloc, kind);
-        self.look_after(opened);
+        self.look_after_stream(kind, opened);
         opened
     }
 

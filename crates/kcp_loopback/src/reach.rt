@@ -1,6 +1,8 @@
 //! Whether a server is there.
+use crate::refusals::Refusals;
 use crate::strife::Strife;
-use crate::trouble::{NO_REPLY, Trouble, UNREADABLE};
+use crate::trouble::{NO_REPLY, REFUSED, Trouble, UNREADABLE};
+use spec_api::kinds::Kind;
 use std::sync::atomic::{AtomicU64, Ordering};
 
 /// No connection was made yet.
@@ -23,6 +25,8 @@ pub struct Reach {
     found: AtomicU64,
     /// The number of the trouble that was said last, until it was said that it is over.
     said: AtomicU64,
+    /// Which lists it refuses.
+    refusals: Refusals,
     /// Whether it refuses writes as conflicts again and again.
     pub(crate) strife: Strife,
 }
@@ -33,6 +37,7 @@ impl Reach {
         Reach {
             found: AtomicU64::new(UNREACHED),
             said: AtomicU64::new(WELL),
+            refusals: Refusals::new(),
             strife: Strife::new(),
         }
     }
@@ -82,7 +87,22 @@ impl Reach {
     /// Notes that the server answers, and returns whether it is news: it was said last that it fails, or that it sends no reply.
     pub(crate) fn answers_again(&self) -> bool {
         let said = self.said.load(Ordering::SeqCst);
-        said >= NO_REPLY && self.is_over(said)
+        said >= NO_REPLY && said < REFUSED && self.is_over(said)
+    }
+
+    /// Notes that the server refuses a list of a kind with a status code, and returns whether it is news: it was said last that no list is refused,
+    /// or else this code neither, and the last list of the kind was not refused so.
+    pub(crate) fn refuses(&self, kind: Kind, code: u16) -> bool {
+        let is_other = self.refusals.note_refused(kind, code);
+        let is_said = self.said.load(Ordering::SeqCst) >= REFUSED;
+        (is_other || !is_said) && self.is_news(Trouble::Refuses(code))
+    }
+
+    /// Notes that the server answers a list of a kind, and returns whether it is news: it was said last that lists are refused, and none is any more.
+    pub(crate) fn lists_again(&self, kind: Kind) -> bool {
+        let is_any_refused = !self.refusals.note_listed(kind);
+        let said = self.said.load(Ordering::SeqCst);
+        !is_any_refused && said >= REFUSED && self.is_over(said)
     }
 
     /// Notes that a trouble that was said is over, and returns whether one was said, and nobody has noted it before.

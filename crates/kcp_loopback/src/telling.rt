@@ -1,11 +1,13 @@
 //! What is said of a server on standard error.
 use crate::escaped::escaped;
 use crate::reach::Reach;
+use crate::refusals::{FIRST_FAILURE, refuses_list};
 use crate::trouble::Trouble;
+use spec_api::kinds::Kind;
 use std::alloc::{AllocError, Global};
 
-/// The first status code by which a server says that it has failed.
-const FIRST_FAILURE: u16 = 500;
+/// The status code of a list (RFC 9110, 200 OK).
+const OK: u16 = 200;
 
 /// The status code of a write that does not fit what is there (RFC 9110, 409 Conflict).
 const CONFLICT: u16 = 409;
@@ -55,9 +57,13 @@ impl<R: Eprint> Teller<'_, R> {
 
     /// Notes a trouble with the server, and says it if it is news.
     pub(crate) fn note(&self, trouble: Trouble) {
-        if !self.reach.is_news(trouble) {
-            return;
+        if self.reach.is_news(trouble) {
+            self.tell(trouble);
         }
+    }
+
+    /// Says a trouble with the server.
+    fn tell(&self, trouble: Trouble) {
         match trouble {
             Trouble::Unreachable => self.say("cannot be reached"),
             Trouble::NoDescriptor => {
@@ -65,7 +71,7 @@ impl<R: Eprint> Teller<'_, R> {
             }
             Trouble::NoMemory => self.say("cannot be reached, as this program has no memory left"),
             Trouble::Unreadable | Trouble::NoReply => self.say("is not understood"),
-            Trouble::Fails(code) => {
+            Trouble::Fails(code) | Trouble::Refuses(code) => {
                 let _ = eprintln!(self.rt;
                     "kcp: the server at 127.0.0.1:{} answers {code}",
                     self.port
@@ -102,6 +108,19 @@ impl<R: Eprint> Teller<'_, R> {
             self.note(Trouble::Fails(code));
         } else if self.reach.answers_again() {
             self.say("answers again");
+        }
+    }
+
+    /// Notes a status code that a list of a kind was answered with, or a stream that stands for one.
+    pub(crate) fn note_listed(&self, kind: Kind, code: u16) {
+        if refuses_list(code) {
+            if self.reach.refuses(kind, code) {
+                self.tell(Trouble::Refuses(code));
+            }
+        } else if code == OK && self.reach.lists_again(kind) {
+            self.say("answers again");
+        } else {
+            self.note_answered(code);
         }
     }
 

@@ -27,6 +27,8 @@ pub enum Trouble {
     NoReply,
     /// The server answers that it has failed, with this status code.
     Fails(u16),
+    /// The server refuses a list with this status code.
+    Refuses(u16),
 }
 
 impl Trouble {
@@ -55,6 +57,7 @@ impl Trouble {
             Trouble::Unreadable => UNREADABLE,
             Trouble::NoReply => NO_REPLY,
             Trouble::Fails(code) => NO_REPLY + 1 + u64::from(code),
+            Trouble::Refuses(code) => REFUSED + u64::from(code),
         }
     }
 }
@@ -62,8 +65,11 @@ impl Trouble {
 /// The number of what cannot be read: those below are of connections that are not made.
 pub(crate) const UNREADABLE: u64 = 4;
 
-/// The number of what is no reply: it and those above are over at the next answer.
+/// The number of what is no reply: it and those above, up to `REFUSED`, are over at the next answer.
 pub(crate) const NO_REPLY: u64 = 5;
+
+/// From which number on lists are refused: that is over once none is.
+pub(crate) const REFUSED: u64 = 1 << 17;
 
 /// Returns whether an error says that no descriptor is left.
 fn is_without_descriptor(error: &io::Error) -> bool

@@ -4,7 +4,6 @@ use Rattle.kcp_options.specs.declared.command.Subcommand.{Subcommand}
 use Rattle.kcp_options.specs.declared.command.Subcommand.TheVariants.{Replay, Simulate, Serve, Control, All}
 use Rattle.kcp_options.specs.Options.{command}
 use Rattle.kcp_options.specs.Usages.{usage_asked}
-use Rattle.kcp_options.specs.declared.usage.Usage.{Usage}
 use Rattle.kcp_options.specs.declared.usage.Usage.TheVariants as usage
 
 -- what `serve` is asked by an option and its value

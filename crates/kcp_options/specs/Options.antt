@@ -7,7 +7,7 @@ use Rattle.std.specs.Str.{bytes_eq}
 use Rattle.std.specs.Str.Parse.{digits_value}
 use Rattle.kcp_options.specs.declared.setting.Setting.{Setting}
 use Rattle.kcp_options.specs.declared.setting.Setting.TheVariants.{Port, Window, Threads, Requests, Server, Workers, Turns}
-use Rattle.kcp_options.specs.declared.command.ServeOptions.{ServeOptions}
+use Rattle.kcp_options.specs.declared.serve_options.ServeOptions.{ServeOptions}
 use Rattle.kcp_options.specs.declared.control_options.ControlOptions.{ControlOptions}
 use Rattle.kcp_options.specs.declared.all_options.AllOptions.{AllOptions}
 use Rattle.kcp_options.specs.declared.command.Subcommand.{Subcommand}

@@ -1,9 +1,9 @@
 //! What `kcp all` is asked.
 ghost use Rattle.std.specs.Prelude.{◌≡◌, map, string_bytes};
 
-use crate::control_options::DEFAULT_WORKERS;
+use crate::defaults::{DEFAULT_PORT, DEFAULT_THREADS, DEFAULT_WINDOW, DEFAULT_WORKERS};
 use crate::setting::Setting;
-use crate::words::said;
+use crate::words::said_or;
 
 /// What `kcp all` is asked.
 #[derive(Clone, Copy, Debug, PartialEq, Eq)]
@@ -27,9 +27,9 @@ impl Default for AllOptions {
         ensures { result ≡ all_defaults }
     {
         AllOptions {
-            port: 8080,
-            window: 1024,
-            threads: 16,
+            port: DEFAULT_PORT,
+            window: DEFAULT_WINDOW,
+            threads: DEFAULT_THREADS,
             workers: DEFAULT_WORKERS,
         }
     }
@@ -43,19 +43,11 @@ impl AllOptions {
     pub(crate) fn of_words(words: &[String]) -> AllOptions
         ensures { result ≡ all_options (map string_bytes words.now) }
     {
-        let mut options = AllOptions::default();
-        if let Some(port) = said(Setting::Port, words) {
-            options.port = port as u16;
+        AllOptions {
+            port: said_or(Setting::Port, u64::from(DEFAULT_PORT), words) as u16,
+            window: said_or(Setting::Window, DEFAULT_WINDOW as u64, words) as usize,
+            threads: said_or(Setting::Threads, DEFAULT_THREADS as u64, words) as usize,
+            workers: said_or(Setting::Workers, DEFAULT_WORKERS as u64, words) as usize,
         }
-        if let Some(window) = said(Setting::Window, words) {
-            options.window = window as usize;
-        }
-        if let Some(threads) = said(Setting::Threads, words) {
-            options.threads = threads as usize;
-        }
-        if let Some(workers) = said(Setting::Workers, words) {
-            options.workers = workers as usize;
-        }
-        options
     }
 }

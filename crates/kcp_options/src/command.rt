@@ -3,21 +3,9 @@ ghost use Rattle.std.specs.Prelude.{◌≡◌, map, string_bytes};
 
 use crate::all_options::AllOptions;
 use crate::control_options::ControlOptions;
+use crate::serve_options::ServeOptions;
 use crate::setting::Setting;
-use crate::words::{are_options, said};
-
-/// What `kcp serve` is asked.
-#[derive(Clone, Copy, Debug, PartialEq, Eq)]
-pub struct ServeOptions {
-    /// The port to listen on; with 0 the system takes a free one.
-    pub port: u16,
-    /// How many changes of each kind are recorded.
-    pub window: usize,
-    /// How many threads serve.
-    pub threads: usize,
-    /// After how many connections the program ends, if it does.
-    pub requests: Option<u64>,
-}
+use crate::words::are_options;
 
 /// What the program is asked.
 #[derive(Clone, Copy, Debug, PartialEq, Eq)]
@@ -52,46 +40,6 @@ const ALL_SETTINGS: [Setting; 4] = [
     Setting::Threads,
     Setting::Workers,
 ];
-
-impl Default for ServeOptions {
-    ghost use Rattle.std.specs.Prelude.{◌≡◌};
-    ghost use Rattle.kcp_options.specs.Options.{serve_defaults};
-
-    /// Returns the options of `kcp serve` where none is given.
-    fn default() -> ServeOptions
-        ensures { result ≡ serve_defaults }
-    {
-        ServeOptions {
-            port: 8080,
-            window: 1024,
-            threads: 16,
-            requests: None,
-        }
-    }
-}
-
-impl ServeOptions {
-    ghost use Rattle.std.specs.Prelude.{◌≡◌, map, string_bytes};
-    ghost use Rattle.kcp_options.specs.Options.{serve_options};
-
-    /// Returns the options that the words give.
-    fn of_words(words: &[String]) -> ServeOptions
-        ensures { result ≡ serve_options (map string_bytes words.now) }
-    {
-        let mut options = ServeOptions::default();
-        if let Some(port) = said(Setting::Port, words) {
-            options.port = port as u16;
-        }
-        if let Some(window) = said(Setting::Window, words) {
-            options.window = window as usize;
-        }
-        if let Some(threads) = said(Setting::Threads, words) {
-            options.threads = threads as usize;
-        }
-        options.requests = said(Setting::Requests, words);
-        options
-    }
-}
 
 impl Subcommand {
     ghost use Rattle.std.specs.Prelude.{◌≡◌, map, string_bytes};

@@ -1,11 +1,9 @@
 //! What `kcp control` is asked.
 ghost use Rattle.std.specs.Prelude.{◌≡◌, map, string_bytes};
 
+use crate::defaults::DEFAULT_WORKERS;
 use crate::setting::Setting;
-use crate::words::said;
-
-/// How many workers there are by default.
-pub const DEFAULT_WORKERS: usize = 4;
+use crate::words::{said, said_or};
 
 /// What `kcp control` is asked.
 #[derive(Clone, Copy, Debug, PartialEq, Eq)]
@@ -27,13 +25,9 @@ impl ControlOptions {
         ensures { result ≡ control_options (map string_bytes words.now) }
     {
         let port = said(Setting::Server, words)?;
-        let mut workers = DEFAULT_WORKERS;
-        if let Some(number) = said(Setting::Workers, words) {
-            workers = number as usize;
-        }
         Some(ControlOptions {
             port: port as u16,
-            workers,
+            workers: said_or(Setting::Workers, DEFAULT_WORKERS as u64, words) as usize,
             turns: said(Setting::Turns, words),
         })
     }

@@ -4,13 +4,16 @@
 pub mod all_options;
 pub mod command;
 pub mod control_options;
+pub mod defaults;
 pub mod examples;
+pub mod serve_options;
 pub mod setting;
 pub mod usage;
 pub mod words;
 
 pub use all_options::AllOptions;
-pub use command::{ServeOptions, Subcommand};
+pub use command::Subcommand;
 pub use control_options::ControlOptions;
-pub use setting::Setting;
+pub use serve_options::ServeOptions;
+pub use setting::{MOST_THREADS, MOST_WORKERS, Setting};
 pub use usage::Usage;

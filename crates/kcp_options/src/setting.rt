@@ -8,6 +8,12 @@ ghost use Rattle.kcp_options.specs.Options.{after_prefix, is_number};
 /// The most digits of a number.
 const MOST_DIGITS: usize = 9;
 
+/// How many threads serve at most.
+pub const MOST_THREADS: usize = 128;
+
+/// How many workers there are at most.
+pub const MOST_WORKERS: usize = 64;
+
 /// An option that takes a number.
 #[derive(Clone, Copy, Debug, PartialEq, Eq)]
 pub enum Setting {
@@ -87,10 +93,10 @@ impl Setting {
         let (name, before, least, greatest) = match self {
             Setting::Port => ("--port", "", 0, 65_535),
             Setting::Window => ("--window", "", 1, 65_536),
-            Setting::Threads => ("--threads", "", 1, 128),
+            Setting::Threads => ("--threads", "", 1, MOST_THREADS as u64),
             Setting::Requests => ("--requests", "", 1, 999_999_999),
             Setting::Server => ("--server", "127.0.0.1:", 1, 65_535),
-            Setting::Workers => ("--workers", "", 1, 64),
+            Setting::Workers => ("--workers", "", 1, MOST_WORKERS as u64),
             Setting::Turns => ("--turns", "", 1, 999_999_999),
         };
         Row {

@@ -1,5 +1,5 @@
 //! Words of which each is a name or the value after it.
-ghost use Rattle.std.specs.Prelude.{◌≡◌, ◌≤◌, map, option_map, string_bytes, IfSome};
+ghost use Rattle.std.specs.Prelude.{◌≡◌, ◌≤◌, map, option_map, unwrap_or, string_bytes, IfSome};
 ghost use Rattle.kcp_options.specs.Options.{row, value_after, is_one_of, is_option, are_options, said};
 
 use crate::setting::Setting;
@@ -54,5 +54,17 @@ pub fn said(setting: Setting, words: &[String]) -> Option<u64>
     match value_after(setting.name(), words) {
         Some(value) => setting.take(value),
         None => None,
+    }
+}
+
+/// Returns the number that the words give for an option, or else its default.
+pub(crate) fn said_or(setting: Setting, default: u64, words: &[String]) -> u64
+    requires { default ≤ (row setting).greatest }
+    ensures value { result ≡ unwrap_or (said setting (map string_bytes words.now)) default }
+    ensures greatest { result ≤ (row setting).greatest }
+{
+    match said(setting, words) {
+        Some(number) => number,
+        None => default,
     }
 }

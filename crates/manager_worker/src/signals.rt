@@ -1,5 +1,5 @@
 //! What threads tell one another.
-ghost use Rattle.std.specs.Prelude.{◌<◌, IfSome};
+ghost use Rattle.std.specs.Prelude.{◌≡◌, ◌<◌, IfSome, is_some, true};
 
 use spec_api::kinds::Kind;
 use std::sync::Wait;
@@ -96,6 +96,16 @@ impl Signals {
         let finished = self.finished.load(Ordering::SeqCst);
         self.most_turns
             .map(|most| most.saturating_sub(finished).max(1))
+    }
+
+    /// Returns whether as many turns were finished as all threads stop after; never where they stop after no number of them.
+    pub fn has_finished(&self) -> bool
+        ensures { result ≡ true → is_some self.now.most_turns ≡ true }
+    {
+        match self.most_turns {
+            Some(most) => most <= self.finished.load(Ordering::SeqCst),
+            None => false,
+        }
     }
 
     /// Tells all threads to stop, and wakes those that wait.
