@@ -18,8 +18,17 @@ import sys
 ROOT = pathlib.Path(__file__).resolve().parent.parent
 BUILT = "crates/kcp/out/kcp"
 COMMANDS = ("replay", "simulate", "serve", "control", "all")
-# Words, and whether they are told how the program is used.
-TOLD = {"": True, "help": True, "--help": True, "help serve": False, "served --help": False, "serve --port": False, "replay now": False}
+# Words, one of them no UTF-8, and whether they are told how the program is used.
+TOLD = {
+    "": True,
+    "help": True,
+    "--help": True,
+    "help serve": False,
+    "served --help": False,
+    "serve --port": False,
+    "serve \udcff": False,
+    "replay now": False,
+}
 SECONDS = 20
 # What standard input is, and how it is open: of a folder nothing can be read, nor of what is open to be written.
 NOTHING, FOLDER, WRITTEN = (os.devnull, os.O_RDONLY), (os.sep, os.O_RDONLY), (os.devnull, os.O_WRONLY)

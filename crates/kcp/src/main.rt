@@ -5,19 +5,25 @@
 
 ghost use Rattle.std.specs.Prelude.{◌≡◌, OnOk, IfErr, IfSome, true};
 ghost use Rattle.chunked.specs.Devices.{device_of, has_failed};
-ghost use Rattle.kcp.specs.Faults.{fault_text, serve_fault_text};
+ghost use Rattle.kcp.specs.Faults.{all_fault_text, fault_text, relay_fault_text, serve_fault_text};
 ghost use Rattle.sim_service.specs.Laws as simulated;
 
 use chunked::Watched;
 use http_event_loop::ListenFault;
 use kcp_commands::{AllFault, all, control, serve};
-use kcp_lines::replay;
+use kcp_lines::{RelayFault, replay};
 use kcp_options::{Subcommand, Usage};
 use line_service::RunFault;
-use std::alloc::{AllocError, Global};
-use std::io::{BufRead, BufReader, BufWriter, Write};
+use std::alloc::Global;
+use std::io::{BufRead, BufReader, BufWriter, ErrorKind, Printer, StdinLock, Write};
 use std::process::ExitCode;
 use std::{env, io};
+
+/// What reads standard input, and what writes to standard output.
+type StandardLines<'a> = (
+    BufReader<StdinLock<'a>>,
+    BufWriter<Printer<'a, HostRuntime>>,
+);
 
 /// Takes the steps of a simulated control plane that the lines ask for, one after another, and writes what is told of each and nothing
 /// else. Each outcome is flushed before the next line is waited for.
@@ -40,7 +46,8 @@ pub fn simulate<R: BufRead + Drop, W: Write + Drop>(
     sim_service::simulate(alloc, reader, writer)
 }
 
-/// Returns what the words after the program's name ask: a command, or else to be told how it is used, if they ask for that.
+/// Returns what the words after the program's name ask: a command, or else to be told how it is used, if they ask for that. The error is running
+/// out of memory, or a word that is no text.
 fn asked(rt: &HostRuntime) -> io::Result<Result<Subcommand, Option<Usage>>> {
     let mut words = Vec::new(rt.alloc());
     for word in env::args(rt)?.skip(1) {
@@ -61,14 +68,20 @@ fn refuse(rt: &HostRuntime, usage: Option<Usage>) -> io::Result<ExitCode> {
     Ok(ExitCode::from(2))
 }
 
-/// Answers the request lines of standard input on standard output.
-fn replay_standard_input(rt: &HostRuntime) -> Result<(), RunFault> {
-    let (Ok(reader), Ok(writer)) = (
+/// Returns what reads standard input, and what writes to standard output, if there is memory for both.
+fn standard_lines(rt: &HostRuntime) -> Result<StandardLines<'_>, RunFault> {
+    match (
         BufReader::new(rt.alloc(), rt.reader()),
         BufWriter::new(rt.alloc(), io::writer(rt)),
-    ) else {
-        return Err(RunFault::Want);
-    };
+    ) {
+        (Ok(reader), Ok(writer)) => Ok((reader, writer)),
+        _ => Err(RunFault::Want),
+    }
+}
+
+/// Answers the request lines of standard input on standard output.
+fn replay_standard_input(rt: &HostRuntime) -> Result<(), RunFault> {
+    let (reader, writer) = standard_lines(rt)?;
     replay(
         rt.alloc(),
         &mut Watched::new(reader),
@@ -78,12 +91,7 @@ fn replay_standard_input(rt: &HostRuntime) -> Result<(), RunFault> {
 
 /// Takes the steps that the lines of standard input ask for, and tells them on standard output.
 fn simulate_standard_input(rt: &HostRuntime) -> Result<(), RunFault> {
-    let (Ok(reader), Ok(writer)) = (
-        BufReader::new(rt.alloc(), rt.reader()),
-        BufWriter::new(rt.alloc(), io::writer(rt)),
-    ) else {
-        return Err(RunFault::Want);
-    };
+    let (reader, writer) = standard_lines(rt)?;
     simulate(
         rt.alloc(),
         &mut Watched::new(reader),
@@ -113,67 +121,55 @@ fn serve_fault_name(fault: ListenFault) -> &'static str
     }
 }
 
-/// Returns what an outcome of a run over lines is called where it is a fault.
-fn ran(outcome: Result<(), RunFault>) -> Result<(), &'static str> {
-    match outcome {
-        Ok(()) => Ok(()),
-        Err(fault) => Err(fault_name(fault)),
+/// Returns what a fault of lines that are asked of a server is called on standard error.
+fn relay_fault_name(fault: RelayFault) -> &'static str
+    ensures { result.now ≡ relay_fault_text fault }
+{
+    match fault {
+        RelayFault::Run(fault) => fault_name(fault),
+        RelayFault::NoReply => "no reply",
     }
 }
 
-/// Returns what an outcome of serving is called where it is a fault.
-fn served(outcome: Result<(), ListenFault>) -> Result<(), &'static str> {
-    match outcome {
-        Ok(()) => Ok(()),
-        Err(fault) => Err(serve_fault_name(fault)),
-    }
-}
-
-/// Returns what an outcome of the controllers is called where it is a fault.
-fn controlled(outcome: Result<(), AllocError>) -> Result<(), &'static str> {
-    match outcome {
-        Ok(()) => Ok(()),
-        Err(_) => Err(fault_name(RunFault::Want)),
-    }
-}
-
-/// Returns what an outcome of a server with its controllers is called where it is a fault.
-fn ended(outcome: Result<(), AllFault>) -> Result<(), &'static str> {
-    match outcome {
-        Ok(()) => Ok(()),
-        Err(AllFault::Serve(fault)) => Err(serve_fault_name(fault)),
-        Err(AllFault::Run(fault)) => Err(fault_name(fault)),
+/// Returns what a fault of a server with its controllers is called on standard error.
+fn all_fault_name(fault: AllFault) -> &'static str
+    ensures { result.now ≡ all_fault_text fault }
+{
+    match fault {
+        AllFault::Serve(fault) => serve_fault_name(fault),
+        AllFault::Relay(fault) => relay_fault_name(fault),
     }
 }
 
 fn main(rt: HostRuntime) -> io::Result<ExitCode> {
     let outcome = match asked(&rt) {
-        Ok(Ok(Subcommand::Replay)) => ran(replay_standard_input(&rt)),
-        Ok(Ok(Subcommand::Simulate)) => ran(simulate_standard_input(&rt)),
+        Ok(Ok(Subcommand::Replay)) => replay_standard_input(&rt).map_err(fault_name),
+        Ok(Ok(Subcommand::Simulate)) => simulate_standard_input(&rt).map_err(fault_name),
         Ok(Ok(Subcommand::Serve(options))) => {
             let mut writer = io::writer(&rt);
-            served(serve(&rt, rt.alloc(), options, &mut writer))
+            serve(&rt, rt.alloc(), options, &mut writer).map_err(serve_fault_name)
         }
-        Ok(Ok(Subcommand::Control(options))) => { controlled(control(&rt, rt.alloc(), options)) }
-        Ok(Ok(Subcommand::All(options))) => match (
-            BufReader::new(rt.alloc(), rt.reader()),
-            BufWriter::new(rt.alloc(), io::writer(&rt)),
-        ) {
-            (Ok(mut reader), Ok(mut writer)) => {
+        Ok(Ok(Subcommand::Control(options))) => {
+            control(&rt, rt.alloc(), options).map_err(|_| fault_name(RunFault::Want))
+        }
+        Ok(Ok(Subcommand::All(options))) => match standard_lines(&rt) {
+            Ok((mut reader, mut writer)) => {
                 let mut told = rt.stderr();
-                ended(all(
+                all(
                     &rt,
                     rt.alloc(),
                     options,
                     &mut reader,
                     &mut writer,
                     &mut told,
-                ))
+                )
+                .map_err(all_fault_name)
             }
-            _ => Err(fault_name(RunFault::Want)),
+            Err(fault) => Err(fault_name(fault)),
         },
         Ok(Err(usage)) => return refuse(&rt, usage),
-        Err(_) => Err(fault_name(RunFault::Want)),
+        Err(error) if error.kind() == ErrorKind::OutOfMemory => Err(fault_name(RunFault::Want)),
+        Err(_) => return refuse(&rt, None),
     };
     match outcome {
         Ok(()) => Ok(ExitCode::SUCCESS),
