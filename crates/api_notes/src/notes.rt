@@ -42,7 +42,7 @@ impl<'a, R> StandardError<'a, R> {
     }
 }
 
-/// Returns what a request does.
+/// Returns what a request does, in a word or two.
 fn verb(request: &Request) -> &'static str {
     match request {
         Request::Get(_) => "get",
@@ -67,7 +67,7 @@ impl<R: Eprint> Notes for StandardError<'_, R> {
     fn refused(&self, request: &Request, code: u16, body: &[u8]) {
         let why = str::from_utf8(body).unwrap_or("");
         let _ = eprintln!(self.rt;
-            "{}: a {} is refused with {code}: {why}",
+            "{}: {} refused with {code}: {why}",
             self.program,
             verb(request)
         );
