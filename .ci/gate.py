@@ -11,6 +11,7 @@ import os
 import pathlib
 import re
 import resource
+import signal
 import subprocess
 import sys
 import tempfile
@@ -26,6 +27,9 @@ BENCHMARKS = "crates/benchmarks/out/benchmarks"
 CONTROLLER = "crates/controller_example/out/controller_example"
 # How long negative tests may take, the least and the most, and by which second they are to be over, so that what follows has its time too.
 SECONDS_FOR_NEGATIVE_TESTS, FEWEST_SECONDS, NEGATIVE_TESTS_END = 900, 120, 9000
+# By which second those of must-fail are to have been tried, and when whatever still runs is stopped, so that the gate can say what went wrong.
+MUST_FAIL_END, END = 10_000, 10_500
+BEGAN = time.monotonic()
 # The conformance cases run beside the negative tests, which get the processors only while no case wants them: so no case waits for a prover.
 LAST_OF_ALL = ["nice", "-n", "19"]
 RANDOM_HEADS = 5000
@@ -42,7 +46,10 @@ import sampler
 
 
 class Run:
-    """A command, what it printed, and the second at which each line came. Two may run at once: then what one prints begins with its name."""
+    """A command, what it printed, and the second at which each line came. Two may run at once: then what one prints begins with its name.
+
+    What it has started and left running is stopped when it ends, and it is stopped itself when the gate has to end.
+    """
 
     one_at_a_time = threading.Lock()
 
@@ -51,15 +58,29 @@ class Run:
         self.tell(f"$ {' '.join(words)}\n")
         how = {"stdin": subprocess.DEVNULL, "stdout": subprocess.PIPE, "stderr": subprocess.STDOUT, "encoding": "utf-8"}
         try:
-            started = subprocess.Popen(words, cwd=ROOT, errors="replace", **how)
+            started = subprocess.Popen(words, cwd=ROOT, errors="replace", start_new_session=True, **how)
+            stopper = threading.Thread(target=self.stop_in_time, args=[started.pid], daemon=True)
+            stopper.start()
             for line in started.stdout:
                 second = time.monotonic() - began
                 self.tell(line, f"{second:7.0f}  {self.name}{line}", log)
                 self.lines.append((second, line.rstrip("\n")))
+            stopper.join()
             self.status = started.wait()
         except OSError as error:
             self.tell(f"{words[0]}: {error}\n")
         self.seconds = time.monotonic() - began
+
+    def stop_in_time(self, process):
+        """Waits until a process ends or there is no more time, and then stops all that is left of what it has started."""
+        while not os.waitid(os.P_PID, process, os.WEXITED | os.WNOHANG | os.WNOWAIT):
+            if seconds_left() <= 0:
+                why = f"FAILED: stopped, since the gate is to end by second {END}"
+                self.tell(f"{why}\n")
+                self.lines.append((END, why))
+                break
+            time.sleep(0.1)
+        os.killpg(process, signal.SIGKILL)
 
     def tell(self, line, noted="", log=None):
         """Prints a line, and notes another in the log, if one is given."""
@@ -114,6 +135,11 @@ def figures_of(proved, tried, asked, looking, used):
         "spans": spans,
         "crates": crates,
     }
+
+
+def seconds_left():
+    """Returns how many seconds there are until whatever still runs is stopped."""
+    return END - (time.monotonic() - BEGAN)
 
 
 def used_by_children():
@@ -205,7 +231,7 @@ def tell_end(runs):
 
 def main():
     sys.stdout.reconfigure(encoding="utf-8", errors="replace")
-    began, room = time.monotonic(), pathlib.Path(tempfile.mkdtemp(prefix="kcp-gate-"))
+    room = pathlib.Path(tempfile.mkdtemp(prefix="kcp-gate-"))
     with open(room / "output.txt", "w", encoding="utf-8") as log:
         first = asked_first(log)
         looking, before = sampler.Sampler(), used_by_children()
@@ -213,9 +239,10 @@ def main():
         proved = Run([sys.executable, "-B", ".ci/rt.py", "ci", "--edits-later"], log)
         used = used_by_children() - before
         looking.stage = "negative tests"
-        within = str(seconds_for_negative_tests(time.monotonic() - began))
+        passed = time.monotonic() - BEGAN
+        within, at_most = str(seconds_for_negative_tests(passed)), str(max(MUST_FAIL_END - passed, 0))
         with ThreadPoolExecutor(max_workers=1) as beside:
-            words = [*LAST_OF_ALL, sys.executable, "-B", "conformance/wrong_code.py", "--within", within]
+            words = [*LAST_OF_ALL, sys.executable, "-B", "conformance/wrong_code.py", "--within", within, "--at-most", at_most]
             trying = beside.submit(Run, words, log, "negative tests: ")
             asked = asked_of_program(log)
             tried = trying.result()
@@ -226,7 +253,7 @@ def main():
     print(f"kept: {room}/output.txt, {room}/figures.json\n")
     print("\n".join(line for _, line in first["negative tests apply"].lines))
     tell_end(runs)
-    sys.exit(1 if any(run.status for run in runs.values()) else 0)
+    sys.exit(1 if failed(runs) else 0)
 
 
 if __name__ == "__main__":

@@ -2,7 +2,8 @@
 """Does what README.md shows: its commands with a built program, and its request lines, and compares what is shown as their output.
 
 A block between two lines of ``` is a script. In it a line that begins with `{`, but for those of a here-document, is what the command before it has to print, and
-`..` in it stands for any text. In the section on lines, what follows a request line is its reply. The block that proves and builds is left out.
+`..` in it stands for any text. In the section on lines, what follows a request line is its reply. The block that proves and builds is left out,
+and a port that is free takes the place of the one that is shown.
 Usage: readme.py [--program PATH]
 """
 import argparse
@@ -13,9 +14,13 @@ import signal
 import subprocess
 import sys
 
+sys.dont_write_bytecode = True
 ROOT = pathlib.Path(__file__).resolve().parent.parent
-BUILT = "crates/kcp/out/kcp"
-SECONDS = 120
+sys.path.append(str(ROOT / "conformance" / "controllers"))
+from programs import lasting_port
+
+BUILT, PORT = "crates/kcp/out/kcp", "8080"
+SECONDS = 300
 METHODS = ("GET ", "POST ", "PUT ", "PATCH ", "DELETE ")
 
 
@@ -48,7 +53,8 @@ def pattern(shown):
 def run_commands(program, text):
     """Runs the commands of the section on running, and returns what was not as it is shown."""
     steps = [step for block in blocks(text, "Run it") if "build.py" not in "".join(block) for step in steps_of(block)]
-    script = "\n".join("\n".join([*lines, f"echo; echo @{number}"]) for number, (lines, _) in enumerate(steps)).replace(BUILT, program)
+    script = "\n".join("\n".join([*lines, f"echo; echo @{number}"]) for number, (lines, _) in enumerate(steps))
+    script = script.replace(BUILT, program).replace(PORT, str(lasting_port()))
     started = subprocess.Popen(["bash", "-c", script], cwd=ROOT, stdin=subprocess.DEVNULL, stdout=subprocess.PIPE, stderr=subprocess.DEVNULL, text=True, start_new_session=True)
     try:
         printed, _ = read_until(started, f"@{len(steps) - 1}")

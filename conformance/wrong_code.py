@@ -4,6 +4,7 @@
     wrong_code.py [--jobs N] [NAME..]    tries the pieces of these crates, or of all that have changed since, and keeps in tried.txt what was refused
     wrong_code.py --within SECONDS       what the gate does: tries all of must-fail, and within that time those of crates that have changed, then one
                                          piece of each other crate, by turns; says what was not tried, and keeps nothing
+                  --at-most SECONDS      fails where not all of must-fail were tried after so many seconds
     wrong_code.py --check                tries nothing, and says in a few seconds what has changed since it was tried
     wrong_code.py --plan                 says how many pieces can be tried beside others
 
@@ -11,11 +12,13 @@ The crates below have to be built: by `rt all check`, `python3 build.py` or `rt 
 negative/trials.py how they are tried, and negative/tried.py what tried.txt has. `rt must-fail` of the toolchain tries those in must-fail
 too, each alone. A crate that is named is tried even where its line of tried.txt still stands.
 
-The status is 1 where a piece was not refused, or, with --check, no longer applies to the text, and nowhere else.
+The status is 1 where a piece was not refused, or, with --check, no longer applies to the text, or, with --at-most, there was no time for one of
+must-fail, and nowhere else.
 """
 import argparse
 import collections
 import concurrent.futures
+import dataclasses
 import hashlib
 import os
 import subprocess
@@ -81,8 +84,8 @@ def work_within():
     others = turned([name for name in with_pieces(known) if name not in changed], seed)
     first = {name: pieces.pieces(name, ["must-fail"]) for name in known}
     rest = {name: pieces.pieces(name, ["wrong-code"]) for name in known}
-    # What was refused before and is not any more comes first, and what was never tried last.
-    work = [(name, rest[name]) for name in sorted(changed, key=lambda it: (it not in lines, -len(rest[it])))]
+    # What was refused before and is not any more comes first, and what was never tried last; of each, another crate with each commit.
+    work = [(name, rest[name]) for name in sorted(turned(changed, seed), key=lambda it: it not in lines)]
     work += [(name, turned(rest[name], seed)[:1]) for name in others]
     return [(name, found) for name, found in first.items() if found], [(name, found) for name, found in work if found], set(changed)
 
@@ -116,7 +119,7 @@ def tell(verdicts):
     left = collections.Counter(it.piece.crate for it in of[Outcome.NOT_TRIED])
     if left:
         print("not tried, and when they were tried last:", ", ".join(f"{name} {count} ({tried.age(name, lines)})" for name, count in left.items()))
-    wrong = of[Outcome.NOT_REFUSED] + of[Outcome.BAD]
+    wrong = of[Outcome.NOT_REFUSED] + of[Outcome.BAD] + of[Outcome.TOO_LATE]
     for it in wrong:
         print(f"{it.piece}: {it.outcome.value}: {it.reason}")
     print(f"{len(of[Outcome.REFUSED])} refused, {left.total()} not tried")
@@ -129,6 +132,7 @@ def main():
     parser.add_argument("--check", action="store_true", help="try nothing, and say what has changed")
     parser.add_argument("--plan", action="store_true", help="try nothing, and say how many checks it takes")
     parser.add_argument("--within", type=float, metavar="SECONDS", help="try what the gate tries, within this time")
+    parser.add_argument("--at-most", type=float, metavar="SECONDS", help="with --within: fail where not all of must-fail were tried after this time")
     parser.add_argument("--jobs", type=int, default=len(os.sched_getaffinity(0)), help="how many crates to try side by side")
     parser.add_argument("names", nargs="*", metavar="NAME", help="only these crates")
     asked = parser.parse_args()
@@ -143,9 +147,18 @@ def main():
 
 def within(asked):
     """Tries what the gate tries, and returns what became of each piece."""
-    until = time.monotonic() + asked.within
-    first, rest, changed = work_within()
-    return try_all(first, changed, asked.jobs, None, False) + try_all(rest, changed, asked.jobs, until, False)
+    began, (first, rest, changed) = time.monotonic(), work_within()
+    until = None if asked.at_most is None else began + asked.at_most
+    owed = [too_late(it) for it in try_all(first, changed, asked.jobs, until, False)]
+    return owed + try_all(rest, changed, asked.jobs, began + asked.within, False)
+
+
+def too_late(verdict):
+    """Returns what became of a piece that has to be tried: that there was no time for it is a fault."""
+    from negative.trials import NO_TIME, Outcome
+
+    is_late = verdict.outcome is Outcome.NOT_TRIED and verdict.reason == NO_TIME
+    return dataclasses.replace(verdict, outcome=Outcome.TOO_LATE) if is_late else verdict
 
 
 def kept(asked, known):

@@ -32,6 +32,8 @@ GET = f"GET {MAPS}?limit=1 HTTP/1.1\r\nHost: localhost\r\n\r\n".encode()
 WATCH = f"GET {MAPS}?watch=true&resourceVersion=1 HTTP/1.1\r\nHost: localhost\r\n\r\n".encode()
 # What is meant is multiplied by this where other work is done beside.
 LOOSE = 10
+# How many seconds after its deadline a connection may be left.
+LATE_SECONDS = 3
 # For how long a watch is told nothing. It looks by itself, too, every 30 ms.
 IDLE_SECONDS = 0.05
 # How many descriptors are left to a server that has few.
@@ -43,6 +45,11 @@ def within(seconds, most, what):
     """Checks that something took no longer than is meant, and returns what is told of it."""
     check(seconds <= most * (1 if STRICT else LOOSE), f"{what} took {seconds:.3f} s, and {most:g} s are meant")
     return f"{what} {seconds * 1000:.1f} ms"
+
+
+def late_seconds():
+    """Returns how many seconds after its deadline a connection may be left here."""
+    return LATE_SECONDS * (1 if STRICT else LOOSE)
 
 
 def connected(port, buffer=None):
@@ -211,10 +218,10 @@ def heads_in_time(program, asked):
         body.sendall(f"POST {MAPS} HTTP/1.1\r\nHost: localhost\r\nContent-Type: application/json\r\nContent-Length: 100\r\n\r\n{{".encode())
         check(read_to_end(head) == b"", "half a head was replied to")
         of_head = time.monotonic() - began
-        check(9 < of_head < 15, f"half a head was left after {of_head:.1f} s")
+        check(9 < of_head < 10 + late_seconds(), f"half a head was left after {of_head:.1f} s")
         check(read_to_end(body) == b"", "half a request was replied to")
         of_body = time.monotonic() - began
-        check(29 < of_body < 36, f"half a request was left after {of_body:.1f} s")
+        check(29 < of_body < 30 + late_seconds(), f"half a request was left after {of_body:.1f} s")
         return f"left after {of_head:.1f} s and {of_body:.1f} s"
 
 

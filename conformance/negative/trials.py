@@ -15,6 +15,7 @@ from negative.prover import PROVED, REFUSED, WAITS
 
 # How long a check that has begun may go on after the time that was given.
 SECONDS_TO_END = 240
+NO_TIME = "no time was left"
 NO_SUCH_FUNCTION = re.compile(r"has no function `([^`]+)`")
 
 
@@ -23,6 +24,8 @@ class Outcome(enum.Enum):
     NOT_REFUSED = "NOT REFUSED"
     BAD = "BAD EDIT"
     NOT_TRIED = "not tried"
+    # Of a piece that has to be tried, whatever time it takes.
+    TOO_LATE = "NOT TRIED"
 
 
 @dataclasses.dataclass(frozen=True)
@@ -69,7 +72,7 @@ class Trial:
                 self.try_alone(piece)
         judged = {it.piece for it in self.verdicts}
         left = [it for it in [*self.joint, *self.alone] if it not in judged]
-        return self.verdicts + [Verdict(it, Outcome.NOT_TRIED, "no time was left") for it in left]
+        return self.verdicts + [Verdict(it, Outcome.NOT_TRIED, NO_TIME) for it in left]
 
     def set_apart(self, functions):
         """Has the pieces of these functions tried alone."""
@@ -122,7 +125,8 @@ class Trial:
         self.say(f"{self.name}: {len(refused)} of {len(taken)} refused, in one check of {time.monotonic() - began:.0f} s")
 
     def try_alone(self, piece):
-        """Tries one piece: the functions that it stands in, and then, where these are proved or it stands in none, the whole crate."""
+        """Tries one piece: the functions that it stands in, and then, where these are proved or it stands in none, the whole crate. Nothing is
+        judged where the time is over before that."""
         began = time.monotonic()
         texts, why = (None, piece.fault) if piece.fault else piece.applied({}, self.folder)
         if why:
@@ -131,7 +135,11 @@ class Trial:
         functions = self.functions_in(texts)
         answer = self.check(texts, functions) if functions else None
         if not answer or answer.fault(texts) or not set(functions) & answer.names(REFUSED, self.name):
+            if self.is_over():
+                return
             answer = self.check(texts)
+        if answer.status < 0 and self.is_over():
+            return
         fault = answer.fault(texts)
         outcome = Outcome.BAD if fault else Outcome.NOT_REFUSED if answer.status == 0 else Outcome.REFUSED
         self.judge(piece, outcome, fault or ("the crate is proved with it" if answer.status == 0 else answer.reason()))
