@@ -1,5 +1,5 @@
-//! Tests of what threads share: batons, bells, a board and a desk; and of the controllers in threads, with the environment that they run in: a
-//! server of the same process, gates at which a worker waits, and scenarios, which say what a client does meanwhile.
+//! Tests of the controllers in threads, with the environment that they run in: a server of the same process, gates at which a worker waits, and
+//! scenarios, which say what a client does meanwhile.
 #![tactic(auto)]
 
 #[cfg(test)]
@@ -7,27 +7,15 @@ mod adopting;
 #[cfg(test)]
 mod adopting_tests;
 #[cfg(test)]
-mod baton_tests;
-#[cfg(test)]
-mod bell_tests;
-#[cfg(test)]
 mod beside;
 #[cfg(test)]
 mod beside_tests;
 #[cfg(test)]
-mod board_tests;
-#[cfg(test)]
 mod clients;
-#[cfg(test)]
-mod counters;
 #[cfg(test)]
 mod counting;
 #[cfg(test)]
 mod counting_tests;
-#[cfg(test)]
-mod creating;
-#[cfg(test)]
-mod desk_tests;
 #[cfg(test)]
 mod environments;
 #[cfg(test)]
@@ -56,5 +44,3 @@ mod servers;
 mod waiting;
 #[cfg(test)]
 mod watches;
-#[cfg(test)]
-mod working;

@@ -3,8 +3,8 @@ use denote.Exit.{no}
 use denote.Param.{param}
 use denote.Param.Send.{IsSync, sendable, param_send, arg_send, param_sync, arg_sync}
 use Rattle.desk.proofs.Sent.{pass}
-use Rattle.threads_tests.proofs.Sent.{captured}
-use Rattle.threads_tests.proofs.desk_tests.create_in_threads.Goals as goal
+use Rattle.sharing_tests.proofs.Sent.{captured}
+use Rattle.sharing_tests.proofs.desk_tests.create_in_threads.Goals as goal
 
 pub map_vec-requires-send-J : goal.map_vec-requires-send-J
 map_vec-requires-send-J g c κs within = param_send 1 _ (arg_send _ no _ pass)

@@ -1,6 +1,6 @@
 use Rattle.std.proofs.Common.{All}
 use Rattle.control_desk.specs.Desks.{IsPassAt}
-use Rattle.threads_tests.proofs.board_tests.meet_in_turn.Given as goal
+use Rattle.sharing_tests.proofs.board_tests.meet_in_turn.Given as goal
 
 abbrev pub invariant-loop-next : goal.invariant-loop-next
 invariant-loop-next l = IsPassAt l.desk l.last × All (IsPassAt l.desk) l.passes.items
