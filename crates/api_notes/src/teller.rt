@@ -1,14 +1,11 @@
-//! What is news of how it goes with a server.
+//! What is told of how it goes with a server.
+use crate::news::{News, is_over};
 use crate::notes::Notes;
 use crate::trouble::Trouble;
-use api_client::Opened;
 use http_client::Answer;
 use request_parts::Request;
 use spec_api::kinds::Kind;
 use wakeups::Stop;
-
-/// The status code of a reply that says that what was asked for is there (RFC 9110, 200 OK).
-const OK: u16 = 200;
 
 /// The first status code of those that refuse (RFC 9110, Client Error 4xx).
 const FIRST_REFUSAL: u16 = 400;
@@ -53,47 +50,22 @@ impl<'a, N: Notes> Teller<'a, N> {
     }
 
     /// Notes that the trouble is over, if there was one.
-    pub(crate) fn note_understood(&mut self) {
+    pub(crate) fn note_over(&mut self) {
         if let (Some(kind), Some(trouble)) = (self.kind, self.trouble) {
-            self.notes.over(kind, trouble);
+            if !self.stop.is_stopped() {
+                self.notes.over(kind, trouble);
+            }
         }
         self.trouble = None;
     }
 
-    /// Notes that the server replies.
-    fn note_replied(&mut self) {
-        if self.trouble == Some(Trouble::NoReply) {
-            self.note_understood();
-        }
-    }
-
-    /// Notes the answer to a list of a kind. Whether its body is one, who reads it says.
-    pub(crate) fn note_listed(&mut self, kind: Kind, answer: &Answer) {
+    /// Notes what the answer to who asked for objects of a kind says.
+    pub(crate) fn note_news(&mut self, kind: Kind, news: News) {
         self.kind = Some(kind);
-        match answer {
-            Answer::Replied(reply) if reply.code == OK => self.note_replied(),
-            Answer::Replied(reply) => self.note(Trouble::Refused(reply.code)),
-            Answer::NotSent | Answer::Lost => self.note(Trouble::NoReply),
-        }
-    }
-
-    /// Notes what became of a watch of a kind. One that has expired is followed by a list.
-    pub(crate) fn note_watched(&mut self, kind: Kind, opened: Opened) {
-        self.kind = Some(kind);
-        match opened {
-            Opened::Open | Opened::Expired => self.note_replied(),
-            Opened::Refused(code) => self.note(Trouble::Refused(code)),
-            Opened::Lost => self.note(Trouble::NoReply),
-        }
-    }
-
-    /// Notes whether the server replies where it does not matter with which code, as a list follows.
-    pub(crate) fn note_asked(&mut self, kind: Kind, has_replied: bool) {
-        self.kind = Some(kind);
-        if has_replied {
-            self.note_replied();
-        } else {
-            self.note(Trouble::NoReply);
+        match (news, self.trouble) {
+            (News::Troubled(trouble), _) => self.note(trouble),
+            (_, Some(trouble)) if is_over(news, trouble) => self.note_over(),
+            _ => {}
         }
     }
 
@@ -103,7 +75,8 @@ impl<'a, N: Notes> Teller<'a, N> {
             return;
         };
         let code = reply.code;
-        if code >= FIRST_REFUSAL && code != NOT_FOUND && code != CONFLICT {
+        let is_told = code >= FIRST_REFUSAL && code != NOT_FOUND && code != CONFLICT;
+        if is_told && !self.stop.is_stopped() {
             self.notes.refused(request, code, &reply.body);
         }
     }
