@@ -1,5 +1,6 @@
 -- What an answer says of how it goes with a server.
-use Rattle.std.specs.Prelude.{ℕ, ◌||◌, nat_eq, if◌then◌else◌, Bool, true, false}
+use Rattle.std.specs.Prelude.{ℕ, ◌&&◌, ◌||◌, nat_eq, nat_le, not, if◌then◌else◌, Bool, true, false}
+use Rattle.spec_api.specs.ObjectRequests as words
 use Rattle.http_client.specs.declared.answer.Answer.{Answer}
 use Rattle.http_client.specs.declared.answer.Answer.TheVariants as answer
 use Rattle.api_client.specs.declared.api.Opened.{Opened}
@@ -52,3 +53,13 @@ is_over news.Given trouble.NotUnderstood = false
 is_over (news.Troubled other) trouble.NoReply = false
 is_over (news.Troubled other) (trouble.Refused code) = false
 is_over (news.Troubled other) trouble.NotUnderstood = false
+
+-- an object is to be made
+abbrev pub is_create : words.Request → Bool
+is_create (words.create_object kind ns d) = true
+is_create request = false
+
+-- all codes above those of success are told, but 409 and 404: that an object is another by now, or gone, is in the nature of working by a copy;
+-- but 404 is told where an object is to be made, as then its namespace or the path is not there
+abbrev pub is_told : words.Request → ℕ → Bool
+is_told request code = nat_le 300 code && not (nat_eq code 409) && (not (nat_eq code 404) || is_create request)

@@ -12,14 +12,17 @@ const MOST_SHOWN: usize = 100;
 
 /// Is told how it goes with a server. Threads tell side by side, and wait while they do.
 pub trait Notes {
-    /// Is told what keeps the objects of a kind from coming: once, until that is over or something else keeps them.
+    /// Is told what keeps the objects of a kind from coming: once, until that is over or something else keeps them. So it is told, as
+    /// `Trouble::NoReply`, that a request of one object of the kind was not sent or not answered: once, until one is answered. Each `Told` tells for
+    /// itself.
     fn trouble(&self, kind: Kind, trouble: Trouble);
 
     /// Is told that this is over, which it was told last of the kind.
     fn over(&self, kind: Kind, trouble: Trouble);
 
-    /// Is told that a request of one object was refused, with a status code and a body, which says why as a Status (Kubernetes API Concepts). It is
-    /// told of each, but of 404 and 409: that an object is gone, or is another by now, is in the nature of working by a copy.
+    /// Is told that a request of one object was refused, with a status code and a body, which says why as a Status (Kubernetes API Concepts), or was
+    /// answered by one of redirection. It is told of each, but of 404 and 409: that an object is gone, or is another by now, is in the nature of
+    /// working by a copy. Of 404 it is told where an object was to be made: its namespace or the path is not there.
     fn refused(&self, request: &Request, code: u16, body: &[u8]);
 }
 

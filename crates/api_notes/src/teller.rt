@@ -1,4 +1,9 @@
 //! What is told of how it goes with a server.
+ghost use Rattle.std.specs.Prelude.{◌≡◌};
+ghost use Rattle.request_parts.specs.Requests.{request_of};
+ghost use Rattle.api_notes.specs.News.{is_create, is_told};
+
+use crate::named::kind_of;
 use crate::news::{News, is_over};
 use crate::notes::Notes;
 use crate::trouble::Trouble;
@@ -7,14 +12,29 @@ use request_parts::Request;
 use spec_api::kinds::Kind;
 use wakeups::Stop;
 
-/// The first status code of those that refuse (RFC 9110, Client Error 4xx).
-const FIRST_REFUSAL: u16 = 400;
+/// The first status code above those of success (RFC 9110, Redirection 3xx).
+const FIRST_REDIRECTION: u16 = 300;
 
 /// The status code of what is not there (RFC 9110, 404 Not Found).
 const NOT_FOUND: u16 = 404;
 
 /// The status code of a write that does not fit what is there (RFC 9110, 409 Conflict).
 const CONFLICT: u16 = 409;
+
+/// Returns whether a request is to make an object.
+fn is_create(request: &Request) -> bool
+    ensures { result ≡ is_create (request_of request.now) }
+{
+    matches!(request, Request::Create(_, _, _))
+}
+
+/// Returns whether it is told that a request is answered with a status code: one that is none of success, but 409, and 404 where no object is to be
+/// made.
+fn is_told(request: &Request, code: u16) -> bool
+    ensures { result ≡ is_told (request_of request.now) code }
+{
+    code >= FIRST_REDIRECTION && code != CONFLICT && (code != NOT_FOUND || is_create(request))
+}
 
 /// Tells how it goes with a server, where that is news, until a stop: from then on connections end because they are to.
 #[derive(Drop)]
@@ -25,6 +45,8 @@ pub(crate) struct Teller<'a, N> {
     kind: Option<Kind>,
     /// What was told last of that kind, and is not over.
     trouble: Option<Trouble>,
+    /// The kind of a request of one object that was not answered, if that was told and none was answered since.
+    unanswered: Option<Kind>,
 }
 
 impl<'a, N: Notes> Teller<'a, N> {
@@ -35,6 +57,7 @@ impl<'a, N: Notes> Teller<'a, N> {
             stop,
             kind: None,
             trouble: None,
+            unanswered: None,
         }
     }
 
@@ -69,15 +92,34 @@ impl<'a, N: Notes> Teller<'a, N> {
         }
     }
 
-    /// Notes the answer to a request of one object.
-    pub(crate) fn note_called(&self, request: &Request, answer: &Answer) {
-        let Answer::Replied(reply) = answer else {
-            return;
-        };
-        let code = reply.code;
-        let is_told = code >= FIRST_REFUSAL && code != NOT_FOUND && code != CONFLICT;
-        if is_told && !self.stop.is_stopped() {
-            self.notes.refused(request, code, &reply.body);
+    /// Notes that a request of one object of a kind was not sent or not answered, unless that was told and none was answered since.
+    fn note_unanswered(&mut self, kind: Kind) {
+        if self.unanswered.is_none() && !self.stop.is_stopped() {
+            self.notes.trouble(kind, Trouble::NoReply);
+            self.unanswered = Some(kind);
+        }
+    }
+
+    /// Notes that a request of one object was answered.
+    fn note_answered(&mut self) {
+        if let Some(kind) = self.unanswered {
+            if !self.stop.is_stopped() {
+                self.notes.over(kind, Trouble::NoReply);
+            }
+        }
+        self.unanswered = None;
+    }
+
+    /// Notes what became of a request of one object.
+    pub(crate) fn note_called(&mut self, request: &Request, answer: &Answer) {
+        match answer {
+            Answer::Replied(reply) => {
+                self.note_answered();
+                if is_told(request, reply.code) && !self.stop.is_stopped() {
+                    self.notes.refused(request, reply.code, &reply.body);
+                }
+            }
+            Answer::NotSent | Answer::Lost => self.note_unanswered(kind_of(request)),
         }
     }
 }
