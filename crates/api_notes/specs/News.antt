@@ -42,7 +42,7 @@ stream_news opened.Expired = news.Troubled (trouble.Refused 410)
 stream_news (opened.Refused code) = if is_refusal_of_streams code then news.Replied else news.Troubled (refusal code)
 stream_news opened.Lost = news.Troubled trouble.NoReply
 
--- that there is no reply is over by any reply, a refusal by what is given; what is not understood by who reads it
+-- that there is no reply is over by any reply, a refusal by what is given, and that something is not understood by what is
 abbrev pub is_over : News → Trouble → Bool
 is_over news.Replied trouble.NoReply = true
 is_over news.Replied (trouble.Refused code) = false
@@ -50,6 +50,9 @@ is_over news.Replied trouble.NotUnderstood = false
 is_over news.Given trouble.NoReply = true
 is_over news.Given (trouble.Refused code) = true
 is_over news.Given trouble.NotUnderstood = false
+is_over news.Understood trouble.NoReply = true
+is_over news.Understood (trouble.Refused code) = false
+is_over news.Understood trouble.NotUnderstood = true
 is_over (news.Troubled other) trouble.NoReply = false
 is_over (news.Troubled other) (trouble.Refused code) = false
 is_over (news.Troubled other) trouble.NotUnderstood = false

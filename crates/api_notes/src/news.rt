@@ -13,13 +13,15 @@ const OK: u16 = 200;
 /// The status code of what is no longer known (RFC 9110, 410 Gone).
 const GONE: u16 = 410;
 
-/// What an answer says.
+/// What an answer, or who reads it, says.
 #[derive(Debug, Clone, Copy, PartialEq, Eq)]
 pub(crate) enum News {
     /// The server replies.
     Replied,
     /// It replies that what was asked for follows.
     Given,
+    /// What follows was read as such.
+    Understood,
     /// This keeps the objects of the kind from coming.
     Troubled(Trouble),
 }
@@ -99,19 +101,23 @@ pub(crate) fn stream_news(opened: Opened) -> News
     }
 }
 
-/// Returns whether a trouble is over by what an answer says: that there is no reply by any reply, a refusal by what is given.
+/// Returns whether a trouble is over by such news: that there is no reply by any reply, a refusal by what is given, and not by a first object that is
+/// read meanwhile, and that something is not understood by what is.
 pub(crate) fn is_over(news: News, trouble: Trouble) -> bool
     ensures { result ≡ is_over news trouble }
 {
     match trouble {
         Trouble::NoReply => match news {
-            News::Replied | News::Given => true,
+            News::Replied | News::Given | News::Understood => true,
             News::Troubled(_) => false,
         },
         Trouble::Refused(_) => match news {
             News::Given => true,
-            News::Replied | News::Troubled(_) => false,
+            News::Replied | News::Understood | News::Troubled(_) => false,
         },
-        Trouble::NotUnderstood => false,
+        Trouble::NotUnderstood => match news {
+            News::Understood => true,
+            News::Replied | News::Given | News::Troubled(_) => false,
+        },
     }
 }

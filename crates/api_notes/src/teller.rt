@@ -61,8 +61,8 @@ impl<'a, N: Notes> Teller<'a, N> {
         }
     }
 
-    /// Notes what keeps the objects of the kind from coming.
-    pub(crate) fn note(&mut self, trouble: Trouble) {
+    /// Tells what keeps the objects of the kind from coming, unless that was told last.
+    fn tell(&mut self, trouble: Trouble) {
         if self.trouble == Some(trouble) || self.stop.is_stopped() {
             return;
         }
@@ -72,9 +72,9 @@ impl<'a, N: Notes> Teller<'a, N> {
         }
     }
 
-    /// Notes that the trouble is over, if there was one.
-    pub(crate) fn note_over(&mut self) {
-        if let (Some(kind), Some(trouble)) = (self.kind, self.trouble) {
+    /// Tells that what was told last is over.
+    fn tell_over(&mut self, trouble: Trouble) {
+        if let Some(kind) = self.kind {
             if !self.stop.is_stopped() {
                 self.notes.over(kind, trouble);
             }
@@ -82,14 +82,19 @@ impl<'a, N: Notes> Teller<'a, N> {
         self.trouble = None;
     }
 
+    /// Notes what is said of the kind.
+    pub(crate) fn note(&mut self, news: News) {
+        match (news, self.trouble) {
+            (News::Troubled(trouble), _) => self.tell(trouble),
+            (_, Some(trouble)) if is_over(news, trouble) => self.tell_over(trouble),
+            _ => {}
+        }
+    }
+
     /// Notes what the answer to who asked for objects of a kind says.
     pub(crate) fn note_news(&mut self, kind: Kind, news: News) {
         self.kind = Some(kind);
-        match (news, self.trouble) {
-            (News::Troubled(trouble), _) => self.note(trouble),
-            (_, Some(trouble)) if is_over(news, trouble) => self.note_over(),
-            _ => {}
-        }
+        self.note(news);
     }
 
     /// Notes that a request of one object of a kind was not sent or not answered, unless that was told and none was answered since.

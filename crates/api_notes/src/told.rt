@@ -2,7 +2,7 @@
 ghost use Rattle.std.specs.Prelude.{◌≡◌};
 ghost use Rattle.api_notes.specs.Told.{api_of};
 
-use crate::news::{first_news, list_news, stream_news, watch_news};
+use crate::news::{News, first_news, list_news, stream_news, watch_news};
 use crate::notes::Notes;
 use crate::teller::Teller;
 use crate::trouble::Trouble;
@@ -73,12 +73,12 @@ impl<A: Api + Drop, N: Notes> Api for Told<'_, A, N> {
     }
 
     fn note_understood(&mut self) {
-        self.teller.note_over();
+        self.teller.note(News::Understood);
         self.api.note_understood();
     }
 
     fn note_not_understood(&mut self, bytes: &[u8]) {
-        self.teller.note(Trouble::NotUnderstood);
+        self.teller.note(News::Troubled(Trouble::NotUnderstood));
         self.api.note_not_understood(bytes);
     }
 }
