@@ -3,7 +3,8 @@
 
 The server is a `kcp serve` with three ConfigMaps, the follower the program `watch_example`, over TCP. It is given a stream of initial events that
 is cut, and asks for it again, unless the end of the list has come; or streams are refused, as by a server that knows none, and the list that it
-asks for then is cut. What it writes has to be just what it writes where nothing is cut, and it asks for nothing else.
+asks for then is cut. What it writes has to be just what it writes where nothing is cut, and it asks for nothing else. Servers whose watches give
+nothing new, as half a frame, have to be asked again after pauses alone (barren.py).
 Usage: cuts.py --program PATH [--follower PATH] [--short]
 """
 import argparse
@@ -16,6 +17,7 @@ import sys
 import threading
 
 sys.dont_write_bytecode = True
+import barren
 from asking import LIST, STREAM, asked_for, refusal
 from run import LIMIT_SECONDS, PATH, PATIENCE, Client, built, listed, serve
 
@@ -149,6 +151,7 @@ def main():
         trials = Trials(port, follower)
         counts = [trials.run(STREAM, *stream_bytes(port), step)]
         counts += [trials.run(LIST, *list_bytes(port), step, code) for code in REFUSALS]
+        counts.append(barren.run(follower))
     finally:
         server.terminate()
         server.wait(PATIENCE)

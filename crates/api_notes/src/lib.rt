@@ -1,6 +1,8 @@
 //! A server that is asked, and what is told of how that goes: for who runs a controller, and sees nothing of its connections.
 #![tactic(auto)]
 
+pub(crate) mod named;
+pub(crate) mod news;
 pub mod notes;
 pub(crate) mod teller;
 pub mod told;

@@ -1,18 +1,28 @@
 //! Who is told how it goes with a server.
+ghost use Rattle.std.specs.Prelude.{◌≡◌};
+ghost use Rattle.api_notes.specs.Named.{first_shown};
+
+use crate::named::{kind_of, name_of, namespace_of};
 use crate::trouble::Trouble;
 use request_parts::Request;
 use spec_api::kinds::Kind;
 
+/// How many bytes are shown of a text that a server sent, or that it is to be sent.
+const MOST_SHOWN: usize = 100;
+
 /// Is told how it goes with a server. Threads tell side by side, and wait while they do.
 pub trait Notes {
-    /// Is told what keeps the objects of a kind from coming: once, until that is over or something else keeps them.
+    /// Is told what keeps the objects of a kind from coming: once, until that is over or something else keeps them. So it is told, as
+    /// `Trouble::NoReply`, that a request of one object of the kind was not sent or not answered: once, until one is answered. Each `Told` tells for
+    /// itself.
     fn trouble(&self, kind: Kind, trouble: Trouble);
 
     /// Is told that this is over, which it was told last of the kind.
     fn over(&self, kind: Kind, trouble: Trouble);
 
-    /// Is told that a request of one object was refused, with a status code and a body, which says why as a Status (Kubernetes API Concepts). It is
-    /// told of each, but of 404 and 409: that an object is gone, or is another by now, is in the nature of working by a copy.
+    /// Is told that a request of one object was refused, with a status code and a body, which says why as a Status (Kubernetes API Concepts), or was
+    /// answered by one of redirection. It is told of each, but of 404 and 409: that an object is gone, or is another by now, is in the nature of
+    /// working by a copy. Of 404 it is told where an object was to be made: its namespace or the path is not there.
     fn refused(&self, request: &Request, code: u16, body: &[u8]);
 }
 
@@ -28,7 +38,9 @@ impl Notes for Silent {
     fn refused(&self, _request: &Request, _code: u16, _body: &[u8]) {}
 }
 
-/// Writes what it is told on standard error, each time behind the name of the program. What cannot be written is left out.
+/// Writes what it is told on standard error, each time a line behind the name of the program. Of a refused request these are its verb, the kind,
+/// namespace and name of its object, or what a name is to be made of (`generateName`), the status code, and the beginning of the body: of each text
+/// 100 bytes at most, and those that are no printable ASCII by their escapes. What cannot be written is left out.
 #[derive(Drop)]
 pub struct StandardError<'a, R> {
     rt: &'a R,
@@ -55,6 +67,13 @@ fn verb(request: &Request) -> &'static str {
     }
 }
 
+/// Returns the first of some bytes, as many as are shown.
+fn first_shown(bytes: &[u8]) -> &[u8]
+    ensures { result.now ≡ first_shown bytes.now }
+{
+    &bytes[..bytes.len().min(MOST_SHOWN)]
+}
+
 impl<R: Eprint> Notes for StandardError<'_, R> {
     fn trouble(&self, kind: Kind, trouble: Trouble) {
         let _ = eprintln!(self.rt; "{}: {}: {trouble}", self.program, kind.plural());
@@ -65,11 +84,14 @@ impl<R: Eprint> Notes for StandardError<'_, R> {
     }
 
     fn refused(&self, request: &Request, code: u16, body: &[u8]) {
-        let why = str::from_utf8(body).unwrap_or("");
         let _ = eprintln!(self.rt;
-            "{}: {} refused with {code}: {why}",
+            "{}: {} of {} {}/{} refused with {code}: {}",
             self.program,
-            verb(request)
+            verb(request),
+            kind_of(request).plural(),
+            first_shown(namespace_of(request).as_bytes()).escape_ascii(),
+            first_shown(name_of(request).as_bytes()).escape_ascii(),
+            first_shown(body).escape_ascii()
         );
     }
 }

@@ -1,23 +1,40 @@
-//! What is news of how it goes with a server.
+//! What is told of how it goes with a server.
+ghost use Rattle.std.specs.Prelude.{◌≡◌};
+ghost use Rattle.request_parts.specs.Requests.{request_of};
+ghost use Rattle.api_notes.specs.News.{is_create, is_told};
+
+use crate::named::kind_of;
+use crate::news::{News, is_over};
 use crate::notes::Notes;
 use crate::trouble::Trouble;
-use api_client::Opened;
 use http_client::Answer;
 use request_parts::Request;
 use spec_api::kinds::Kind;
 use wakeups::Stop;
 
-/// The status code of a reply that says that what was asked for is there (RFC 9110, 200 OK).
-const OK: u16 = 200;
-
-/// The first status code of those that refuse (RFC 9110, Client Error 4xx).
-const FIRST_REFUSAL: u16 = 400;
+/// The first status code above those of success (RFC 9110, Redirection 3xx).
+const FIRST_REDIRECTION: u16 = 300;
 
 /// The status code of what is not there (RFC 9110, 404 Not Found).
 const NOT_FOUND: u16 = 404;
 
 /// The status code of a write that does not fit what is there (RFC 9110, 409 Conflict).
 const CONFLICT: u16 = 409;
+
+/// Returns whether a request is to make an object.
+fn is_create(request: &Request) -> bool
+    ensures { result ≡ is_create (request_of request.now) }
+{
+    matches!(request, Request::Create(_, _, _))
+}
+
+/// Returns whether it is told that a request is answered with a status code: one that is none of success, but 409, and 404 where no object is to be
+/// made.
+fn is_told(request: &Request, code: u16) -> bool
+    ensures { result ≡ is_told (request_of request.now) code }
+{
+    code >= FIRST_REDIRECTION && code != CONFLICT && (code != NOT_FOUND || is_create(request))
+}
 
 /// Tells how it goes with a server, where that is news, until a stop: from then on connections end because they are to.
 #[derive(Drop)]
@@ -28,6 +45,8 @@ pub(crate) struct Teller<'a, N> {
     kind: Option<Kind>,
     /// What was told last of that kind, and is not over.
     trouble: Option<Trouble>,
+    /// The kind of a request of one object that was not answered, if that was told and none was answered since.
+    unanswered: Option<Kind>,
 }
 
 impl<'a, N: Notes> Teller<'a, N> {
@@ -38,11 +57,12 @@ impl<'a, N: Notes> Teller<'a, N> {
             stop,
             kind: None,
             trouble: None,
+            unanswered: None,
         }
     }
 
-    /// Notes what keeps the objects of the kind from coming.
-    pub(crate) fn note(&mut self, trouble: Trouble) {
+    /// Tells what keeps the objects of the kind from coming, unless that was told last.
+    fn tell(&mut self, trouble: Trouble) {
         if self.trouble == Some(trouble) || self.stop.is_stopped() {
             return;
         }
@@ -52,59 +72,59 @@ impl<'a, N: Notes> Teller<'a, N> {
         }
     }
 
-    /// Notes that the trouble is over, if there was one.
-    pub(crate) fn note_understood(&mut self) {
-        if let (Some(kind), Some(trouble)) = (self.kind, self.trouble) {
-            self.notes.over(kind, trouble);
+    /// Tells that what was told last is over.
+    fn tell_over(&mut self, trouble: Trouble) {
+        if let Some(kind) = self.kind {
+            if !self.stop.is_stopped() {
+                self.notes.over(kind, trouble);
+            }
         }
         self.trouble = None;
     }
 
-    /// Notes that the server replies.
-    fn note_replied(&mut self) {
-        if self.trouble == Some(Trouble::NoReply) {
-            self.note_understood();
+    /// Notes what is said of the kind.
+    pub(crate) fn note(&mut self, news: News) {
+        match (news, self.trouble) {
+            (News::Troubled(trouble), _) => self.tell(trouble),
+            (_, Some(trouble)) if is_over(news, trouble) => self.tell_over(trouble),
+            _ => {}
         }
     }
 
-    /// Notes the answer to a list of a kind. Whether its body is one, who reads it says.
-    pub(crate) fn note_listed(&mut self, kind: Kind, answer: &Answer) {
+    /// Notes what the answer to who asked for objects of a kind says.
+    pub(crate) fn note_news(&mut self, kind: Kind, news: News) {
         self.kind = Some(kind);
+        self.note(news);
+    }
+
+    /// Notes that a request of one object of a kind was not sent or not answered, unless that was told and none was answered since.
+    fn note_unanswered(&mut self, kind: Kind) {
+        if self.unanswered.is_none() && !self.stop.is_stopped() {
+            self.notes.trouble(kind, Trouble::NoReply);
+            self.unanswered = Some(kind);
+        }
+    }
+
+    /// Notes that a request of one object was answered.
+    fn note_answered(&mut self) {
+        if let Some(kind) = self.unanswered {
+            if !self.stop.is_stopped() {
+                self.notes.over(kind, Trouble::NoReply);
+            }
+        }
+        self.unanswered = None;
+    }
+
+    /// Notes what became of a request of one object.
+    pub(crate) fn note_called(&mut self, request: &Request, answer: &Answer) {
         match answer {
-            Answer::Replied(reply) if reply.code == OK => self.note_replied(),
-            Answer::Replied(reply) => self.note(Trouble::Refused(reply.code)),
-            Answer::NotSent | Answer::Lost => self.note(Trouble::NoReply),
-        }
-    }
-
-    /// Notes what became of a watch of a kind. One that has expired is followed by a list.
-    pub(crate) fn note_watched(&mut self, kind: Kind, opened: Opened) {
-        self.kind = Some(kind);
-        match opened {
-            Opened::Open | Opened::Expired => self.note_replied(),
-            Opened::Refused(code) => self.note(Trouble::Refused(code)),
-            Opened::Lost => self.note(Trouble::NoReply),
-        }
-    }
-
-    /// Notes whether the server replies where it does not matter with which code, as a list follows.
-    pub(crate) fn note_asked(&mut self, kind: Kind, has_replied: bool) {
-        self.kind = Some(kind);
-        if has_replied {
-            self.note_replied();
-        } else {
-            self.note(Trouble::NoReply);
-        }
-    }
-
-    /// Notes the answer to a request of one object.
-    pub(crate) fn note_called(&self, request: &Request, answer: &Answer) {
-        let Answer::Replied(reply) = answer else {
-            return;
-        };
-        let code = reply.code;
-        if code >= FIRST_REFUSAL && code != NOT_FOUND && code != CONFLICT {
-            self.notes.refused(request, code, &reply.body);
+            Answer::Replied(reply) => {
+                self.note_answered();
+                if is_told(request, reply.code) && !self.stop.is_stopped() {
+                    self.notes.refused(request, reply.code, &reply.body);
+                }
+            }
+            Answer::NotSent | Answer::Lost => self.note_unanswered(kind_of(request)),
         }
     }
 }

@@ -2,6 +2,7 @@
 ghost use Rattle.std.specs.Prelude.{◌≡◌};
 ghost use Rattle.api_notes.specs.Told.{api_of};
 
+use crate::news::{News, first_news, list_news, stream_news, watch_news};
 use crate::notes::Notes;
 use crate::teller::Teller;
 use crate::trouble::Trouble;
@@ -45,26 +46,25 @@ impl<A: Api + Drop, N: Notes> Api for Told<'_, A, N> {
 
     fn list(&mut self, alloc: Global, kind: Kind) -> Answer {
         let answer = self.api.list(alloc, kind);
-        self.teller.note_listed(kind, &answer);
+        self.teller.note_news(kind, list_news(&answer));
         answer
     }
 
     fn first_at(&mut self, alloc: Global, kind: Kind, revision: u64) -> Answer {
         let answer = self.api.first_at(alloc, kind, revision);
-        let has_replied = matches!(answer, Answer::Replied(_));
-        self.teller.note_asked(kind, has_replied);
+        self.teller.note_news(kind, first_news(&answer));
         answer
     }
 
     fn open_watch(&mut self, alloc: Global, kind: Kind, revision: u64) -> Opened {
         let opened = self.api.open_watch(alloc, kind, revision);
-        self.teller.note_watched(kind, opened);
+        self.teller.note_news(kind, watch_news(opened));
         opened
     }
 
     fn open_stream(&mut self, alloc: Global, kind: Kind) -> Opened {
         let opened = self.api.open_stream(alloc, kind);
-        self.teller.note_asked(kind, opened != Opened::Lost);
+        self.teller.note_news(kind, stream_news(opened));
         opened
     }
 
@@ -73,12 +73,12 @@ impl<A: Api + Drop, N: Notes> Api for Told<'_, A, N> {
     }
 
     fn note_understood(&mut self) {
-        self.teller.note_understood();
+        self.teller.note(News::Understood);
         self.api.note_understood();
     }
 
     fn note_not_understood(&mut self, bytes: &[u8]) {
-        self.teller.note(Trouble::NotUnderstood);
+        self.teller.note(News::Troubled(Trouble::NotUnderstood));
         self.api.note_not_understood(bytes);
     }
 }

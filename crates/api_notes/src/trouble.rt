@@ -4,7 +4,7 @@ use thiserror::Error;
 /// What keeps the objects of a kind from being listed or watched.
 #[derive(Debug, Clone, Copy, PartialEq, Eq, Error)]
 pub enum Trouble {
-    /// No connection comes about, or it ends before a reply is whole.
+    /// No connection comes about, or it ends before a reply is whole; or a request is not sent, as where it is too large or memory runs out.
     #[error("the server does not reply")]
     NoReply,
     /// Lists or watches are refused with this status code (RFC 9110, Status Codes).

@@ -2,6 +2,8 @@
 use Rattle.std.specs.Prelude.{◌≡◌, ◌⊎◌, ◌||◌, ℕ, List, length, take, nat_eq, nat_lt, nat_le, if◌then◌else◌, Bool, true, false, not, Option, Some, None, option_and_then}
 use Rattle.spec_api.specs.declared.kinds.Kind.{Kind}
 use Rattle.spec_client_go.specs.Reflectors.{Listed, list_of, fed}
+use Rattle.spec_client_go.specs.declared.reflectors.Ask.{Ask}
+use Rattle.spec_client_go.specs.declared.reflectors.Ask.TheVariants as ask
 use Rattle.spec_client_go.specs.declared.reflectors.End.{End}
 use Rattle.spec_client_go.specs.declared.reflectors.End.TheVariants as end
 use Rattle.reflector.specs.declared.faults.ListFault.{ListFault}
@@ -70,6 +72,13 @@ abbrev pub IsPieceTaken : List ℕ → Follower → Follower → Piece → Type 
 IsPieceTaken bytes old new p =
     ((new ≡ after_bytes bytes old) × (p ≡ piece_of (fed old.reflector bytes).ended))
     ⊎ ((new ≡ after_cut old) × (p ≡ piece.Dropped))
+
+-- a watch has given something where what is asked next is not what was asked as it was opened
+abbrev pub has_given : Ask → Ask → Bool
+has_given ask.List ask.List = false
+has_given ask.Stream ask.Stream = false
+has_given (ask.Watch from) (ask.Watch reached) = not (nat_eq from reached)
+has_given asked next = true
 
 -- a watch that gives no more bytes has ended, or was cut
 abbrev pub over : More → Bool → Left

@@ -23,8 +23,8 @@ const BAD_REQUEST: u16 = 400;
 
 const UNPROCESSABLE: u16 = 422;
 
-/// Returns whether a server refuses streams of initial events by a status code.
-fn is_refusal_of_streams(code: u16) -> bool
+/// Returns whether a server refuses streams of initial events by a status code, so that a list is asked for in their place.
+pub fn is_refusal_of_streams(code: u16) -> bool
     ensures { result ≡ is_refusal_of_streams code }
 {
     code == BAD_REQUEST || code == UNPROCESSABLE

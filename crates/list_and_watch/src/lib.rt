@@ -22,10 +22,11 @@ pub mod timers;
 pub mod tries;
 pub(crate) mod watching;
 
+pub use answered::is_refusal_of_streams;
 pub use follower::Follower;
 pub use indexer::{Indexed, Shift};
 pub use pauses::Pauses;
-pub use recognizing::{Recognized, recognize};
+pub use recognizing::{Recognized, is_refusal, recognize};
 pub use running::follow;
 pub use shown::shows_other_server;
 pub use sinks::{Onward, Sink};

@@ -105,8 +105,8 @@ fn by_list(
     }
 }
 
-/// Returns whether a status code refuses what was asked, and not for now alone.
-pub(crate) fn is_refusal(code: u16) -> bool
+/// Returns whether a status code refuses what was asked, and not for now alone: where a first object is refused so, a list is asked for.
+pub fn is_refusal(code: u16) -> bool
     ensures { result ≡ is_refusal code }
 {
     (400..500).contains(&code) && code != TOO_MANY_REQUESTS || code == NOT_YET

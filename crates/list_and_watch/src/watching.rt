@@ -1,6 +1,6 @@
 //! A watch, opened and read to its end.
 ghost use Rattle.std.specs.Prelude.{◌≡◌};
-ghost use Rattle.list_and_watch.specs.Answered.{over};
+ghost use Rattle.list_and_watch.specs.Answered.{has_given, over};
 ghost use Rattle.list_and_watch.specs.Given.{StaysSo};
 
 use crate::answered::piece_in;
@@ -88,7 +88,19 @@ fn over(more: More, gave: bool) -> Left
     }
 }
 
-/// Reads the watch that is open to its end, or to what cannot be taken in. It has given nothing while initial events are under way.
+/// Returns whether a watch has given something: what is asked next differs from what was asked when it was opened. Bytes alone, as of half a frame,
+/// and a bookmark that repeats the revision are nothing, and so are initial events that are under way.
+fn has_given(asked: Ask, next: Ask) -> bool
+    ensures { result ≡ has_given asked next }
+{
+    match (asked, next) {
+        (Ask::Watch(from), Ask::Watch(reached)) => from != reached,
+        (Ask::List, Ask::List) | (Ask::Stream, Ask::Stream) => false,
+        _ => true,
+    }
+}
+
+/// Reads the watch that is open to its end, or to what cannot be taken in.
 fn read<I: Publishing, A: Api, S: Sink>(
     alloc: Global,
     follower: &mut Follower<I>,
@@ -98,6 +110,7 @@ fn read<I: Publishing, A: Api, S: Sink>(
 ) -> Left
     ensures { StaysSo S.stays sink.old sink.new }
 {
+    let asked = follower.next();
     let mut buffer = [0u8; PIECE];
     let mut tail = Tail::new(alloc);
     let mut gave = false;
@@ -110,7 +123,7 @@ fn read<I: Publishing, A: Api, S: Sink>(
         if let Some(left) = leaves(piece, follower, owed, sink) {
             return left;
         }
-        gave = follower.next() != Ask::Stream;
+        gave = has_given(asked, follower.next());
     }
     Left::Ended(gave)
 }

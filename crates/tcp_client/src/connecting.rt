@@ -1,4 +1,7 @@
 //! Connections over TCP.
+ghost use Rattle.std.specs.Prelude.{◌≡◌, IfErr};
+ghost use Rattle.std.specs.IoError.{error_kind};
+
 use crate::time_limits::TimeLimits;
 use api_client::Connect;
 use std::alloc::Global;
@@ -6,8 +9,21 @@ use std::io;
 use std::io::{BufReader, ErrorKind};
 use std::net::{Net, TcpStream, ToSocketAddrs};
 use std::time::Duration;
+use wakeups::Stop;
 
-/// Connects to a server over TCP, again for each request. Where a host's name has several addresses, they are tried in turn.
+/// Returns an error, `ErrorKind::Interrupted`, where a stop was asked for.
+pub(crate) fn go_on(stop: &Stop) -> io::Result<()>
+    ensures { IfErr result (λ e. error_kind e ≡ ErrorKind.Interrupted) }
+{
+    if stop.is_stopped() {
+        Err(io::Error::from(ErrorKind::Interrupted))
+    } else {
+        Ok(())
+    }
+}
+
+/// Connects to a server over TCP, again for each request. Where a host's name has several addresses, they are tried in turn. How long the look-up
+/// of a name takes is up to the system, as it is set up: no time limit ends it.
 #[derive(Drop)]
 pub struct TcpConnect<'a, R, A: Drop> {
     rt: &'a R,
@@ -36,10 +52,14 @@ impl<'a, R, A: Drop> TcpConnect<'a, R, A> {
 }
 
 impl<R: Net<Stream = TcpStream>, A: ToSocketAddrs> TcpConnect<'_, R, A> {
-    /// Returns a stream to the first address of the server that takes a connection in time; where none does, the error of the last.
-    fn reach(&self) -> io::Result<TcpStream> {
+    /// Returns a stream to the first address of the server that takes a connection in time; where none does, the error of the last. Where there is
+    /// a stop, it is looked at before each address.
+    fn reach(&self, stop: Option<&Stop>) -> io::Result<TcpStream> {
         let mut last = io::Error::from(ErrorKind::AddrNotAvailable);
         for address in self.server.to_socket_addrs(self.rt)? {
+            if let Some(stop) = stop {
+                go_on(stop)?;
+            }
             match TcpStream::connect_timeout(self.rt, &address, self.limits.connect) {
                 Ok(stream) => return Ok(stream),
                 Err(error) => last = error,
@@ -48,9 +68,9 @@ impl<R: Net<Stream = TcpStream>, A: ToSocketAddrs> TcpConnect<'_, R, A> {
         Err(last)
     }
 
-    /// Returns a new connection, whose reads wait so long for a byte.
-    pub(crate) fn open(&self, read: Duration) -> io::Result<TcpStream> {
-        let stream = self.reach()?;
+    /// Returns a new connection, whose reads wait so long for a byte. Where there is a stop, none is made to an address once it is asked for.
+    pub(crate) fn open(&self, read: Duration, stop: Option<&Stop>) -> io::Result<TcpStream> {
+        let stream = self.reach(stop)?;
         stream.set_nodelay(true)?;
         stream.set_read_timeout(Some(read))?;
         stream.set_write_timeout(Some(self.limits.write))?;
@@ -64,7 +84,7 @@ impl<R: Net<Stream = TcpStream>, A: ToSocketAddrs> Connect for TcpConnect<'_, R,
     type Writer = TcpStream;
 
     fn connect(&mut self) -> io::Result<(BufReader<TcpStream>, TcpStream)> {
-        let writer = self.open(self.limits.read)?;
+        let writer = self.open(self.limits.read, None)?;
         let reader = BufReader::new(self.alloc, writer.try_clone()?)?;
         Ok((reader, writer))
     }

@@ -20,7 +20,9 @@ impl<'a, R: Clock> StoppableClock<'a, R> {
     ghost use Rattle.tcp_client.specs.Clocks.{LooksAgain};
 
     /// Returns a clock that begins now.
-    pub fn new(rt: &'a R, stop: &'a Stop) -> StoppableClock<'a, R> {
+    pub fn new(rt: &'a R, stop: &'a Stop) -> StoppableClock<'a, R>
+        ensures { passed_in (stopwatch_at result) ≡ 0 }
+    {
         StoppableClock {
             rt,
             stop,

@@ -1,14 +1,15 @@
 //! How long a connection waits.
 use std::time::Duration;
 
-/// How long a connection waits before it is given up. The system refuses limits of no time at all, and then nothing connects.
+/// How long a connection waits before it is given up. The system refuses limits of no time at all, and then nothing connects; but a read of
+/// `StoppableConnect` waits for a second at least.
 #[derive(Debug, Clone, Copy, PartialEq, Eq)]
 pub struct TimeLimits {
     /// How long each address of the server has to take the connection.
     pub connect: Duration,
     /// How long a read waits for a byte. A watch of which nothing comes for so long is cut.
     pub read: Duration,
-    /// How long a write waits until a byte is taken.
+    /// How long a write waits until a byte is taken; one of many bytes so long for each part of them that is taken.
     pub write: Duration,
 }
 

@@ -1,0 +1,123 @@
+//! What an answer says of how it goes with a server.
+ghost use Rattle.std.specs.Prelude.{◌≡◌};
+ghost use Rattle.api_notes.specs.News.{first_news, is_over, list_news, refusal, stream_news, watch_news};
+
+use crate::trouble::Trouble;
+use api_client::Opened;
+use http_client::Answer;
+use list_and_watch::{is_refusal, is_refusal_of_streams};
+
+/// The status code of a reply that says that what was asked for is there (RFC 9110, 200 OK).
+const OK: u16 = 200;
+
+/// The status code of what is no longer known (RFC 9110, 410 Gone).
+const GONE: u16 = 410;
+
+/// What an answer, or who reads it, says.
+#[derive(Debug, Clone, Copy, PartialEq, Eq)]
+pub(crate) enum News {
+    /// The server replies.
+    Replied,
+    /// It replies that what was asked for follows.
+    Given,
+    /// What follows was read as such.
+    Understood,
+    /// This keeps the objects of the kind from coming.
+    Troubled(Trouble),
+}
+
+/// Returns what a status code says that stands in the place of a watch. Where it is that of success, what comes is no watch.
+fn refusal(code: u16) -> Trouble
+    ensures { result ≡ refusal code }
+{
+    if code == OK {
+        Trouble::NotUnderstood
+    } else {
+        Trouble::Refused(code)
+    }
+}
+
+/// Returns what the answer to a list says. Whether its body is one, who reads it says.
+pub(crate) fn list_news(answer: &Answer) -> News
+    ensures { result ≡ list_news answer.now }
+{
+    match answer {
+        Answer::Replied(reply) => {
+            if reply.code == OK {
+                News::Given
+            } else {
+                News::Troubled(Trouble::Refused(reply.code))
+            }
+        }
+        Answer::NotSent | Answer::Lost => News::Troubled(Trouble::NoReply),
+    }
+}
+
+/// Returns what the answer to a first object says, by which a server is known again. A list follows where that is refused, and not for now alone;
+/// else it is asked again.
+pub(crate) fn first_news(answer: &Answer) -> News
+    ensures { result ≡ first_news answer.now }
+{
+    match answer {
+        Answer::Replied(reply) => {
+            if reply.code == OK || is_refusal(reply.code) {
+                News::Replied
+            } else {
+                News::Troubled(Trouble::Refused(reply.code))
+            }
+        }
+        Answer::NotSent | Answer::Lost => News::Troubled(Trouble::NoReply),
+    }
+}
+
+/// Returns what it says that a watch was asked for. A list follows one that has expired.
+pub(crate) fn watch_news(opened: Opened) -> News
+    ensures { result ≡ watch_news opened }
+{
+    match opened {
+        Opened::Open => News::Given,
+        Opened::Expired => News::Replied,
+        Opened::Refused(code) => News::Troubled(refusal(code)),
+        Opened::Lost => News::Troubled(Trouble::NoReply),
+    }
+}
+
+/// Returns what it says that a stream of initial events was asked for. A list follows where the server refuses such streams; else a stream is asked
+/// for again.
+pub(crate) fn stream_news(opened: Opened) -> News
+    ensures { result ≡ stream_news opened }
+{
+    match opened {
+        Opened::Open => News::Given,
+        Opened::Expired => News::Troubled(Trouble::Refused(GONE)),
+        Opened::Refused(code) => {
+            if is_refusal_of_streams(code) {
+                News::Replied
+            } else {
+                News::Troubled(refusal(code))
+            }
+        }
+        Opened::Lost => News::Troubled(Trouble::NoReply),
+    }
+}
+
+/// Returns whether a trouble is over by such news: that there is no reply by any reply, a refusal by what is given, and not by a first object that is
+/// read meanwhile, and that something is not understood by what is.
+pub(crate) fn is_over(news: News, trouble: Trouble) -> bool
+    ensures { result ≡ is_over news trouble }
+{
+    match trouble {
+        Trouble::NoReply => match news {
+            News::Replied | News::Given | News::Understood => true,
+            News::Troubled(_) => false,
+        },
+        Trouble::Refused(_) => match news {
+            News::Given => true,
+            News::Replied | News::Understood | News::Troubled(_) => false,
+        },
+        Trouble::NotUnderstood => match news {
+            News::Understood => true,
+            News::Replied | News::Given | News::Troubled(_) => false,
+        },
+    }
+}
