@@ -162,6 +162,10 @@ where
 /// `TcpStream::connect`, as `"HOST:PORT"`; while none answers it is tried again. What keeps it from answering, and which requests it refuses, the
 /// notes are told (`api_notes::StandardError` writes it, `api_notes::Silent` does not).
 ///
+/// The caller's own thread waits for the stop. Each followed kind, each worker and the time have one more: where the system refuses some, nothing says
+/// so, and their work is not done until the run ends. Without a thread for each kind no key is taken; without the one for time a key that is to be
+/// looked at again waits until another is given back; without some workers all takes longer. A stop ends the run all the same.
+///
 /// The error is that `check_watches` refuses the watches, before anything is asked; or running out of memory before a thread was started, of this
 /// run or of one that begins anew.
 pub fn run_at<R, K, C, N>(
