@@ -57,6 +57,9 @@ struct Server<'a, R, N> {
 impl<'a, R: Net<Stream = TcpStream>, N: Notes> Server<'a, R, N> {
     ghost use Rattle.std.specs.Prelude.{◌≡◌, IfOk, IfErr, vec_len};
     ghost use Rattle.request_encoding.specs.Given.{Refuses};
+    ghost use Rattle.request_encoding.specs.Seen.{scope_of};
+    ghost use Rattle.api_client.specs.Asked.{scope_at};
+    ghost use Rattle.api_notes.specs.Told.{api_of};
     ghost use Rattle.controller_runtime.specs.Watched.{scope_asked, RefusesScopes};
 
     /// Returns what connects to it.
@@ -73,7 +76,9 @@ impl<'a, R: Net<Stream = TcpStream>, N: Notes> Server<'a, R, N> {
     }
 
     /// Returns how it is asked for the objects of a scope.
-    fn api(&self, scope: Scope) -> Asked<'a, R, N> {
+    fn api(&self, scope: Scope) -> Asked<'a, R, N>
+        ensures { scope_at (api_of result) ≡ scope_of scope }
+    {
         Told::new(
             Remote::within(self.connector(), scope),
             self.notes,
@@ -84,6 +89,7 @@ impl<'a, R: Net<Stream = TcpStream>, N: Notes> Server<'a, R, N> {
     /// Returns how it is asked for the objects of a watch.
     fn followed(&self, watch: &Watch<'_>) -> Result<Followed<Asked<'a, R, N>>, ScopeFault>
         ensures kind { IfOk result (λ it. it.kind ≡ watch.now.kind) }
+        ensures scope { IfOk result (λ it. scope_at (api_of it.api) ≡ scope_asked watch.now) }
         ensures refused { IfErr result (Refuses (scope_asked watch.now)) }
     {
         let scope = Scope::new(self.alloc, watch.namespace, watch.selector)?;
