@@ -9,6 +9,7 @@ pub mod histories;
 pub(crate) mod joining;
 pub(crate) mod means;
 pub(crate) mod members;
+pub(crate) mod pausing;
 pub mod programs;
 pub mod reconciler;
 pub mod running;

@@ -3,6 +3,7 @@ ghost use Rattle.std.specs.Prelude.{◌≡◌, ◌<◌, ◌^◌, None, OnOk, IfE
 ghost use Rattle.controller_runtime.specs.Watched.{kind_watched_twice, IsScoped, RefusesScopes, RefusesWatches};
 
 use crate::followed::Followed;
+use crate::pausing::RunPauses;
 use crate::reconciler::Reconciler;
 use crate::running::{Ended, OTHER_THREADS, run_until_over};
 use crate::start_fault::StartFault;
@@ -10,6 +11,7 @@ use crate::watches::{Watch, check_watches};
 use api_client::{Connect, Remote};
 use api_notes::{Notes, Told};
 use keyed_queues::Named;
+use list_and_watch::Onward;
 use request_encoding::{Scope, ScopeFault};
 use shared_keyed_board::SharedKeyedBoard;
 use std::alloc::{AllocError, Global};
@@ -164,8 +166,9 @@ where
 }
 
 /// Runs a controller at a server over TCP until a stop, as `run_workers` does, with so many workers, one at least and 64 at most. Where another
-/// server answers than before it begins anew; from then on nothing is asked by what the one before showed. The server is named as for
-/// `TcpStream::connect`, as `"HOST:PORT"`; while none answers it is tried again. What keeps it from answering, and which requests it refuses, the
+/// server answers than before it begins anew after a pause: 0.8 s, twice as long each time that this happens again within 2 minutes, and 30 s at most. From
+/// when it is seen on, nothing is asked by what the one before showed; and nothing begins after a stop, which ends the pause too. The server is named as
+/// for `TcpStream::connect`, as `"HOST:PORT"`; while none answers it is tried again. What keeps it from answering, and which requests it refuses, the
 /// notes are told (`api_notes::StandardError` writes it, `api_notes::Silent` does not).
 ///
 /// The caller's own thread waits for the stop. Each followed kind, each worker and the time have one more: where the system refuses some, nothing says
@@ -195,11 +198,12 @@ where
 {
     check_watches(alloc, watches)?;
     let workers = workers.clamp(1, MOST_WORKERS);
+    let mut pauses = RunPauses::new(rt, stop);
     for _ in rt.forever() {
         let ended = run_once(
             rt, alloc, address, controller, watches, workers, notes, stop,
         )?;
-        if ended == Ended::Stopped {
+        if ended == Ended::Stopped || pauses.rest() == Onward::Stop {
             return Ok(());
         }
     }
