@@ -16,7 +16,7 @@ use request_encoding::{Scope, ScopeFault};
 use shared_keyed_board::SharedKeyedBoard;
 use std::alloc::{AllocError, Global};
 use std::io;
-use std::io::{BufReader, Input};
+use std::io::{BufReader, ErrorKind, Input, Read};
 use std::net::{Net, TcpListener, TcpStream};
 use std::sync::Wait;
 use std::thread::Threads;
@@ -26,6 +26,9 @@ use wakeups::Stop;
 
 /// How many workers there are at most.
 pub const MOST_WORKERS: usize = 64;
+
+/// How many bytes of standard input are read at a time.
+const PIECE: usize = 4096;
 
 /// What connects to a server, named by a text, until a stop.
 #[derive(Drop)]
@@ -210,12 +213,24 @@ where
     unreachable!()
 }
 
-/// Reads standard input until it ends or cannot be read, and then asks for a stop.
-pub fn stop_at_end_of_input<R: Input>(rt: &R, alloc: Global, stop: &Stop) {
-    for line in rt.lines(alloc) {
-        if line.is_err() {
-            break;
+/// Reads until there is no more, or it cannot be read on, and keeps nothing of it.
+fn read_away<R: Read>(input: &mut R) {
+    let mut piece = [0u8; PIECE];
+    for _ in 0..u64::MAX {
+        match input.read(&mut piece) {
+            Ok(0) => return,
+            Ok(_) => {}
+            Err(error) => match error.kind() {
+                ErrorKind::Interrupted => {}
+                _ => return,
+            },
         }
     }
+}
+
+/// Reads standard input until it ends or its device fails, whatever comes, and then asks for a stop. It takes no memory.
+pub fn stop_at_end_of_input<R: Input>(rt: &R, stop: &Stop) {
+    let mut input = rt.reader();
+    read_away(&mut input);
     stop.stop();
 }
