@@ -4,10 +4,10 @@
 First single changes: Pods are made, labelled, run and deleted, the ConfigMap of one is deleted by another writer, and one is written by it right
 before the controller's own write, which is so refused as a conflict. A Pod is being deleted, and another writer deletes its ConfigMap, which is then
 not made again. Then so many changes at random, one right after another. What has to be there follows from the Pods: after each single change within so
-many seconds, and after those at random within a minute. The server is then killed, which the controller says, and started anew, empty, on the same port,
-and what has to be there follows from the Pods that are made then. The controller's input begins with a line that is no text, which does not matter. At
-the end its input ends, and so does it; at a `kcp all` a Pod is then deleted, and the garbage collector removes what it owned. Words that are refused are
-told at once, while the input stays open.
+many seconds, and after those at random within a minute. The server is then killed, which the controller says, and started anew, empty, on the same port;
+of each kind of which it was said that is then over, and what has to be there follows from the Pods that are made then. The controller's input begins
+with a line that is no text, which does not matter. At the end its input ends, and so does it; at a `kcp all` a Pod is then deleted, and the garbage
+collector removes what it owned. Words that are refused are told at once, while the input stays open.
 Usage: controllers.py --program PATH [--controller PATH] [--writes N] [--seed N] [--within SECONDS]
 """
 import argparse
@@ -221,15 +221,16 @@ class Run:
         file = self.told.fileno()
         return os.pread(file, os.fstat(file).st_size, 0).decode("utf-8", "replace")
 
-    def hears(self, words):
-        """Checks that the controller soon says this on standard error, of one kind at least."""
+    def said_of(self, words):
+        """Returns of which kinds the controller has said this, each as often as it has."""
+        return sorted(re.findall(rf"(?m)^controller_example: (\w+): {re.escape(words)}$", self.said()))
+
+    def hears(self, what, holds):
+        """Checks that the controller soon says what it has to."""
         ends = time.monotonic() + PATIENCE
-        while time.monotonic() < ends:
-            said = self.said()
-            if re.search(rf"(?m)^controller_example: \w+: {re.escape(words)}$", said):
-                return
+        while not (held := holds()) and time.monotonic() < ends:
             time.sleep(PAUSE_SECONDS)
-        self.check(f"it does not say {words!r}, but {said!r}", False)
+        self.check(f"{what}; it said {self.said()!r}", held)
 
     def annotate(self, name):
         """Writes to a ConfigMap as another writer."""
@@ -286,9 +287,9 @@ class Run:
         """Kills the server and starts an empty one on its port, with other Pods."""
         self.server.kill()
         self.server.wait(PATIENCE)
-        self.hears(AWAY)
+        self.hears("it does not say that the server is away", lambda: self.said_of(AWAY))
         self.server, _ = self.serve(self.port)
-        self.hears(f"no longer: {AWAY}")
+        self.hears("it does not say of each kind that this is over", lambda: self.said_of(f"no longer: {AWAY}") == self.said_of(AWAY))
         self.pods.labels, self.pods.phases = {}, {}
         for name, labels in [("a", {"app": "web"}), ("new", {"app": "api"}), ("other", {"app": "db"})]:
             self.pods.set("one", name, labels)

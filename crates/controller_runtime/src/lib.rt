@@ -16,6 +16,7 @@ pub mod running;
 pub(crate) mod signs;
 pub mod start_fault;
 pub(crate) mod stopping;
+pub(crate) mod telling;
 pub(crate) mod ticking;
 pub(crate) mod turning;
 pub(crate) mod under_way;

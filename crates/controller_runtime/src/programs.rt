@@ -7,6 +7,7 @@ use crate::pausing::RunPauses;
 use crate::reconciler::Reconciler;
 use crate::running::{Ended, OTHER_THREADS, run_until_over};
 use crate::start_fault::StartFault;
+use crate::telling::RunNotes;
 use crate::watches::{Watch, check_watches};
 use api_client::{Connect, Remote};
 use api_notes::{Notes, Told};
@@ -201,12 +202,17 @@ where
 {
     check_watches(alloc, watches)?;
     let workers = workers.clamp(1, MOST_WORKERS);
+    let told = RunNotes::new(rt, notes);
     let mut pauses = RunPauses::new(rt, stop);
     for _ in rt.forever() {
         let ended = run_once(
-            rt, alloc, address, controller, watches, workers, notes, stop,
+            rt, alloc, address, controller, watches, workers, &told, stop,
         )?;
-        if ended == Ended::Stopped || pauses.rest() == Onward::Stop {
+        if ended == Ended::Stopped || stop.is_stopped() {
+            return Ok(());
+        }
+        told.tell_over();
+        if pauses.rest() == Onward::Stop {
             return Ok(());
         }
     }
