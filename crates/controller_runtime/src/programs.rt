@@ -66,7 +66,7 @@ impl<'a, R: Net<Stream = TcpStream>, N: Notes> Server<'a, R, N> {
     ghost use Rattle.request_encoding.specs.Seen.{scope_of};
     ghost use Rattle.api_client.specs.Asked.{scope_at};
     ghost use Rattle.api_notes.specs.Told.{api_of};
-    ghost use Rattle.controller_runtime.specs.Watched.{scope_asked, RefusesScopes};
+    ghost use Rattle.controller_runtime.specs.Watched.{scope_asked, AreFollowed, RefusesScopes};
 
     /// Returns what connects to it.
     fn connector(&self) -> Connector<'a, R> {
@@ -110,15 +110,14 @@ impl<'a, R: Net<Stream = TcpStream>, N: Notes> Server<'a, R, N> {
         &self,
         watches: &[Watch<'_>],
     ) -> Result<Vec<Followed<Asked<'a, R, N>>>, ScopeFault>
-        ensures { IfErr result (RefusesScopes watches.now) }
+        ensures each { IfOk result (λ made. AreFollowed watches.now made.items) }
+        ensures refused { IfErr result (RefusesScopes watches.now) }
     {
-        let mut followed = Vec::new(self.alloc);
+        let mut made = Vec::with_capacity(self.alloc, watches.len())?;
         for watch in watches {
-            if followed.push(self.followed(watch)?).is_err() {
-                return Err(ScopeFault::NoMemory);
-            }
+            made.push_reserved(self.followed(watch)?);
         }
-        Ok(followed)
+        Ok(made)
     }
 
     /// Returns so many ways to ask it, one for each worker.
