@@ -3,14 +3,17 @@
 
 First single changes: Pods are made, labelled, run and deleted, the ConfigMap of one is deleted by another writer, and one is written by it right
 before the controller's own write, which is so refused as a conflict. A Pod is being deleted, and another writer deletes its ConfigMap, which is then
-not made again. Then so many changes at random, one right after another. What has to be there follows from the Pods, after each single change within a
-second. The server is then killed, which the controller says, and started anew, empty, on the same port, and what has to be there follows from the
-Pods that are made then. At the end the controller's input ends, and so does it; at a `kcp all` a Pod is then deleted, and the garbage collector
-removes what it owned. Words that are refused are told at once, while the input stays open.
+not made again. Then so many changes at random, one right after another. What has to be there follows from the Pods: after each single change within so
+many seconds, and after those at random within a minute. The server is then killed, which the controller says, and started anew, empty, on the same port;
+of each kind of which it was said that is then over, and what has to be there follows from the Pods that are made then. The controller's input begins
+with a line that is no text, which does not matter. At the end its input ends, and so does it; at a `kcp all` a Pod is then deleted, and the garbage
+collector removes what it owned. Words that are refused are told at once, while the input stays open.
 Usage: controllers.py --program PATH [--controller PATH] [--writes N] [--seed N] [--within SECONDS]
 """
 import argparse
 import contextlib
+import os
+import pathlib
 import random
 import re
 import socket
@@ -21,6 +24,8 @@ import threading
 import time
 
 sys.dont_write_bytecode = True
+sys.path[1:1] = [str(pathlib.Path(__file__).resolve().parent.parent / "controllers")]
+from programs import lasting_port
 from run import BUILD_SECONDS, PATIENCE, ROOT, Client
 
 LABEL = "app"
@@ -51,6 +56,10 @@ REFUSED = [
     (["--server", "127.0.0.1:1", "--selector", "app in web"], "a watch has a selector that cannot be understood"),
 ]
 AT_ONCE = 20
+# For how many seconds nothing may change, and how many more than a single change the end may take.
+STAYS_SECONDS, ENDS_SECONDS = 1, 1
+# A line of input that is no text.
+NO_TEXT = b"\xff\n"
 AWAY = "the server does not reply"
 HELD = "example.com/held"
 
@@ -170,12 +179,14 @@ class Run:
     """A server, a controller at it behind a relay, and a client; and what was checked of them."""
 
     def __init__(self, asked, name):
-        self.asked, self.name, self.wrong, self.slowest = asked, name, [], 0.0
-        self.server, self.port = self.serve(0)
+        self.asked, self.name, self.wrong, self.slowest, self.churned = asked, name, [], 0.0, 0.0
+        self.server, self.port = self.serve(lasting_port())
         self.relay, self.pods = Relay(self.port), Pods(self.port)
         words = [asked.controller, "--server", f"127.0.0.1:{self.relay.listening}", "--selector", SELECTOR]
         self.told = tempfile.TemporaryFile()
         self.controller = subprocess.Popen(words, stdin=subprocess.PIPE, stderr=self.told)
+        self.controller.stdin.write(NO_TEXT)
+        self.controller.stdin.flush()
 
     def serve(self, port):
         """Starts a server, and returns it with its port, which `kcp serve` says on its output, and `kcp all`, whose output has replies, beside it."""
@@ -190,27 +201,36 @@ class Run:
         if not holds:
             print(f"FAILED kcp {self.name}: {what}", flush=True)
 
-    def reaches(self, what, seconds):
-        """Checks that there is soon what has to be."""
+    def reaches(self, what, seconds=PATIENCE):
+        """Checks that there is what has to be within so many seconds, and returns after how many it was."""
         took = self.pods.await_wanted(seconds)
-        self.slowest = max(self.slowest, took or seconds)
         self.check(f"{what}: {self.pods.found()} in the place of {self.pods.wanted()}", took is not None)
+        return seconds if took is None else took
+
+    def reaches_soon(self, what):
+        """Checks that there is what has to be after a single change, as soon as is asked for."""
+        self.slowest = max(self.slowest, self.reaches(what, self.asked.within))
 
     def stays(self, what):
         """Checks that there is what has to be, after a time in which it could have changed."""
-        time.sleep(self.asked.within)
+        time.sleep(STAYS_SECONDS)
         self.check(f"{what}: {self.pods.found()} in the place of {self.pods.wanted()}", self.pods.found() == self.pods.wanted())
 
-    def hears(self, words):
-        """Checks that the controller soon says this on standard error, of one kind at least."""
+    def said(self):
+        """Returns what the controller has said on standard error. It writes where the file stands, so this does not move it."""
+        file = self.told.fileno()
+        return os.pread(file, os.fstat(file).st_size, 0).decode("utf-8", "replace")
+
+    def said_of(self, words):
+        """Returns of which kinds the controller has said this, each as often as it has."""
+        return sorted(re.findall(rf"(?m)^controller_example: (\w+): {re.escape(words)}$", self.said()))
+
+    def hears(self, what, holds):
+        """Checks that the controller soon says what it has to."""
         ends = time.monotonic() + PATIENCE
-        while time.monotonic() < ends:
-            self.told.seek(0)
-            said = self.told.read().decode("utf-8", "replace")
-            if re.search(rf"(?m)^controller_example: \w+: {re.escape(words)}$", said):
-                return
+        while not (held := holds()) and time.monotonic() < ends:
             time.sleep(PAUSE_SECONDS)
-        self.check(f"it does not say {words!r}, but {said!r}", False)
+        self.check(f"{what}; it said {self.said()!r}", held)
 
     def annotate(self, name):
         """Writes to a ConfigMap as another writer."""
@@ -232,7 +252,7 @@ class Run:
         """Makes the single changes, each with what has to be there soon."""
         for what, name, done in CHANGES:
             self.change(name, done)
-            self.reaches(what, self.asked.within)
+            self.reaches_soon(what)
             if done == "conflict":
                 value = self.pods.ask("GET", f"/api/v1/namespaces/one/configmaps/{name}")
                 self.check("a write was refused as a conflict", self.relay.conflicts > 0)
@@ -244,7 +264,7 @@ class Run:
         metadata = {"name": "held", "labels": {"app": "web"}, "finalizers": [HELD]}
         self.pods.ask("POST", path, {"metadata": metadata, "spec": {"containers": [{"name": "main", "image": "main:1"}]}})
         self.pods.labels[key], self.pods.phases[key] = {"app": "web"}, PHASES[0]
-        self.reaches("a Pod with a finalizer is made", self.asked.within)
+        self.reaches_soon("a Pod with a finalizer is made")
         self.pods.ask("DELETE", f"{path}/held")
         self.stays("a Pod is being deleted")
         self.pods.ask("DELETE", "/api/v1/namespaces/one/configmaps/held")
@@ -261,22 +281,21 @@ class Run:
                 self.pods.run(*place, rolls.choice(PHASES))
             else:
                 self.pods.set(*place, None if place in self.pods.labels and rolls.random() < 0.2 else rolls.choice(LABELS))
-        self.reaches(f"after {self.asked.writes} changes", self.asked.within)
+        self.churned = self.reaches(f"after {self.asked.writes} changes")
 
     def restart(self):
         """Kills the server and starts an empty one on its port, with other Pods."""
         self.server.kill()
         self.server.wait(PATIENCE)
-        self.hears(AWAY)
+        self.hears("it does not say that the server is away", lambda: self.said_of(AWAY))
         self.server, _ = self.serve(self.port)
-        self.hears(f"no longer: {AWAY}")
+        self.hears("it does not say of each kind that this is over", lambda: self.said_of(f"no longer: {AWAY}") == self.said_of(AWAY))
         self.pods.labels, self.pods.phases = {}, {}
         for name, labels in [("a", {"app": "web"}), ("new", {"app": "api"}), ("other", {"app": "db"})]:
             self.pods.set("one", name, labels)
-        self.reaches("after another server was started", PATIENCE)
-        self.slowest = 0.0
+        self.reaches("after another server was started")
         self.pods.set("one", "other", {"app": "web"})
-        self.reaches("a change at the other server", self.asked.within)
+        self.reaches_soon("a change at the other server")
 
     def end(self):
         """Ends the controller's input, and then the server."""
@@ -285,10 +304,10 @@ class Run:
         with contextlib.suppress(subprocess.TimeoutExpired):
             self.controller.wait(PATIENCE)
         took = time.monotonic() - began
-        self.check(f"it ended with {self.controller.returncode} in {took:.1f} s", self.controller.returncode == 0 and took < 2)
+        self.check(f"it ended with {self.controller.returncode} in {took:.1f} s", self.controller.returncode == 0 and took < self.asked.within + ENDS_SECONDS)
         if self.name == "all":
             self.pods.set("one", "new", None)
-            self.reaches("the collector removes what a deleted Pod owned", PATIENCE)
+            self.reaches("the collector removes what a deleted Pod owned")
         self.check(", ".join(self.pods.refused), not self.pods.refused)
 
     def close(self):
@@ -302,18 +321,18 @@ def ran(asked, name):
     """Runs the controller at a server, says what came of it, and returns for each check whether it failed."""
     run = Run(asked, name)
     try:
-        run.reaches("nothing is made of nothing", PATIENCE)
+        run.reaches("nothing is made of nothing")
         run.single_changes()
         run.being_deleted()
         run.churn(random.Random(asked.seed))
-        slowest = run.slowest
         run.restart()
         run.end()
     except Exception as fault:
         run.check(f"{type(fault).__name__}: {fault}", False)
     finally:
         run.close()
-    print(f"kcp {name}: {len(run.wrong)} checks, conflicts {run.relay.conflicts}, the slowest change took {slowest:.2f} s", flush=True)
+    times = f"the slowest change took {run.slowest:.2f} s, those at random {run.churned:.2f} s"
+    print(f"kcp {name}: {len(run.wrong)} checks, conflicts {run.relay.conflicts}, {times}", flush=True)
     return run.wrong
 
 

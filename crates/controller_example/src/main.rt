@@ -64,7 +64,7 @@ fn main(rt: HostRuntime) -> io::Result<ExitCode> {
         Err(fault) => return refuse(&rt, fault),
     };
     // It is not joined: where the program ends before its input does, so does this thread.
-    let reading = thread::spawn(&rt, move || stop_at_end_of_input(&rt, alloc, &same));
+    let reading = thread::spawn(&rt, move || stop_at_end_of_input(&rt, &same));
     if reading.is_err() {
         return refuse(&rt, StartFault::from(AllocError));
     }

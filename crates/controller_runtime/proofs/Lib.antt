@@ -9,3 +9,4 @@ mod LookedBack
 mod Sent
 mod Asked
 mod Watched
+mod Counted

@@ -1,5 +1,5 @@
 -- What is asked of a server for a key, and how that ends.
-use Rattle.std.specs.Prelude.{◌≡◌, ◌==◌, ◌&&◌, ◌||◌, ℕ, [], Bool, true, false, Option, Some, None, unwrap_or, if◌then◌else◌, nat_lt}
+use Rattle.std.specs.Prelude.{◌≡◌, ◌==◌, ◌&&◌, ◌||◌, ℕ, [], Bool, true, false, Option, Some, None, unwrap_or, if◌then◌else◌, nat_le, nat_lt}
 use Rattle.serde_json.specs.Data.{Data}
 use Rattle.spec_api.specs.ObjectRequests as words
 use Rattle.spec_api.specs.Keys.{Key}
@@ -15,9 +15,9 @@ abbrev pub is_delete : words.Request → Bool
 is_delete (words.delete_object k o) = true
 is_delete request = false
 
--- a reply below 300 says that it was done; and one that there is no such object, where that was to be deleted, that it is gone
+-- a reply from 200 to 299 says that it was done; and one that there is no such object, where that was to be deleted, that it is gone
 abbrev pub is_done : words.Request → ℕ → Bool
-is_done request code = nat_lt code 300 || (code == 404) && is_delete request
+is_done request code = (nat_le 200 code && nat_lt code 300) || (code == 404) && is_delete request
 
 abbrev pub outcome_of : words.Request → Answer → Outcome
 outcome_of request (Replied reply) = if is_done request reply.code then Done else Failed

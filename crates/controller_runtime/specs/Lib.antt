@@ -7,3 +7,4 @@ pub mod Runs
 pub mod Threads
 pub mod Asked
 pub mod Watched
+pub mod Pausing

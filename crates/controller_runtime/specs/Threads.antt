@@ -1,5 +1,5 @@
 -- The threads of a run, by their passes.
-use Rattle.std.specs.Prelude.{◌≡◌, List}
+use Rattle.std.specs.Prelude.{◌≡◌, List, [], ◌∷◌, ◌++◌}
 use Rattle.spec_client_go.specs.Shifts.{Shift}
 use Rattle.spec_server.specs.Snapshots.{Snapshot}
 use Rattle.object_keys.specs.declared.per_kind.PerKind.{PerKind}
@@ -23,6 +23,17 @@ module _ {R C K A : Type 0} where
   IsThreadAt d (Works w) = Unit {0}
   IsThreadAt d (Ticks t) = Unit {0}
   IsThreadAt d (Stops s) = Unit {0}
+
+  -- a thread that waits for the stop
+  abbrev pub IsStopper : RunThread R C K A → Type 0
+  IsStopper (Follows f) = ⊥
+  IsStopper (Works w) = ⊥
+  IsStopper (Ticks t) = ⊥
+  IsStopper (Stops s) = Unit {0}
+
+  -- the last of the threads does, which is the one that starts the others
+  abbrev pub StopsLast : List (RunThread R C K A) → Type 0
+  StopsLast ts = (front : List (RunThread R C K A)) × (t : RunThread R C K A) × (ts ≡ front ++ t ∷ []) × IsStopper t
 
   -- a thread that may begin, or go on
   abbrev pub IsReady : {N : Type 0} → (Shift → List K → Type 0) → (K → PerKind Snapshot → Outcome → Type 0) → (K → N) → SharedKeyedBoard K → RunThread R C K A → Type 0

@@ -1,5 +1,5 @@
 -- What a controller watches, and why it cannot.
-use Rattle.std.specs.Prelude.{◌≡◌, ◌==◌, ℕ, List, length, filter, Bool, true, false, nat_lt, Contains, Option, Some, None, option_map}
+use Rattle.std.specs.Prelude.{◌≡◌, ◌==◌, ℕ, List, length, filter, map, Bool, true, false, nat_lt, Contains, Option, Some, None, option_map}
 use Rattle.std.specs.List.{find}
 use Rattle.spec_api.specs.Kinds.{kinds, rank}
 use Rattle.spec_api.specs.declared.kinds.Kind.{Kind}
@@ -7,6 +7,11 @@ use Rattle.request_encoding.specs.Given.{Refuses, scope_with}
 use Rattle.request_encoding.specs.Scopes.{Scope, is_scope}
 use Rattle.request_encoding.specs.declared.faults.ScopeFault.{ScopeFault}
 use Rattle.request_encoding.specs.declared.faults.ScopeFault.TheVariants.{Namespace, Selector, NoMemory}
+use Rattle.api_client.specs.Asked.{scope_at}
+use Rattle.api_client.specs.declared.asking.Remote.{Remote}
+use Rattle.api_notes.specs.Told.{api_of}
+use Rattle.api_notes.specs.declared.told.Told.{Told}
+use Rattle.controller_runtime.specs.declared.followed.Followed.{Followed}
 use Rattle.controller_runtime.specs.declared.start_fault.StartFault.{StartFault}
 use Rattle.controller_runtime.specs.declared.start_fault.StartFault.TheVariants as faults
 use Rattle.controller_runtime.specs.declared.watches.Watch.{Watch}
@@ -22,6 +27,18 @@ kind_watched_twice ws = find (λ k. nat_lt 1 (times_watched k ws)) kinds
 -- the scope that a watch asks for
 abbrev pub scope_asked : Watch → Scope
 scope_asked w = scope_with (option_map (λ t. t.now) w.namespace) (option_map (λ t. t.now) w.selector)
+
+-- what a watch asks for: a kind, in a scope
+abbrev pub asked_by : Watch → Kind × Scope
+asked_by w = (w.kind, scope_asked w)
+
+-- what is asked of a server for a kind that is followed
+abbrev pub asked_for : {C I O N : Type 0} → Followed (Told (Remote C I O) N) → Kind × Scope
+asked_for f = (f.kind, scope_at (api_of f.api))
+
+-- each watch is followed, one after another, by what it asks for
+abbrev pub AreFollowed : {C I O N : Type 0} → List Watch → List (Followed (Told (Remote C I O) N)) → Type 0
+AreFollowed ws fs = map asked_for fs ≡ map asked_by ws
 
 -- there is such a scope
 abbrev pub IsScoped : Watch → Type 0

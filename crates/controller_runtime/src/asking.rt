@@ -15,7 +15,10 @@ use request_parts::Request;
 use spec_api::kinds::Kind;
 use std::alloc::{AllocError, Global};
 
-/// Below this a reply's code says that what was asked was done.
+/// From this a reply's code says that what was asked was done (RFC 9110, Successful 2xx).
+const DONE_FROM: u16 = 200;
+
+/// Below this it does (RFC 9110, Redirection 3xx).
 const DONE_BELOW: u16 = 300;
 
 /// The code of a reply that there is no such object.
@@ -61,7 +64,7 @@ fn is_delete(request: &Request) -> bool
 fn is_done(request: &Request, code: u16) -> bool
     ensures { result ≡ is_done (request_of request.now) code }
 {
-    code < DONE_BELOW || (code == NOT_FOUND && is_delete(request))
+    (DONE_FROM..DONE_BELOW).contains(&code) || (code == NOT_FOUND && is_delete(request))
 }
 
 /// Returns how it went with a key, by what became of the request for it.
@@ -80,8 +83,8 @@ fn outcome_of(request: &Request, answer: &Answer) -> Outcome
     }
 }
 
-/// Asks what is to be asked for a key, if something is, and returns how it went: done where nothing is, where the server did it, or where what it was
-/// to delete is not there (404); failed where it refused else, as at a conflict, where nothing came back, and where memory ran out.
+/// Asks what is to be asked for a key, if something is, and returns how it went: done where nothing is, where the server did it (a code from 200 to
+/// 299), or where what it was to delete is not there (404); failed at any other code, as at a conflict, where nothing came back, and where memory ran out.
 pub fn ask<A: Api>(alloc: Global, api: &mut A, next: Result<Option<Request>, AllocError>) -> Outcome
     ensures nothing { next ≡ Ok None → result ≡ Done }
     ensures err { IfErr next (λ e. result ≡ Failed) }

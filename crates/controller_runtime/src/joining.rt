@@ -2,7 +2,7 @@
 ghost use Rattle.std.specs.Prelude.{◌≡◌, ◌≤◌, ◌+◌, All, vec_len};
 ghost use Rattle.std.specs.Vec.{vec_capacity};
 ghost use Rattle.controller_runtime.specs.Runs.{IsBack};
-ghost use Rattle.controller_runtime.specs.Threads.{IsReady, HasEnded};
+ghost use Rattle.controller_runtime.specs.Threads.{IsReady, HasEnded, StopsLast};
 
 use crate::members::RunThread;
 use crate::reconciler::Reconciler;
@@ -41,7 +41,8 @@ where
     );
 }
 
-/// Has each thread do its work until the run is over, and joins them.
+/// Has each thread do its work until the run is over, and joins them. The caller's own thread does that of the last one, which so waits for the stop
+/// also where the system gives too few threads; what was to be done in one that it refuses begins once the run is over, and ends at once.
 pub(crate) fn run_all<R, K, C, A>(
     rt: &R,
     board: &SharedKeyedBoard<K>,
@@ -52,7 +53,8 @@ where
     K: Named + Send,
     C: Reconciler<K> + Sync,
     A: Api + Send + Drop,
-    requires { All (IsReady C.owes C.ends K.says board.now) threads.old.items }
+    requires ready { All (IsReady C.owes C.ends K.says board.now) threads.old.items }
+    requires last { StopsLast threads.old.items }
     ensures ended { All (HasEnded C.owes C.ends K.says board.now) threads.new.items }
     ensures count { vec_len threads.new ≡ vec_len threads.old }
 {

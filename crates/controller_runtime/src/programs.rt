@@ -3,18 +3,21 @@ ghost use Rattle.std.specs.Prelude.{◌≡◌, ◌<◌, ◌^◌, None, OnOk, IfE
 ghost use Rattle.controller_runtime.specs.Watched.{kind_watched_twice, IsScoped, RefusesScopes, RefusesWatches};
 
 use crate::followed::Followed;
+use crate::pausing::RunPauses;
 use crate::reconciler::Reconciler;
 use crate::running::{Ended, OTHER_THREADS, run_until_over};
 use crate::start_fault::StartFault;
+use crate::telling::RunNotes;
 use crate::watches::{Watch, check_watches};
 use api_client::{Connect, Remote};
 use api_notes::{Notes, Told};
 use keyed_queues::Named;
+use list_and_watch::Onward;
 use request_encoding::{Scope, ScopeFault};
 use shared_keyed_board::SharedKeyedBoard;
 use std::alloc::{AllocError, Global};
 use std::io;
-use std::io::{BufReader, Input};
+use std::io::{BufReader, ErrorKind, Input, Read};
 use std::net::{Net, TcpListener, TcpStream};
 use std::sync::Wait;
 use std::thread::Threads;
@@ -24,6 +27,9 @@ use wakeups::Stop;
 
 /// How many workers there are at most.
 pub const MOST_WORKERS: usize = 64;
+
+/// How many bytes of standard input are read at a time.
+const PIECE: usize = 4096;
 
 /// What connects to a server, named by a text, until a stop.
 #[derive(Drop)]
@@ -57,7 +63,10 @@ struct Server<'a, R, N> {
 impl<'a, R: Net<Stream = TcpStream>, N: Notes> Server<'a, R, N> {
     ghost use Rattle.std.specs.Prelude.{◌≡◌, IfOk, IfErr, vec_len};
     ghost use Rattle.request_encoding.specs.Given.{Refuses};
-    ghost use Rattle.controller_runtime.specs.Watched.{scope_asked, RefusesScopes};
+    ghost use Rattle.request_encoding.specs.Seen.{scope_of};
+    ghost use Rattle.api_client.specs.Asked.{scope_at};
+    ghost use Rattle.api_notes.specs.Told.{api_of};
+    ghost use Rattle.controller_runtime.specs.Watched.{scope_asked, AreFollowed, RefusesScopes};
 
     /// Returns what connects to it.
     fn connector(&self) -> Connector<'a, R> {
@@ -73,7 +82,9 @@ impl<'a, R: Net<Stream = TcpStream>, N: Notes> Server<'a, R, N> {
     }
 
     /// Returns how it is asked for the objects of a scope.
-    fn api(&self, scope: Scope) -> Asked<'a, R, N> {
+    fn api(&self, scope: Scope) -> Asked<'a, R, N>
+        ensures { scope_at (api_of result) ≡ scope_of scope }
+    {
         Told::new(
             Remote::within(self.connector(), scope),
             self.notes,
@@ -84,6 +95,7 @@ impl<'a, R: Net<Stream = TcpStream>, N: Notes> Server<'a, R, N> {
     /// Returns how it is asked for the objects of a watch.
     fn followed(&self, watch: &Watch<'_>) -> Result<Followed<Asked<'a, R, N>>, ScopeFault>
         ensures kind { IfOk result (λ it. it.kind ≡ watch.now.kind) }
+        ensures scope { IfOk result (λ it. scope_at (api_of it.api) ≡ scope_asked watch.now) }
         ensures refused { IfErr result (Refuses (scope_asked watch.now)) }
     {
         let scope = Scope::new(self.alloc, watch.namespace, watch.selector)?;
@@ -98,15 +110,14 @@ impl<'a, R: Net<Stream = TcpStream>, N: Notes> Server<'a, R, N> {
         &self,
         watches: &[Watch<'_>],
     ) -> Result<Vec<Followed<Asked<'a, R, N>>>, ScopeFault>
-        ensures { IfErr result (RefusesScopes watches.now) }
+        ensures each { IfOk result (λ made. AreFollowed watches.now made.items) }
+        ensures refused { IfErr result (RefusesScopes watches.now) }
     {
-        let mut followed = Vec::new(self.alloc);
+        let mut made = Vec::with_capacity(self.alloc, watches.len())?;
         for watch in watches {
-            if followed.push(self.followed(watch)?).is_err() {
-                return Err(ScopeFault::NoMemory);
-            }
+            made.push_reserved(self.followed(watch)?);
         }
-        Ok(followed)
+        Ok(made)
     }
 
     /// Returns so many ways to ask it, one for each worker.
@@ -158,9 +169,14 @@ where
 }
 
 /// Runs a controller at a server over TCP until a stop, as `run_workers` does, with so many workers, one at least and 64 at most. Where another
-/// server answers than before it begins anew; from then on nothing is asked by what the one before showed. The server is named as for
-/// `TcpStream::connect`, as `"HOST:PORT"`; while none answers it is tried again. What keeps it from answering, and which requests it refuses, the
+/// server answers than before it begins anew after a pause: 0.8 s, twice as long each time that this happens again within 2 minutes, and 30 s at most. From
+/// when it is seen on, nothing is asked by what the one before showed; and nothing begins after a stop, which ends the pause too. The server is named as
+/// for `TcpStream::connect`, as `"HOST:PORT"`; while none answers it is tried again. What keeps it from answering, and which requests it refuses, the
 /// notes are told (`api_notes::StandardError` writes it, `api_notes::Silent` does not).
+///
+/// The caller's own thread waits for the stop. Each followed kind, each worker and the time have one more: where the system refuses some, nothing says
+/// so, and their work is not done until the run ends. Without a thread for each kind no key is taken; without the one for time a key that is to be
+/// looked at again waits until another is given back; without some workers all takes longer. A stop ends the run all the same.
 ///
 /// The error is that `check_watches` refuses the watches, before anything is asked; or running out of memory before a thread was started, of this
 /// run or of one that begins anew.
@@ -185,23 +201,41 @@ where
 {
     check_watches(alloc, watches)?;
     let workers = workers.clamp(1, MOST_WORKERS);
+    let told = RunNotes::new(rt, notes);
+    let mut pauses = RunPauses::new(rt, stop);
     for _ in rt.forever() {
         let ended = run_once(
-            rt, alloc, address, controller, watches, workers, notes, stop,
+            rt, alloc, address, controller, watches, workers, &told, stop,
         )?;
-        if ended == Ended::Stopped {
+        if ended == Ended::Stopped || stop.is_stopped() {
+            return Ok(());
+        }
+        told.tell_over();
+        if pauses.rest() == Onward::Stop {
             return Ok(());
         }
     }
     unreachable!()
 }
 
-/// Reads standard input until it ends or cannot be read, and then asks for a stop.
-pub fn stop_at_end_of_input<R: Input>(rt: &R, alloc: Global, stop: &Stop) {
-    for line in rt.lines(alloc) {
-        if line.is_err() {
-            break;
+/// Reads until there is no more, or it cannot be read on, and keeps nothing of it.
+fn read_away<R: Read>(input: &mut R) {
+    let mut piece = [0u8; PIECE];
+    for _ in 0..u64::MAX {
+        match input.read(&mut piece) {
+            Ok(0) => return,
+            Ok(_) => {}
+            Err(error) => match error.kind() {
+                ErrorKind::Interrupted => {}
+                _ => return,
+            },
         }
     }
+}
+
+/// Reads standard input until it ends or its device fails, whatever comes, and then asks for a stop. It takes no memory.
+pub fn stop_at_end_of_input<R: Input>(rt: &R, stop: &Stop) {
+    let mut input = rt.reader();
+    read_away(&mut input);
     stop.stop();
 }

@@ -2,7 +2,7 @@
 ghost use Rattle.std.specs.Prelude.{◌≡◌, ◌<◌, ◌≤◌, ◌+◌, ◌^◌, IfOk, OnOk, All, vec_len};
 ghost use Rattle.shared_keyed_board.specs.Passes.{IsNewAt};
 ghost use Rattle.controller_runtime.specs.Runs.{IsBack};
-ghost use Rattle.controller_runtime.specs.Threads.{IsReady};
+ghost use Rattle.controller_runtime.specs.Threads.{IsReady, IsStopper, StopsLast};
 
 use crate::followed::{Followed, apis_of, kinds_in};
 use crate::following::KindFollower;
@@ -133,7 +133,8 @@ impl<'a, R: Threads + Wait + Clock + Sync, K: Named, C: Reconciler<K>> Ground<'a
     /// Returns what ends the run at a stop.
     fn stops<A: Api + Drop>(&self, pass: BoardPass<K>) -> RunThread<'a, R, C, K, A>
         requires { IsNewAt self.now.board.now pass }
-        ensures { IsReady C.owes C.ends K.says self.now.board.now result }
+        ensures ready { IsReady C.owes C.ends K.says self.now.board.now result }
+        ensures stopper { IsStopper result }
     {
         RunThread::Stops(Stopper {
             rt: self.rt,
@@ -229,7 +230,25 @@ fn with_followers<'a, R: Threads + Wait + Clock + Sync, K: Named, C: Reconciler<
     })
 }
 
-/// Returns what each thread does. A pass is left for each kind that nobody follows. The error is running out of memory.
+/// Adds what ends the run at a stop, behind all others: the last thread is the caller's own, so it runs also where the system gives no further one.
+/// The error is running out of memory.
+fn with_stopper<'a, R: Threads + Wait + Clock + Sync, K: Named, C: Reconciler<K>, A: Api + Drop>(
+    ground: &Ground<'a, R, C, K>,
+    pass: BoardPass<K>,
+    others: Members<'a, R, C, K, A>,
+) -> Result<Members<'a, R, C, K, A>, AllocError>
+    requires pass { IsNewAt ground.now.board.now pass }
+    requires ready { All (IsReady C.owes C.ends K.says ground.now.board.now) others.threads.items }
+    ensures ready { IfOk result (λ m. All (IsReady C.owes C.ends K.says ground.now.board.now) m.threads.items) }
+    ensures last { IfOk result (λ m. StopsLast m.threads.items) }
+    ensures count { IfOk result (λ m. vec_len m.threads ≡ vec_len others.entry.threads + 1) }
+{
+    let mut members = others;
+    members.threads.push(ground.stops(pass))?;
+    Ok(members)
+}
+
+/// Returns what each thread does: the last waits for the stop. A pass is left for each kind that nobody follows. The error is running out of memory.
 fn all_members<'a, R: Threads + Wait + Clock + Sync, K: Named, C: Reconciler<K>, A: Api + Drop>(
     ground: &Ground<'a, R, C, K>,
     passes: &mut Vec<BoardPass<K>>,
@@ -241,14 +260,16 @@ fn all_members<'a, R: Threads + Wait + Clock + Sync, K: Named, C: Reconciler<K>,
     requires enough { vec_len passes.old ≡ vec_len asking + 6 }
     ensures passes { All (IsNewAt ground.now.board.now) passes.new.items }
     ensures ready { IfOk result (λ m. All (IsReady C.owes C.ends K.says ground.now.board.now) m.threads.items) }
+    ensures last { IfOk result (λ m. StopsLast m.threads.items) }
     ensures count { IfOk result (λ m. vec_len m.threads + vec_len passes.new ≡ vec_len passes.old) }
 {
     let mut informers = informers;
     let mut threads = workers(ground, passes, &mut informers, asking)?;
     threads.push(ground.ticks(ground.next_pass(passes)))?;
-    threads.push(ground.stops(ground.next_pass(passes)))?;
     let kinds = informers.zip(apis).into_entries(ground.alloc)?;
-    with_followers(ground, passes, kinds, threads)
+    let pass = ground.next_pass(passes);
+    let members = with_followers(ground, passes, kinds, threads)?;
+    with_stopper(ground, pass, members)
 }
 
 /// Returns why a run has ended.
@@ -343,8 +364,8 @@ where
 
 /// Runs a controller until it is to stop, or another server answers than before, and joins all threads: one for each kind that is followed, which
 /// adds the keys that its changes owe; the workers, one for each way to ask, which reconcile one key after another once each kind has been listed;
-/// one that lets time pass, for keys that are to be looked at again; and one that waits for the stop. A kind that is named twice is followed once,
-/// as it is first named.
+/// one that lets time pass, for keys that are to be looked at again; and the caller's own, which waits for the stop. What was to be done in a thread that
+/// the system refuses is not done until the run ends (`run_at` says what that costs). A kind that is named twice is followed once, as it is first named.
 ///
 /// A key is in one worker's hands at a time, and is queued once however often it is owed. One that is owed while it is in a worker's hands is
 /// reconciled again after it; one whose reconcile failed after 5 milliseconds, and twice as long after each failure that follows, up to 1,000

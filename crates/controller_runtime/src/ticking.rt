@@ -23,8 +23,8 @@ impl<R: Wait + Clock, K: Named> Ticker<'_, R, K> {
     ghost use Rattle.shared_keyed_board.specs.Passes.{IsPassAt, key_in_hand, sight};
     ghost use Rattle.controller_runtime.specs.Reconciled.{OnlyTicks};
 
-    /// Lets time pass, as the clock shows it, and sleeps until the next key comes due; returns whether the board is shut down. Where memory runs out
-    /// no time passes, and it does the next time, after a pause.
+    /// Lets time pass, as the clock shows it, and sleeps until the next key comes due; returns whether the board is shut down, or is about to be. Where
+    /// memory runs out no time passes: it pauses instead, and does not sleep, since the board would count that from a moment that is long over.
     fn tick(&mut self, board: &SharedKeyedBoard<K>) -> bool
         requires { IsPassAt board.now self.old.pass }
         ensures pass { IsPassAt board.now self.new.pass }
@@ -32,13 +32,13 @@ impl<R: Wait + Clock, K: Named> Ticker<'_, R, K> {
         ensures ticks { OnlyTicks (sight K.says self.old.pass) (sight K.says self.new.pass) }
     {
         let now = self.clock.milliseconds();
-        if board.tick(self.rt, &mut self.pass, now).is_err() {
-            let _ = self.under_way.rest(self.rt, PAUSE_MILLISECONDS);
+        match board.tick(self.rt, &mut self.pass, now) {
+            Ok(()) => board.rest_until_due(self.rt, &mut self.pass),
+            Err(_) => self.under_way.rest(self.rt, PAUSE_MILLISECONDS).is_err(),
         }
-        board.rest_until_due(self.rt, &mut self.pass)
     }
 
-    /// Lets time pass until the board is shut down.
+    /// Lets time pass until the board is shut down, or the run is over.
     pub(crate) fn run(&mut self, board: &SharedKeyedBoard<K>)
         requires { IsPassAt board.now self.old.pass }
         ensures pass { IsPassAt board.now self.new.pass }
