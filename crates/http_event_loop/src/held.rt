@@ -1,5 +1,5 @@
 //! A connection that a loop holds.
-ghost use Rattle.std.specs.Prelude.{◌≡◌, ◌≤◌, ◌+◌};
+ghost use Rattle.std.specs.Prelude.{◌≡◌, ◌≤◌, ◌+◌, true};
 ghost use Rattle.http_event_loop.specs.Asked.{HasAsked};
 
 use crate::asker::Asker;
@@ -280,8 +280,22 @@ impl Held {
         }
     }
 
+    /// Tries again what was not written, and leaves the connection if it has stood where it does for too long. One that is written on in its
+    /// turn is passed over: to write on all of these at once would keep others waiting, and it is no peer that they wait for.
+    pub(crate) fn leave_late<S: Site>(&mut self, alloc: Global, routes: &Routes, tick: &Tick)
+        ensures { self.old.is_writing_on ≡ true → self.new ≡ self.old }
+    {
+        if self.is_writing_on {
+            return;
+        }
+        self.write_on::<S>(alloc, routes, tick.now);
+        if self.is_late(tick) {
+            self.leave();
+        }
+    }
+
     /// Returns whether the connection has stood here for too long.
-    pub(crate) fn is_late(&self, tick: &Tick) -> bool {
+    fn is_late(&self, tick: &Tick) -> bool {
         let since = if self.phase.is_reading() {
             self.since
         } else {

@@ -275,14 +275,12 @@ impl<'a> Connections<'a> {
         }
     }
 
-    /// Tries again what was not written, and leaves the connections that have stood where they do for too long.
+    /// Tries again what was not written, and leaves the connections that have stood where they do for too long, but for those that are written
+    /// on in their turn.
     pub(crate) fn leave_late<S: Site>(&mut self, tick: &Tick) {
         for key in 0..self.held.capacity() {
             if let Some(held) = self.held.get_mut(key) {
-                held.write_on::<S>(self.alloc, self.routes, tick.now);
-                if held.is_late(tick) {
-                    held.leave();
-                }
+                held.leave_late::<S>(self.alloc, self.routes, tick);
             }
             self.settle(key, tick.now);
         }
