@@ -53,6 +53,9 @@ impl<'a, S: Drop, L: Ledger> EventLoop<'a, S, L> {
         ensures { IfOk result (λ made. IsNewAsker site made.asker) }
     {
         let LoopPlace { poll, number } = place;
+        if listening.is_some() {
+            loops.say_accepting(number);
+        }
         let accepting = match listening {
             Some(listening) => Some(Accepting::new(&poll, listening)?),
             None => None,

@@ -78,6 +78,21 @@ impl Loops {
         }
     }
 
+    /// Says that the loop of this number accepts connections, before it accepts any.
+    pub(crate) fn say_accepting(&self, number: usize) {
+        if let Some(wakes) = self.wakes.get(number) {
+            wakes.say_accepting();
+        }
+    }
+
+    /// Wakes who accepts connections. That is never missed: who accepts has said so before the first connection was accepted, and so before one
+    /// ended; and a wake that comes before a wait begins ends it at once.
+    fn wake_accepting(&self) {
+        for wakes in &self.wakes {
+            wakes.wake_accepting();
+        }
+    }
+
     /// Returns how many loops there are.
     pub(crate) fn count(&self) -> usize {
         self.wakes.len()
@@ -118,7 +133,7 @@ impl Loops {
     /// be accepted for want of room or of a descriptor, the loop that accepts is woken.
     pub(crate) fn leave(&self) {
         if self.open.leave() {
-            self.wake_all();
+            self.wake_accepting();
         }
         self.stop_if_over();
     }
