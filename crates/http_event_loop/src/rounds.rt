@@ -1,4 +1,5 @@
 //! The rounds of a loop.
+ghost use Rattle.std.specs.Prelude.{◌≡◌, true};
 ghost use Rattle.http_event_loop.specs.Asked.{HasAsked};
 
 use crate::accepting::{Accepting, LISTENER};
@@ -31,6 +32,9 @@ const STOP_MILLISECONDS: u64 = 1500;
 
 /// How long a loop waits for events as it stops.
 const STOP_WAIT: u64 = 50;
+
+/// How many connections are accepted in a round at most: those that the loop holds, its deadlines and a stop wait meanwhile.
+const MOST_ACCEPTED: u64 = 1024;
 
 /// The rounds of a loop: in each it waits for events, and lets connections go on.
 #[derive(Drop)]
@@ -86,9 +90,11 @@ impl<'a> Rounds<'a> {
         outcome
     }
 
-    /// Returns how many milliseconds the loop may wait for events.
-    fn longest_wait(&self) -> u64 {
-        if self.connections.is_behind() {
+    /// Returns how many milliseconds the loop may wait for events: it waits for none where more connections may wait than it accepted.
+    fn longest_wait(&self, has_more: bool) -> u64
+        ensures { has_more ≡ true → result ≡ 0 }
+    {
+        if has_more || self.connections.is_behind() {
             0
         } else if self.connections.has_watches() {
             TURN_MILLISECONDS
@@ -129,9 +135,10 @@ impl<'a> Rounds<'a> {
             .begin(rt, registry, given, asker, &self.tick);
     }
 
-    /// Accepts all connections that wait and for which there is room, and gives some to this loop, and the others to others.
+    /// Accepts the connections that wait and for which there is room, but no more than are accepted in a round, and gives some to this loop, and
+    /// the others to others. What is left waits for the next round, which begins at once.
     #[tactic(auto, using(crate::proofs::Chains::asks_on, crate::proofs::Chains::asks_nothing))]
-    pub(crate) fn accept_all<S: Site, L: Ledger, R: Wait>(
+    pub(crate) fn accept_waiting<S: Site, L: Ledger, R: Wait>(
         &mut self,
         rt: &R,
         registry: &Registry,
@@ -141,7 +148,7 @@ impl<'a> Rounds<'a> {
         ensures { HasAsked S.Calls S.Lists S.Begins S.Watches asker.old asker.new }
     {
         accepting.begin_round(self.number);
-        for _ in 0..u64::MAX {
+        for _ in 0..MOST_ACCEPTED {
             let Some(stream) = accepting.accept(self.loops) else {
                 break;
             };
@@ -287,8 +294,8 @@ impl<'a> Rounds<'a> {
         ensures { HasAsked S.Calls S.Lists S.Begins S.Watches asker.old asker.new }
     {
         if let Some(accepting) = accepting {
-            if is_called || accepting.is_held_up() {
-                self.accept_all(rt, registry, accepting, asker);
+            if is_called || accepting.is_held_up() || accepting.has_more() {
+                self.accept_waiting(rt, registry, accepting, asker);
             }
         }
     }
@@ -337,7 +344,8 @@ impl<'a> Rounds<'a> {
     ) -> io::Result<()>
         ensures { HasAsked S.Calls S.Lists S.Begins S.Watches asker.old asker.new }
     {
-        self.await_events(poll, events, self.longest_wait())?;
+        let has_more = accepting.as_ref().is_some_and(Accepting::has_more);
+        self.await_events(poll, events, self.longest_wait(has_more))?;
         self.tick = Tick::now(rt)?;
         self.attend(rt, poll.registry(), events, accepting, asker);
         self.tend(asker);
