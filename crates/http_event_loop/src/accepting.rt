@@ -1,5 +1,5 @@
 //! Connections that are accepted.
-ghost use Rattle.std.specs.Prelude.{◌≡◌, is_some};
+ghost use Rattle.std.specs.Prelude.{◌≡◌, ◌≢◌, ◌<◌, ◌≤◌, ◌+◌, is_some};
 
 use crate::given::Given;
 use crate::loops::Loops;
@@ -46,7 +46,12 @@ pub(crate) struct Accepting {
 }
 
 /// Returns the number after this one, of so many; after the last it is the first.
-fn following(number: usize, count: usize) -> usize {
+fn following(number: usize, count: usize) -> usize
+    ensures next { number + 1 < count → result ≡ number + 1 }
+    ensures first { count ≤ number + 1 → result ≡ 0 }
+    ensures below { 0 < count → result < count }
+    ensures other { 1 < count → result ≢ number }
+{
     if number < count.saturating_sub(1) {
         number + 1
     } else {
@@ -137,7 +142,10 @@ impl Accepting {
     }
 
     /// Returns the number of the loop whose turn it is, of so many: another than the own, if there is one.
-    pub(crate) fn take_turn(&mut self, own: usize, count: usize) -> usize {
+    pub(crate) fn take_turn(&mut self, own: usize, count: usize) -> usize
+        ensures below { 0 < count → result < count }
+        ensures other { 1 < count → result ≢ own }
+    {
         let next = following(self.turn, count);
         self.turn = if next == own {
             following(next, count)
