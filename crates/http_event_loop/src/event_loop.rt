@@ -108,7 +108,7 @@ impl<S: Site, L: Ledger> EventLoop<'_, S, L> {
 
     /// Answers connections until a stop: one that is asked for, or the end of all connections of those that are counted but watches. Then it
     /// takes no more; requests that are whole are answered, watches are told what has been written and that they end, and all others are left,
-    /// within two seconds. An error of the system ends it and all other loops.
+    /// within two seconds, as is a watch whose peer has not taken what it was to be told before. An error of the system ends it and all other loops.
     pub fn run<R: Wait + Clock>(&mut self, rt: &R) -> io::Result<()>
         ensures { HasAsked S.Calls S.Lists S.Begins S.Watches self.old.asker self.new.asker }
     {

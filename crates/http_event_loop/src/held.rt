@@ -122,7 +122,9 @@ impl Held {
     }
 
     /// Takes note of where the connection stands.
-    fn stand(&mut self, phase: ConnectionPhase) {
+    fn stand(&mut self, phase: ConnectionPhase)
+        ensures { self.new.phase ≡ phase }
+    {
         self.phase = phase;
     }
 
@@ -239,6 +241,11 @@ impl Held {
         }
     }
 
+    /// Has a watch that is not over looked at until a look shows that it is told all, as at a stop.
+    pub(crate) fn hurry_to_end(&mut self) {
+        self.is_due = self.watched_kind().is_some();
+    }
+
     /// Returns the kind of a watch that is not over.
     pub(crate) fn watched_kind(&self) -> Option<Kind> {
         self.phase.watched_kind()
@@ -253,14 +260,20 @@ impl Held {
     }
 
     /// Leaves the connection as it is.
-    pub(crate) fn leave(&mut self) {
+    pub(crate) fn leave(&mut self)
+        ensures { self.new.phase ≡ ConnectionPhase.Closing Served.Asked }
+    {
         self.stand(ConnectionPhase::Closing(Served::Asked));
     }
 
-    /// Ends the connection as far as that goes without its peer, as at a stop: a watch is written its end, a reply or a list is written on,
-    /// and what is no whole request is left.
-    pub(crate) fn stop<S: Site>(&mut self, alloc: Global, routes: &Routes, now: Instant) {
-        if let Some(watching) = self.take_watching() {
+    /// Ends the connection as far as that goes without its peer, as at a stop: a watch that is told all is written its end, and one that is not
+    /// is left without it, as its peer would take it for whole; a reply or a list is written on, and what is no whole request is left.
+    pub(crate) fn stop<S: Site>(&mut self, alloc: Global, routes: &Routes, now: Instant)
+        ensures { self.old.is_due ≡ true → self.new.phase ≡ ConnectionPhase.Closing Served.Asked }
+    {
+        if self.is_due {
+            self.leave();
+        } else if let Some(watching) = self.take_watching() {
             self.stand(end_watch::<S>(alloc, watching));
             self.turn::<S>(alloc, routes, now);
         } else if !self.phase.is_unwritten() {
