@@ -8,6 +8,7 @@ use crate::loops::Loops;
 use crate::open_connections::Connections;
 use crate::place::LoopPlace;
 use crate::rounds::Rounds;
+use crate::ticks::Tick;
 use crate::turns::Turns;
 use api::Site;
 use mio::{Events, Poll};
@@ -90,20 +91,16 @@ impl<S: Site, L: Ledger> EventLoop<'_, S, L> {
         let Some(wakes) = loops.wakes(*number) else {
             return Ok(());
         };
+        let tick = Tick::now(rt)?;
         let mut events = Events::with_capacity(*alloc, EVENTS)?;
         if accepting.as_ref().is_some_and(Accepting::is_over) {
             loops.end();
         }
         let connections = Connections::new(*alloc, routes, loops, wakes);
-        let mut rounds = Rounds::new(rt, loops, wakes, *number, connections)?;
-        for _ in rt.forever() {
-            if loops.is_stopped() {
-                break;
-            }
-            rounds.go(rt, poll, &mut events, accepting, asker)?;
-        }
-        *accepting = None;
-        rounds.stop(rt, poll, &mut events, asker)
+        let mut rounds = Rounds::new(loops, wakes, *number, connections, tick);
+        let outcome = rounds.run(rt, poll, &mut events, accepting, asker);
+        drop(rounds);
+        outcome
     }
 
     /// Answers connections until a stop: one that is asked for, or the end of all connections of those that are counted but watches. Then it

@@ -62,16 +62,15 @@ fn wait(poll: &mut Poll, events: &mut Events, millis: u64) -> io::Result<()> {
 }
 
 impl<'a> Rounds<'a> {
-    /// Returns the rounds of a loop with these connections.
-    pub(crate) fn new<R: Clock>(
-        rt: &R,
+    /// Returns the rounds of a loop with these connections, which begin at this tick.
+    pub(crate) fn new(
         loops: &'a Loops,
         wakes: &'a Wakes,
         number: usize,
         connections: Connections<'a>,
-    ) -> io::Result<Rounds<'a>> {
-        let tick = Tick::now(rt)?;
-        Ok(Rounds {
+        tick: Tick,
+    ) -> Rounds<'a> {
+        Rounds {
             loops,
             wakes,
             number,
@@ -79,7 +78,7 @@ impl<'a> Rounds<'a> {
             tick,
             turned: tick.now,
             swept: tick.now,
-        })
+        }
     }
 
     /// Waits for events, for no longer than this, as all loops may know.
@@ -138,7 +137,7 @@ impl<'a> Rounds<'a> {
     /// Accepts the connections that wait and for which there is room, but no more than are accepted in a round, and gives some to this loop, and
     /// the others to others. What is left waits for the next round, which begins at once.
     #[tactic(auto, using(crate::proofs::Chains::asks_on, crate::proofs::Chains::asks_nothing))]
-    pub(crate) fn accept_waiting<S: Site, L: Ledger, R: Wait>(
+    fn accept_waiting<S: Site, L: Ledger, R: Wait>(
         &mut self,
         rt: &R,
         registry: &Registry,
@@ -334,7 +333,7 @@ impl<'a> Rounds<'a> {
 
     /// Goes one round. Watches are looked at last, so that they see what was written in it.
     #[tactic(auto, using(crate::proofs::Chains::asks_on, crate::proofs::Chains::asks_nothing))]
-    pub(crate) fn go<S: Site, L: Ledger, R: Wait + Clock>(
+    fn go<S: Site, L: Ledger, R: Wait + Clock>(
         &mut self,
         rt: &R,
         poll: &mut Poll,
@@ -354,7 +353,7 @@ impl<'a> Rounds<'a> {
 
     /// Ends all connections, as far as their peers let it within a while.
     #[tactic(auto, using(crate::proofs::Chains::asks_on, crate::proofs::Chains::asks_nothing))]
-    pub(crate) fn stop<S: Site, L: Ledger, R: Wait + Clock>(
+    fn stop<S: Site, L: Ledger, R: Wait + Clock>(
         &mut self,
         rt: &R,
         poll: &mut Poll,
@@ -377,5 +376,27 @@ impl<'a> Rounds<'a> {
             self.connections.write_paused::<S>(self.tick.now);
         }
         Ok(())
+    }
+
+    /// Goes round until all loops are to stop, and then ends all connections.
+    #[tactic(auto, using(crate::proofs::Chains::asks_on, crate::proofs::Chains::asks_nothing))]
+    pub(crate) fn run<S: Site, L: Ledger, R: Wait + Clock>(
+        &mut self,
+        rt: &R,
+        poll: &mut Poll,
+        events: &mut Events,
+        accepting: &mut Option<Accepting>,
+        asker: &mut Asker<'_, S, L>,
+    ) -> io::Result<()>
+        ensures { HasAsked S.Calls S.Lists S.Begins S.Watches asker.old asker.new }
+    {
+        for _ in rt.forever() {
+            if self.loops.is_stopped() {
+                break;
+            }
+            self.go(rt, poll, events, accepting, asker)?;
+        }
+        *accepting = None;
+        self.stop(rt, poll, events, asker)
     }
 }
