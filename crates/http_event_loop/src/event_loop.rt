@@ -35,6 +35,19 @@ pub struct EventLoop<'a, S, L: Ledger> {
     accepting: Option<Accepting>,
 }
 
+/// Returns the routes of a loop, and what accepts connections for it where it is to listen.
+fn routes_and_accepting(
+    alloc: Global,
+    poll: &Poll,
+    listening: Option<Listening>,
+) -> io::Result<(Routes, Option<Accepting>)> {
+    let accepting = match listening {
+        Some(listening) => Some(Accepting::new(poll, listening)?),
+        None => None,
+    };
+    Ok((Routes::new(alloc)?, accepting))
+}
+
 impl<'a, S: Drop, L: Ledger> EventLoop<'a, S, L> {
     /// Returns the loop of this place, which takes the connections that it is given, each with one of the turns.
     ///
@@ -57,19 +70,18 @@ impl<'a, S: Drop, L: Ledger> EventLoop<'a, S, L> {
         if listening.is_some() {
             loops.say_accepting(number);
         }
-        let accepting = match listening {
-            Some(listening) => Some(Accepting::new(&poll, listening)?),
-            None => None,
-        };
-        Ok(EventLoop {
-            asker: Asker::new(rt, site, turns),
-            alloc,
-            routes: Routes::new(alloc)?,
-            loops,
-            number,
-            poll,
-            accepting,
-        })
+        match routes_and_accepting(alloc, &poll, listening) {
+            Ok((routes, accepting)) => Ok(EventLoop {
+                asker: Asker::new(rt, site, turns),
+                alloc,
+                routes,
+                loops,
+                number,
+                poll,
+                accepting,
+            }),
+            Err(error) => Err(error),
+        }
     }
 }
 
