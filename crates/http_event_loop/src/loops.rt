@@ -1,5 +1,5 @@
 //! What some loops share.
-ghost use Rattle.std.specs.Prelude.{◌≡◌, IfOk, length};
+ghost use Rattle.std.specs.Prelude.{◌≡◌, ◌+◌, IfOk, OnOk, length};
 
 use crate::at_work::AtWork;
 use crate::opened::Open;
@@ -25,6 +25,38 @@ pub struct Loops {
     is_stopped: AtomicU64,
 }
 
+/// Opens the place of the loop of this number, and how it is reached.
+fn open_place<R: Net>(
+    rt: &R,
+    alloc: Global,
+    number: usize,
+    wakes: &mut Vec<Wakes>,
+    places: &mut Vec<LoopPlace>,
+) -> io::Result<()>
+    ensures { OnOk result (length places.new.items ≡ length places.old.items + 1) }
+{
+    let poll = Poll::new(rt)?;
+    wakes.push(Wakes::new(alloc, &poll)?)?;
+    places.push(LoopPlace { poll, number })?;
+    Ok(())
+}
+
+/// Opens the places of so many loops, and how each is reached.
+fn open_places<R: Net>(
+    rt: &R,
+    alloc: Global,
+    count: usize,
+    wakes: &mut Vec<Wakes>,
+    places: &mut Vec<LoopPlace>,
+) -> io::Result<()>
+    ensures { OnOk result (length places.new.items ≡ length places.old.items + count) }
+{
+    for number in 0..count {
+        open_place(rt, alloc, number, wakes, places)?;
+    }
+    Ok(())
+}
+
 impl Loops {
     /// Returns what so many loops share, and where each waits. Of those beyond the number of processors some are given nothing.
     pub fn open<R: Net + Threads>(
@@ -34,20 +66,20 @@ impl Loops {
     ) -> io::Result<(Loops, Vec<LoopPlace>)>
         ensures { IfOk result (λ opened. length opened.1.items ≡ count) }
     {
-        let mut wakes = Vec::with_capacity(alloc, count)?;
-        let mut places = Vec::with_capacity(alloc, count)?;
-        for number in 0..count {
-            let poll = Poll::new(rt)?;
-            wakes.push(Wakes::new(alloc, &poll)?)?;
-            places.push(LoopPlace { poll, number })?;
+        let mut wakes = Vec::new(alloc);
+        let mut places = Vec::new(alloc);
+        match open_places(rt, alloc, count, &mut wakes, &mut places) {
+            Ok(()) => {
+                let loops = Loops {
+                    wakes,
+                    at_work: AtWork::of(rt, count),
+                    open: Open::new(),
+                    is_stopped: AtomicU64::new(0),
+                };
+                Ok((loops, places))
+            }
+            Err(error) => Err(error),
         }
-        let loops = Loops {
-            wakes,
-            at_work: AtWork::of(rt, count),
-            open: Open::new(),
-            is_stopped: AtomicU64::new(0),
-        };
-        Ok((loops, places))
     }
 
     /// Tells all loops that an object of this kind was written, by the loop of this number if by one. It waits for nobody. A loop with no
