@@ -2,6 +2,7 @@
 ghost use Rattle.std.specs.Prelude.{◌≡◌, ◌+◌, IfOk, OnOk, length};
 
 use crate::at_work::AtWork;
+use crate::given::Given;
 use crate::opened::Open;
 use crate::place::LoopPlace;
 use crate::wakes::Wakes;
@@ -10,6 +11,7 @@ use spec_api::kinds::Kind;
 use std::alloc::Global;
 use std::io;
 use std::net::Net;
+use std::sync::Wait;
 use std::sync::atomic::{AtomicU64, Ordering};
 use std::thread::Threads;
 
@@ -133,6 +135,20 @@ impl Loops {
     /// Returns how a loop is reached.
     pub(crate) fn wakes(&self, number: usize) -> Option<&Wakes> {
         self.wakes.get(number)
+    }
+
+    /// Gives a connection to the loop of this number, from the one of that, or hands it back where too many wait there.
+    pub(crate) fn give<R: Wait>(
+        &self,
+        rt: &R,
+        number: usize,
+        given: Given,
+        from: usize,
+    ) -> Result<(), Given> {
+        match self.wakes.get(number) {
+            Some(wakes) => wakes.give(rt, given, number == from),
+            None => Err(given),
+        }
     }
 
     /// Returns how many loops, from the first on, are given connections by the one that accepts.

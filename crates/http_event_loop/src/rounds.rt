@@ -123,15 +123,10 @@ impl<'a> Rounds<'a> {
     )
         ensures { HasAsked S.Calls S.Lists S.Begins S.Watches asker.old asker.new }
     {
-        let mut given = given;
-        if let Some(wakes) = self.loops.wakes(number) {
-            match wakes.give(rt, given, number == self.number) {
-                Ok(()) => return,
-                Err(back) => given = back,
-            }
+        if let Err(given) = self.loops.give(rt, number, given, self.number) {
+            self.connections
+                .begin(rt, registry, given, asker, &self.tick);
         }
-        self.connections
-            .begin(rt, registry, given, asker, &self.tick);
     }
 
     /// Accepts the connections that wait and for which there is room, but no more than are accepted in a round, and gives some to this loop, and
