@@ -95,20 +95,19 @@ impl Held {
         }
     }
 
-    /// Returns the connection to be given to another loop, if it is for one. Else hands it back.
-    pub(crate) fn into_given(self) -> Result<Given, Held> {
-        let mut held = self;
-        match Begun::of_phase(held.take_phase()) {
-            Ok(begun) => Ok(held.begun(begun)),
+    /// Takes how far the connection has come, if it is for another loop.
+    pub(crate) fn take_begun(&mut self) -> Option<Begun> {
+        match Begun::of_phase(self.take_phase()) {
+            Ok(begun) => Some(begun),
             Err(phase) => {
-                held.stand(phase);
-                Err(held)
+                self.stand(phase);
+                None
             }
         }
     }
 
     /// Returns the connection to be given to another loop, as far as it has come.
-    fn begun(self, begun: Begun) -> Given {
+    pub(crate) fn into_given(self, begun: Begun) -> Given {
         Given {
             stream: self.stream,
             begun,
