@@ -1,4 +1,6 @@
 //! Connections that are accepted.
+ghost use Rattle.std.specs.Prelude.{◌≡◌, ◌≢◌, ◌<◌, ◌≤◌, ◌+◌, is_some};
+
 use crate::given::Given;
 use crate::loops::Loops;
 use mio::net::{TcpListener, TcpStream};
@@ -39,10 +41,17 @@ pub(crate) struct Accepting {
     share: usize,
     /// Whether a connection may wait that no event will tell of: there was no room for it, or the system refused to accept it.
     is_held_up: bool,
+    /// Whether the last one that was tried came, so that another may wait, of which no event will tell either.
+    has_more: bool,
 }
 
 /// Returns the number after this one, of so many; after the last it is the first.
-fn following(number: usize, count: usize) -> usize {
+fn following(number: usize, count: usize) -> usize
+    ensures next { number + 1 < count → result ≡ number + 1 }
+    ensures first { count ≤ number + 1 → result ≡ 0 }
+    ensures below { 0 < count → result < count }
+    ensures other { 1 < count → result ≢ number }
+{
     if number < count.saturating_sub(1) {
         number + 1
     } else {
@@ -66,12 +75,22 @@ impl Accepting {
             place: 0,
             share: 0,
             is_held_up: false,
+            has_more: false,
         })
+    }
+
+    /// Returns the next connection; none where none waits, there is no room, or the system refuses it. Notes whether more may wait.
+    pub(crate) fn accept(&mut self, loops: &Loops) -> Option<TcpStream>
+        ensures { self.new.has_more ≡ is_some result }
+    {
+        let accepted = self.try_accept(loops);
+        self.has_more = accepted.is_some();
+        accepted
     }
 
     /// Returns the next connection; none where none waits, there is no room, or the system refuses it, as where it has no descriptor for it. After
     /// a refusal it is tried once more, as a connection may have ended before the refusal was noted.
-    pub(crate) fn accept(&mut self, loops: &Loops) -> Option<TcpStream> {
+    fn try_accept(&mut self, loops: &Loops) -> Option<TcpStream> {
         self.is_held_up = !loops.has_room();
         if self.is_over() || self.is_held_up {
             return None;
@@ -115,8 +134,18 @@ impl Accepting {
         self.is_held_up
     }
 
+    /// Returns whether more may wait than were accepted, since the last one that was tried came: to try once more says whether any does.
+    pub(crate) fn has_more(&self) -> bool
+        ensures { result ≡ self.now.has_more }
+    {
+        self.has_more
+    }
+
     /// Returns the number of the loop whose turn it is, of so many: another than the own, if there is one.
-    pub(crate) fn take_turn(&mut self, own: usize, count: usize) -> usize {
+    pub(crate) fn take_turn(&mut self, own: usize, count: usize) -> usize
+        ensures below { 0 < count → result < count }
+        ensures other { 1 < count → result ≢ own }
+    {
         let next = following(self.turn, count);
         self.turn = if next == own {
             following(next, count)

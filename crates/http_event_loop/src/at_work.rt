@@ -1,5 +1,5 @@
 //! How many loops are given connections.
-ghost use Rattle.std.specs.Prelude.{◌≤◌, ◌<◌};
+ghost use Rattle.std.specs.Prelude.{◌≡◌, ◌≤◌, ◌<◌, ◌-◌, ◌/◌, max, min};
 
 use std::thread::{Threads, available_parallelism};
 
@@ -38,6 +38,8 @@ impl AtWork {
         ensures long { result.long ≤ count }
         ensures unread { result.unread ≤ result.long }
         ensures some { 0 < count → 0 < result.unread }
+        ensures most { result.long ≡ min count (max (processors - 1) 1) }
+        ensures few { result.unread ≡ min result.long (max (processors / PROCESSORS) 1) }
     {
         let long = count.min(processors.saturating_sub(1).max(1));
         let unread = long.min((processors / PROCESSORS).max(1));

@@ -95,9 +95,9 @@ impl Connections<'_> {
     {
         let mut held = Held::new(self.alloc, given);
         held.turn::<S>(self.alloc, self.routes, tick.now);
-        match held.into_given() {
-            Ok(given) => Some(given),
-            Err(held) => {
+        match held.take_begun() {
+            Some(begun) => Some(held.into_given(begun)),
+            None => {
                 self.answer(rt, registry, held, asker, tick);
                 None
             }

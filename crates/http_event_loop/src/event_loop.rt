@@ -8,6 +8,7 @@ use crate::loops::Loops;
 use crate::open_connections::Connections;
 use crate::place::LoopPlace;
 use crate::rounds::Rounds;
+use crate::ticks::Tick;
 use crate::turns::Turns;
 use api::Site;
 use mio::{Events, Poll};
@@ -34,6 +35,19 @@ pub struct EventLoop<'a, S, L: Ledger> {
     accepting: Option<Accepting>,
 }
 
+/// Returns the routes of a loop, and what accepts connections for it where it is to listen.
+fn routes_and_accepting(
+    alloc: Global,
+    poll: &Poll,
+    listening: Option<Listening>,
+) -> io::Result<(Routes, Option<Accepting>)> {
+    let accepting = match listening {
+        Some(listening) => Some(Accepting::new(poll, listening)?),
+        None => None,
+    };
+    Ok((Routes::new(alloc)?, accepting))
+}
+
 impl<'a, S: Drop, L: Ledger> EventLoop<'a, S, L> {
     /// Returns the loop of this place, which takes the connections that it is given, each with one of the turns.
     ///
@@ -53,19 +67,21 @@ impl<'a, S: Drop, L: Ledger> EventLoop<'a, S, L> {
         ensures { IfOk result (λ made. IsNewAsker site made.asker) }
     {
         let LoopPlace { poll, number } = place;
-        let accepting = match listening {
-            Some(listening) => Some(Accepting::new(&poll, listening)?),
-            None => None,
-        };
-        Ok(EventLoop {
-            asker: Asker::new(rt, site, turns),
-            alloc,
-            routes: Routes::new(alloc)?,
-            loops,
-            number,
-            poll,
-            accepting,
-        })
+        if listening.is_some() {
+            loops.say_accepting(number);
+        }
+        match routes_and_accepting(alloc, &poll, listening) {
+            Ok((routes, accepting)) => Ok(EventLoop {
+                asker: Asker::new(rt, site, turns),
+                alloc,
+                routes,
+                loops,
+                number,
+                poll,
+                accepting,
+            }),
+            Err(error) => Err(error),
+        }
     }
 }
 
@@ -87,25 +103,21 @@ impl<S: Site, L: Ledger> EventLoop<'_, S, L> {
         let Some(wakes) = loops.wakes(*number) else {
             return Ok(());
         };
+        let tick = Tick::now(rt)?;
         let mut events = Events::with_capacity(*alloc, EVENTS)?;
         if accepting.as_ref().is_some_and(Accepting::is_over) {
             loops.end();
         }
         let connections = Connections::new(*alloc, routes, loops, wakes);
-        let mut rounds = Rounds::new(rt, loops, wakes, *number, connections)?;
-        for _ in rt.forever() {
-            if loops.is_stopped() {
-                break;
-            }
-            rounds.go(rt, poll, &mut events, accepting, asker)?;
-        }
-        *accepting = None;
-        rounds.stop(rt, poll, &mut events, asker)
+        let mut rounds = Rounds::new(loops, wakes, *number, connections, tick);
+        let outcome = rounds.run(rt, poll, &mut events, accepting, asker);
+        drop(rounds);
+        outcome
     }
 
     /// Answers connections until a stop: one that is asked for, or the end of all connections of those that are counted but watches. Then it
     /// takes no more; requests that are whole are answered, watches are told what has been written and that they end, and all others are left,
-    /// within two seconds. An error of the system ends it and all other loops.
+    /// within two seconds, as is a watch whose peer has not taken what it was to be told before. An error of the system ends it and all other loops.
     pub fn run<R: Wait + Clock>(&mut self, rt: &R) -> io::Result<()>
         ensures { HasAsked S.Calls S.Lists S.Begins S.Watches self.old.asker self.new.asker }
     {

@@ -1,5 +1,5 @@
 //! A connection that a loop holds.
-ghost use Rattle.std.specs.Prelude.{◌≡◌, ◌≤◌, ◌+◌};
+ghost use Rattle.std.specs.Prelude.{◌≡◌, ◌≤◌, ◌+◌, true};
 ghost use Rattle.http_event_loop.specs.Asked.{HasAsked};
 
 use crate::asker::Asker;
@@ -95,20 +95,19 @@ impl Held {
         }
     }
 
-    /// Returns the connection to be given to another loop, if it is for one. Else hands it back.
-    pub(crate) fn into_given(self) -> Result<Given, Held> {
-        let mut held = self;
-        match Begun::of_phase(held.take_phase()) {
-            Ok(begun) => Ok(held.begun(begun)),
+    /// Takes how far the connection has come, if it is for another loop.
+    pub(crate) fn take_begun(&mut self) -> Option<Begun> {
+        match Begun::of_phase(self.take_phase()) {
+            Ok(begun) => Some(begun),
             Err(phase) => {
-                held.stand(phase);
-                Err(held)
+                self.stand(phase);
+                None
             }
         }
     }
 
     /// Returns the connection to be given to another loop, as far as it has come.
-    fn begun(self, begun: Begun) -> Given {
+    pub(crate) fn into_given(self, begun: Begun) -> Given {
         Given {
             stream: self.stream,
             begun,
@@ -122,7 +121,9 @@ impl Held {
     }
 
     /// Takes note of where the connection stands.
-    fn stand(&mut self, phase: ConnectionPhase) {
+    fn stand(&mut self, phase: ConnectionPhase)
+        ensures { self.new.phase ≡ phase }
+    {
         self.phase = phase;
     }
 
@@ -239,6 +240,11 @@ impl Held {
         }
     }
 
+    /// Has a watch that is not over looked at until a look shows that it is told all, as at a stop.
+    pub(crate) fn hurry_to_end(&mut self) {
+        self.is_due = self.watched_kind().is_some();
+    }
+
     /// Returns the kind of a watch that is not over.
     pub(crate) fn watched_kind(&self) -> Option<Kind> {
         self.phase.watched_kind()
@@ -253,14 +259,20 @@ impl Held {
     }
 
     /// Leaves the connection as it is.
-    pub(crate) fn leave(&mut self) {
+    pub(crate) fn leave(&mut self)
+        ensures { self.new.phase ≡ ConnectionPhase.Closing Served.Asked }
+    {
         self.stand(ConnectionPhase::Closing(Served::Asked));
     }
 
-    /// Ends the connection as far as that goes without its peer, as at a stop: a watch is written its end, a reply or a list is written on,
-    /// and what is no whole request is left.
-    pub(crate) fn stop<S: Site>(&mut self, alloc: Global, routes: &Routes, now: Instant) {
-        if let Some(watching) = self.take_watching() {
+    /// Ends the connection as far as that goes without its peer, as at a stop: a watch that is told all is written its end, and one that is not
+    /// is left without it, as its peer would take it for whole; a reply or a list is written on, and what is no whole request is left.
+    pub(crate) fn stop<S: Site>(&mut self, alloc: Global, routes: &Routes, now: Instant)
+        ensures { self.old.is_due ≡ true → self.new.phase ≡ ConnectionPhase.Closing Served.Asked }
+    {
+        if self.is_due {
+            self.leave();
+        } else if let Some(watching) = self.take_watching() {
             self.stand(end_watch::<S>(alloc, watching));
             self.turn::<S>(alloc, routes, now);
         } else if !self.phase.is_unwritten() {
@@ -280,8 +292,22 @@ impl Held {
         }
     }
 
+    /// Tries again what was not written, and leaves the connection if it has stood where it does for too long. One that is written on in its
+    /// turn is passed over: to write on all of these at once would keep others waiting, and it is no peer that they wait for.
+    pub(crate) fn leave_late<S: Site>(&mut self, alloc: Global, routes: &Routes, tick: &Tick)
+        ensures { self.old.is_writing_on ≡ true → self.new ≡ self.old }
+    {
+        if self.is_writing_on {
+            return;
+        }
+        self.write_on::<S>(alloc, routes, tick.now);
+        if self.is_late(tick) {
+            self.leave();
+        }
+    }
+
     /// Returns whether the connection has stood here for too long.
-    pub(crate) fn is_late(&self, tick: &Tick) -> bool {
+    fn is_late(&self, tick: &Tick) -> bool {
         let since = if self.phase.is_reading() {
             self.since
         } else {

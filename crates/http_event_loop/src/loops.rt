@@ -1,7 +1,8 @@
 //! What some loops share.
-ghost use Rattle.std.specs.Prelude.{◌≡◌, IfOk, length};
+ghost use Rattle.std.specs.Prelude.{◌≡◌, ◌+◌, IfOk, OnOk, length};
 
 use crate::at_work::AtWork;
+use crate::given::Given;
 use crate::opened::Open;
 use crate::place::LoopPlace;
 use crate::wakes::Wakes;
@@ -10,6 +11,7 @@ use spec_api::kinds::Kind;
 use std::alloc::Global;
 use std::io;
 use std::net::Net;
+use std::sync::Wait;
 use std::sync::atomic::{AtomicU64, Ordering};
 use std::thread::Threads;
 
@@ -25,6 +27,38 @@ pub struct Loops {
     is_stopped: AtomicU64,
 }
 
+/// Opens the place of the loop of this number, and how it is reached.
+fn open_place<R: Net>(
+    rt: &R,
+    alloc: Global,
+    number: usize,
+    wakes: &mut Vec<Wakes>,
+    places: &mut Vec<LoopPlace>,
+) -> io::Result<()>
+    ensures { OnOk result (length places.new.items ≡ length places.old.items + 1) }
+{
+    let poll = Poll::new(rt)?;
+    wakes.push(Wakes::new(alloc, &poll)?)?;
+    places.push(LoopPlace { poll, number })?;
+    Ok(())
+}
+
+/// Opens the places of so many loops, and how each is reached.
+fn open_places<R: Net>(
+    rt: &R,
+    alloc: Global,
+    count: usize,
+    wakes: &mut Vec<Wakes>,
+    places: &mut Vec<LoopPlace>,
+) -> io::Result<()>
+    ensures { OnOk result (length places.new.items ≡ length places.old.items + count) }
+{
+    for number in 0..count {
+        open_place(rt, alloc, number, wakes, places)?;
+    }
+    Ok(())
+}
+
 impl Loops {
     /// Returns what so many loops share, and where each waits. Of those beyond the number of processors some are given nothing.
     pub fn open<R: Net + Threads>(
@@ -34,20 +68,20 @@ impl Loops {
     ) -> io::Result<(Loops, Vec<LoopPlace>)>
         ensures { IfOk result (λ opened. length opened.1.items ≡ count) }
     {
-        let mut wakes = Vec::with_capacity(alloc, count)?;
-        let mut places = Vec::with_capacity(alloc, count)?;
-        for number in 0..count {
-            let poll = Poll::new(rt)?;
-            wakes.push(Wakes::new(alloc, &poll)?)?;
-            places.push(LoopPlace { poll, number })?;
+        let mut wakes = Vec::new(alloc);
+        let mut places = Vec::new(alloc);
+        match open_places(rt, alloc, count, &mut wakes, &mut places) {
+            Ok(()) => {
+                let loops = Loops {
+                    wakes,
+                    at_work: AtWork::of(rt, count),
+                    open: Open::new(),
+                    is_stopped: AtomicU64::new(0),
+                };
+                Ok((loops, places))
+            }
+            Err(error) => Err(error),
         }
-        let loops = Loops {
-            wakes,
-            at_work: AtWork::of(rt, count),
-            open: Open::new(),
-            is_stopped: AtomicU64::new(0),
-        };
-        Ok((loops, places))
     }
 
     /// Tells all loops that an object of this kind was written, by the loop of this number if by one. It waits for nobody. A loop with no
@@ -78,6 +112,21 @@ impl Loops {
         }
     }
 
+    /// Says that the loop of this number accepts connections, before it accepts any.
+    pub(crate) fn say_accepting(&self, number: usize) {
+        if let Some(wakes) = self.wakes.get(number) {
+            wakes.say_accepting();
+        }
+    }
+
+    /// Wakes who accepts connections. That is never missed: who accepts has said so before the first connection was accepted, and so before one
+    /// ended; and a wake that comes before a wait begins ends it at once.
+    fn wake_accepting(&self) {
+        for wakes in &self.wakes {
+            wakes.wake_accepting();
+        }
+    }
+
     /// Returns how many loops there are.
     pub(crate) fn count(&self) -> usize {
         self.wakes.len()
@@ -86,6 +135,20 @@ impl Loops {
     /// Returns how a loop is reached.
     pub(crate) fn wakes(&self, number: usize) -> Option<&Wakes> {
         self.wakes.get(number)
+    }
+
+    /// Gives a connection to the loop of this number, from the one of that, or hands it back where too many wait there.
+    pub(crate) fn give<R: Wait>(
+        &self,
+        rt: &R,
+        number: usize,
+        given: Given,
+        from: usize,
+    ) -> Result<(), Given> {
+        match self.wakes.get(number) {
+            Some(wakes) => wakes.give(rt, given, number == from),
+            None => Err(given),
+        }
     }
 
     /// Returns how many loops, from the first on, are given connections by the one that accepts.
@@ -118,7 +181,7 @@ impl Loops {
     /// be accepted for want of room or of a descriptor, the loop that accepts is woken.
     pub(crate) fn leave(&self) {
         if self.open.leave() {
-            self.wake_all();
+            self.wake_accepting();
         }
         self.stop_if_over();
     }

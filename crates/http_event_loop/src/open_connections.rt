@@ -275,14 +275,12 @@ impl<'a> Connections<'a> {
         }
     }
 
-    /// Tries again what was not written, and leaves the connections that have stood where they do for too long.
+    /// Tries again what was not written, and leaves the connections that have stood where they do for too long, but for those that are written
+    /// on in their turn.
     pub(crate) fn leave_late<S: Site>(&mut self, tick: &Tick) {
         for key in 0..self.held.capacity() {
             if let Some(held) = self.held.get_mut(key) {
-                held.write_on::<S>(self.alloc, self.routes, tick.now);
-                if held.is_late(tick) {
-                    held.leave();
-                }
+                held.leave_late::<S>(self.alloc, self.routes, tick);
             }
             self.settle(key, tick.now);
         }
@@ -310,7 +308,8 @@ impl<'a> Connections<'a> {
         }
     }
 
-    /// Takes the last looks of a watch: all that has been written is to be told.
+    /// Takes the last looks of a watch: all that has been written is to be told. One that is not told all by then stays due: its peer has not taken
+    /// enough of what was to be written, or too much has been written.
     #[tactic(auto, using(crate::proofs::Chains::asks_on, crate::proofs::Chains::asks_nothing))]
     fn look_last<S: Site, L: Ledger>(
         &mut self,
@@ -320,6 +319,9 @@ impl<'a> Connections<'a> {
     )
         ensures { HasAsked S.Calls S.Lists S.Begins S.Watches asker.old asker.new }
     {
+        if let Some(held) = self.held.get_mut(key) {
+            held.hurry_to_end();
+        }
         for _ in 0..MOST_LAST_LOOKS {
             self.look(key, asker, now);
             if !self.is_due(key) {
@@ -329,7 +331,7 @@ impl<'a> Connections<'a> {
     }
 
     /// Ends all connections as far as that goes without their peers: requests that are whole by now are asked, and watches are told what has
-    /// been written.
+    /// been written, and that they end, or are left.
     #[tactic(auto, using(crate::proofs::Chains::asks_on, crate::proofs::Chains::asks_nothing))]
     pub(crate) fn stop<S: Site, L: Ledger>(&mut self, asker: &mut Asker<'_, S, L>, tick: &Tick)
         ensures { HasAsked S.Calls S.Lists S.Begins S.Watches asker.old asker.new }

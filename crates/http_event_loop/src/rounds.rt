@@ -1,4 +1,5 @@
 //! The rounds of a loop.
+ghost use Rattle.std.specs.Prelude.{◌≡◌, true};
 ghost use Rattle.http_event_loop.specs.Asked.{HasAsked};
 
 use crate::accepting::{Accepting, LISTENER};
@@ -32,6 +33,9 @@ const STOP_MILLISECONDS: u64 = 1500;
 /// How long a loop waits for events as it stops.
 const STOP_WAIT: u64 = 50;
 
+/// How many connections are accepted in a round at most: those that the loop holds, its deadlines and a stop wait meanwhile.
+const MOST_ACCEPTED: u64 = 1024;
+
 /// The rounds of a loop: in each it waits for events, and lets connections go on.
 #[derive(Drop)]
 pub(crate) struct Rounds<'a> {
@@ -58,16 +62,15 @@ fn wait(poll: &mut Poll, events: &mut Events, millis: u64) -> io::Result<()> {
 }
 
 impl<'a> Rounds<'a> {
-    /// Returns the rounds of a loop with these connections.
-    pub(crate) fn new<R: Clock>(
-        rt: &R,
+    /// Returns the rounds of a loop with these connections, which begin at this tick.
+    pub(crate) fn new(
         loops: &'a Loops,
         wakes: &'a Wakes,
         number: usize,
         connections: Connections<'a>,
-    ) -> io::Result<Rounds<'a>> {
-        let tick = Tick::now(rt)?;
-        Ok(Rounds {
+        tick: Tick,
+    ) -> Rounds<'a> {
+        Rounds {
             loops,
             wakes,
             number,
@@ -75,7 +78,7 @@ impl<'a> Rounds<'a> {
             tick,
             turned: tick.now,
             swept: tick.now,
-        })
+        }
     }
 
     /// Waits for events, for no longer than this, as all loops may know.
@@ -86,9 +89,11 @@ impl<'a> Rounds<'a> {
         outcome
     }
 
-    /// Returns how many milliseconds the loop may wait for events.
-    fn longest_wait(&self) -> u64 {
-        if self.connections.is_behind() {
+    /// Returns how many milliseconds the loop may wait for events: it waits for none where more connections may wait than it accepted.
+    fn longest_wait(&self, has_more: bool) -> u64
+        ensures { has_more ≡ true → result ≡ 0 }
+    {
+        if has_more || self.connections.is_behind() {
             0
         } else if self.connections.has_watches() {
             TURN_MILLISECONDS
@@ -118,20 +123,16 @@ impl<'a> Rounds<'a> {
     )
         ensures { HasAsked S.Calls S.Lists S.Begins S.Watches asker.old asker.new }
     {
-        let mut given = given;
-        if let Some(wakes) = self.loops.wakes(number) {
-            match wakes.give(rt, given, number == self.number) {
-                Ok(()) => return,
-                Err(back) => given = back,
-            }
+        if let Err(given) = self.loops.give(rt, number, given, self.number) {
+            self.connections
+                .begin(rt, registry, given, asker, &self.tick);
         }
-        self.connections
-            .begin(rt, registry, given, asker, &self.tick);
     }
 
-    /// Accepts all connections that wait and for which there is room, and gives some to this loop, and the others to others.
+    /// Accepts the connections that wait and for which there is room, but no more than are accepted in a round, and gives some to this loop, and
+    /// the others to others. What is left waits for the next round, which begins at once.
     #[tactic(auto, using(crate::proofs::Chains::asks_on, crate::proofs::Chains::asks_nothing))]
-    pub(crate) fn accept_all<S: Site, L: Ledger, R: Wait>(
+    fn accept_waiting<S: Site, L: Ledger, R: Wait>(
         &mut self,
         rt: &R,
         registry: &Registry,
@@ -141,7 +142,7 @@ impl<'a> Rounds<'a> {
         ensures { HasAsked S.Calls S.Lists S.Begins S.Watches asker.old asker.new }
     {
         accepting.begin_round(self.number);
-        for _ in 0..u64::MAX {
+        for _ in 0..MOST_ACCEPTED {
             let Some(stream) = accepting.accept(self.loops) else {
                 break;
             };
@@ -287,8 +288,8 @@ impl<'a> Rounds<'a> {
         ensures { HasAsked S.Calls S.Lists S.Begins S.Watches asker.old asker.new }
     {
         if let Some(accepting) = accepting {
-            if is_called || accepting.is_held_up() {
-                self.accept_all(rt, registry, accepting, asker);
+            if is_called || accepting.is_held_up() || accepting.has_more() {
+                self.accept_waiting(rt, registry, accepting, asker);
             }
         }
     }
@@ -327,7 +328,7 @@ impl<'a> Rounds<'a> {
 
     /// Goes one round. Watches are looked at last, so that they see what was written in it.
     #[tactic(auto, using(crate::proofs::Chains::asks_on, crate::proofs::Chains::asks_nothing))]
-    pub(crate) fn go<S: Site, L: Ledger, R: Wait + Clock>(
+    fn go<S: Site, L: Ledger, R: Wait + Clock>(
         &mut self,
         rt: &R,
         poll: &mut Poll,
@@ -337,7 +338,8 @@ impl<'a> Rounds<'a> {
     ) -> io::Result<()>
         ensures { HasAsked S.Calls S.Lists S.Begins S.Watches asker.old asker.new }
     {
-        self.await_events(poll, events, self.longest_wait())?;
+        let has_more = accepting.as_ref().is_some_and(Accepting::has_more);
+        self.await_events(poll, events, self.longest_wait(has_more))?;
         self.tick = Tick::now(rt)?;
         self.attend(rt, poll.registry(), events, accepting, asker);
         self.tend(asker);
@@ -346,7 +348,7 @@ impl<'a> Rounds<'a> {
 
     /// Ends all connections, as far as their peers let it within a while.
     #[tactic(auto, using(crate::proofs::Chains::asks_on, crate::proofs::Chains::asks_nothing))]
-    pub(crate) fn stop<S: Site, L: Ledger, R: Wait + Clock>(
+    fn stop<S: Site, L: Ledger, R: Wait + Clock>(
         &mut self,
         rt: &R,
         poll: &mut Poll,
@@ -369,5 +371,27 @@ impl<'a> Rounds<'a> {
             self.connections.write_paused::<S>(self.tick.now);
         }
         Ok(())
+    }
+
+    /// Goes round until all loops are to stop, and then ends all connections.
+    #[tactic(auto, using(crate::proofs::Chains::asks_on, crate::proofs::Chains::asks_nothing))]
+    pub(crate) fn run<S: Site, L: Ledger, R: Wait + Clock>(
+        &mut self,
+        rt: &R,
+        poll: &mut Poll,
+        events: &mut Events,
+        accepting: &mut Option<Accepting>,
+        asker: &mut Asker<'_, S, L>,
+    ) -> io::Result<()>
+        ensures { HasAsked S.Calls S.Lists S.Begins S.Watches asker.old asker.new }
+    {
+        for _ in rt.forever() {
+            if self.loops.is_stopped() {
+                break;
+            }
+            self.go(rt, poll, events, accepting, asker)?;
+        }
+        *accepting = None;
+        self.stop(rt, poll, events, asker)
     }
 }

@@ -1,5 +1,5 @@
 //! The turns to answer a connection, which loops share.
-ghost use Rattle.std.specs.Prelude.{◌≡◌, ◌+◌, ◌^◌, ◌<◌, ◌≤◌, IfSome, true, false};
+ghost use Rattle.std.specs.Prelude.{◌≡◌, ◌+◌, ◌^◌, ◌<◌, ◌≤◌, IfNone, IfSome, true, false};
 
 use std::sync::ledger::{Blank, Ledger, Share};
 
@@ -7,7 +7,8 @@ use std::sync::ledger::{Blank, Ledger, Share};
 /// part, so no more are ever taken than there are. The parts exist in proofs alone.
 #[derive(Drop)]
 pub struct Turns<L: Ledger> {
-    left: u64,
+    /// How many are left.
+    pub left: u64,
     parts: Share<L>,
     ghost counted: { parts.parts ≡ left },
     ghost unused: { parts.amount ≡ 0 },
@@ -28,6 +29,7 @@ impl<L: Ledger> Turns<L> {
         requires name { blank.name ≡ L.name }
         requires parts { blank.parts ≡ L.parts }
         requires most { most ≡ L.parts }
+        ensures { result.left ≡ most }
     {
         let (_, parts) = blank.open::<L>();
         Turns { left: most, parts }
@@ -35,7 +37,8 @@ impl<L: Ledger> Turns<L> {
 
     /// Takes no turn.
     pub fn take_none(&mut self) -> TurnsTaken<L>
-        ensures { result.count ≡ 0 }
+        ensures none { result.count ≡ 0 }
+        ensures left { self.new.left ≡ self.old.left }
     {
         TurnsTaken {
             count: 0,
@@ -43,9 +46,11 @@ impl<L: Ledger> Turns<L> {
         }
     }
 
-    /// Takes a turn, if one is left.
+    /// Takes a turn; none only where none is left.
     pub fn take(&mut self) -> Option<TurnsTaken<L>>
-        ensures { IfSome result (λ taken. taken.count ≡ 1) }
+        ensures one { IfSome result (λ taken. taken.count ≡ 1) }
+        ensures left { IfSome result (λ taken. self.new.left + taken.count ≡ self.old.left) }
+        ensures none { IfNone result ((self.old.left ≡ 0) × (self.new.left ≡ 0)) }
     {
         if self.left == 0 {
             return None;

@@ -63,6 +63,7 @@ pub(crate) struct Wakes {
     inbox: ArrayQueue<Given>,
     is_given: AtomicU64,
     is_waiting: AtomicU64,
+    is_accepting: AtomicU64,
     kinds: PerKind<KindWake>,
 }
 
@@ -74,6 +75,7 @@ impl Wakes {
             inbox: ArrayQueue::new(alloc, INBOX)?,
             is_given: AtomicU64::new(0),
             is_waiting: AtomicU64::new(0),
+            is_accepting: AtomicU64::new(0),
             kinds: PerKind::made(|_| KindWake::new()),
         })
     }
@@ -86,6 +88,18 @@ impl Wakes {
     /// Ends the wait of the loop. One that cannot be woken sees at its next tick what it is told.
     pub(crate) fn wake(&self) {
         let _ = self.waker.wake();
+    }
+
+    /// Says that the loop accepts connections.
+    pub(crate) fn say_accepting(&self) {
+        self.is_accepting.store(1, Ordering::SeqCst);
+    }
+
+    /// Ends the wait of the loop if it accepts connections.
+    pub(crate) fn wake_accepting(&self) {
+        if self.is_accepting.load(Ordering::SeqCst) != 0 {
+            self.wake();
+        }
     }
 
     /// Tells that an object of this kind was written. The loop that wrote it needs no waking: it looks before it waits.

@@ -1,5 +1,5 @@
 use Rattle.http_event_loop.specs.Asked.{HasAsked}
-use Rattle.http_event_loop.proofs.rounds.Rounds.accept_all.Given as goal
+use Rattle.http_event_loop.proofs.rounds.Rounds.run.Given as goal
 
 -- so much was asked as was counted
 abbrev pub invariant-loop : goal.invariant-loop
