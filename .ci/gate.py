@@ -36,6 +36,8 @@ RANDOM_HEADS = 5000
 RANDOM_BYTES = 100_000
 RANDOM_SCHEDULES = 200
 RANDOM_TURNS = 100
+# Within what time a controller has to have made what follows from one change: a second where nothing runs beside it.
+SECONDS_FOR_A_CHANGE = "20"
 # What `rt ci` says of a proof, a negative test, a test or a program that is not as it has to be, and the scripts of a case.
 WRONG = re.compile(r"NOT PROVED|NOT REFUSED|NOT TRIED|BAD EDIT|FAILED|not what|ended with status|^fn \S+: (?:not proved|no proof|could not tell)|^error\b")
 # How many of these lines are shown before the tables, and how many at the end; and how many where a script said none.
@@ -180,7 +182,7 @@ def asked_of_program(log):
         "following": ["following/run.py", "--follower", FOLLOWER, "--short"],
         "following, cut at each byte": ["following/cuts.py", "--follower", FOLLOWER, "--short"],
         "following, in scopes": ["following/scopes.py", "--follower", FOLLOWER],
-        "a controller of one's own": ["following/controllers.py", "--controller", CONTROLLER],
+        "a controller of one's own": ["following/controllers.py", "--controller", CONTROLLER, "--within", SECONDS_FOR_A_CHANGE],
         "controllers": ["controllers/run.py", "--short"],
         "arguments": ["arguments.py"],
         "README": ["readme.py"],
