@@ -60,7 +60,8 @@ class Run:
         self.tell(f"$ {' '.join(words)}\n")
         how = {"stdin": subprocess.DEVNULL, "stdout": subprocess.PIPE, "stderr": subprocess.STDOUT, "encoding": "utf-8"}
         try:
-            started = subprocess.Popen(words, cwd=ROOT, errors="replace", start_new_session=True, **how)
+            # (a group, and no session: Linux shares the processors between sessions, whatever is nice within them)
+            started = subprocess.Popen(words, cwd=ROOT, errors="replace", process_group=0, **how)
             stopper = threading.Thread(target=self.stop_in_time, args=[started.pid], daemon=True)
             stopper.start()
             for line in started.stdout:
