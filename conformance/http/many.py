@@ -28,6 +28,7 @@ from programs import AllInOne, Listener
 from waiting import Limit, Wrong, check, until
 
 MAPS = "/api/v1/namespaces/default/configmaps"
+PODS = "/api/v1/namespaces/default/pods"
 GET = f"GET {MAPS}?limit=1 HTTP/1.1\r\nHost: localhost\r\n\r\n".encode()
 WATCH = f"GET {MAPS}?watch=true&resourceVersion=1 HTTP/1.1\r\nHost: localhost\r\n\r\n".encode()
 # What is meant is multiplied by this where other work is done beside.
@@ -89,10 +90,10 @@ def created(port, name, text=""):
     check(came.startswith(b"HTTP/1.1 201 Created\r\n"), f"a create was answered {came[:200]!r}")
 
 
-def opened_watch(port, buffer=None):
-    """Returns a connection over which a watch has begun."""
+def opened_watch(port, buffer=None, path=MAPS):
+    """Returns a connection over which a watch has begun, of the maps if nothing else is said."""
     connection = connected(port, buffer)
-    connection.sendall(WATCH)
+    connection.sendall(WATCH.replace(MAPS.encode(), path.encode()))
     head = b""
     while b"\r\n\r\n" not in head:
         some = connection.recv(4096)
@@ -430,6 +431,29 @@ def ends_with_input(program, asked):
         server.kill()
 
 
+def cut_at_a_stop(program, asked):
+    """A `kcp all` whose input ends, beside a watch whose peer reads nothing of what is to be told: it is cut without its last chunk, as events are left
+    out, and a watch that was told all has its own."""
+    count, event, last = 60, b'"type":"ADDED"', b"0\r\n\r\n"
+    server = AllInOne([program, "all", "--port", "0"])
+    try:
+        told = opened_watch(server.port, path=PODS)
+        for number in range(count):
+            created(server.port, f"map-{number:03}", "x" * 100_000)
+        behind = opened_watch(server.port, 65536)
+        time.sleep(IDLE_SECONDS)
+        server.started.stdin.close()
+        check(read_to_end(told).endswith(last), "a watch that was told all did not get its last chunk")
+        came = read_to_end(behind)
+        check(came.count(event) < count, "a watch whose peer read nothing was told all events")
+        check(not came.endswith(last), f"a watch that was told {came.count(event)} of {count} events got its last chunk")
+        status = server.started.wait(Limit.seconds)
+        check(status == 0, f"kcp all ended with status {status}")
+        return f"cut after {came.count(event)} of {count} events"
+    finally:
+        server.kill()
+
+
 SCENARIOS = {
     "beside-slow-peers": beside_slow_peers,
     "all-at-once": all_at_once,
@@ -449,6 +473,7 @@ SCENARIOS = {
     "out-of-descriptors": out_of_descriptors,
     "ends-after-requests": ends_after_requests,
     "ends-with-input": ends_with_input,
+    "cut-at-a-stop": cut_at_a_stop,
 }
 # These wait for what comes after a long time.
 LONG = {"heads-in-time", "idle-watches-end", "peers-that-never-read"}
