@@ -51,12 +51,15 @@ module _ (a : NamedLft) (R : RattleType) (r : IsSync R) where
   lent_signals : IsSend (as_row (Field.shr_ref_field a Signals.the_row tt))
   lent_signals = search (signals.the_sync, heap.crosses, sendable) depth 20
 
+  shared_loops : IsSend (as_row (Field.shr_ref_field a Loops.the_row tt))
+  shared_loops = search (shared, sendable)
+
   module _ (L : RattleType) (k : Ghosts L.Denot) where
     event_loops : IsSend (as_row (Vec.the_field (EventLoop.the_row a (Seated a R r) L k) Global.the_row ghosts))
     event_loops = as_row_send (Vec.the_field (EventLoop.the_row a (Seated a R r) L k) Global.the_row ghosts) (heap.Vec-send (EventLoop.the_row a (Seated a R r) L k) (seated_loop a R r L k))
 
     answering : IsSend (Answering.the_row a R L k)
-    answering = declared_send (Answering.the_type a R L k) (runtime, (event_loops, tt))
+    answering = declared_send (Answering.the_type a R L k) (runtime, (event_loops, (lent_signals, tt)))
 
     -- what the closure captures that runs them
     pub captured_answering : (name : Sym) → IsSend (TupleAt name (Answering.the_row a R L k ∷ []))
@@ -71,7 +74,7 @@ module _ (a : NamedLft) (R : RattleType) (r : IsSync R) where
     Own = Controllers.the_row a R (OwnServer.the_row b R (Connector.the_row d R) (Reading d R r) TcpStream.the_row)
 
     controllers : IsSend Own
-    controllers = declared_send (Controllers.the_type a R (OwnServer.the_row b R (Connector.the_row d R) (Reading d R r) TcpStream.the_row)) (runtime, (alloc, (apis_of.the_send (OwnServer.the_row b R (Connector.the_row d R) (Reading d R r) TcpStream.the_row) own, (lent_signals, tt))))
+    controllers = declared_send (Controllers.the_type a R (OwnServer.the_row b R (Connector.the_row d R) (Reading d R r) TcpStream.the_row)) (runtime, (alloc, (apis_of.the_send (OwnServer.the_row b R (Connector.the_row d R) (Reading d R r) TcpStream.the_row) own, (lent_signals, (shared_loops, tt)))))
 
     -- what the closure captures that runs them
     pub captured_controllers : (name : Sym) → IsSend (TupleAt name (Controllers.the_row a R (OwnServer.the_row b R (Connector.the_row d R) (Reading d R r) TcpStream.the_row) ∷ []))

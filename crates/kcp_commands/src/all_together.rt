@@ -74,7 +74,8 @@ fn outcome_of(
     relayed.map_err(AllFault::Relay)
 }
 
-/// Runs all threads: the loops that answer connections, the controllers, and this one, which answers the lines.
+/// Runs all threads: the loops that answer connections, the controllers, and this one, which answers the lines. Where the loops or the controllers
+/// end with a fault all are told to stop; this one sees it when it asks for a line.
 fn run_threads<'a, R, L, I, W>(
     own: &OwnDesk<'a, R>,
     answering: Answering<'a, R, L>,
@@ -216,7 +217,8 @@ where
 
 /// Serves requests over HTTP/1.1 on the loopback address, from the empty store on, with the controllers at work there; sends the request of
 /// each line that is read to this server, writes the reply lines, and stops all threads at the end of the lines. Where it listens is written
-/// to `told`.
+/// to `told`. Where the server or the controllers cannot go on, all threads stop: the next line that asks something gets no reply, and is the
+/// last.
 pub fn all<R, I, W, E>(
     rt: &R,
     alloc: Global,

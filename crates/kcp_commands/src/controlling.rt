@@ -1,17 +1,24 @@
 //! `kcp control`: the controllers, which work at a server.
-ghost use Rattle.std.specs.Prelude.{◌<◌, ◌^◌};
+ghost use Rattle.std.specs.Prelude.{◌≡◌, ◌<◌, ◌^◌};
+ghost use Rattle.kcp_commands.specs.Resting.{still_counted};
 
 use crate::made::add;
 use api_client::Remote;
 use kcp_loopback::{LoopbackConnector, OtherServer, Reach};
 use kcp_options::{ControlOptions, MOST_WORKERS};
+use list_and_watch::Pauses;
 use manager::{Apis, Open, Signals};
 use object_keys::PerKind;
 use std::alloc::{AllocError, Global};
 use std::net::{Net, TcpListener, TcpStream};
 use std::sync::Wait;
+use std::thread;
 use std::thread::Threads;
-use std::time::Clock;
+use std::time::{Clock, Duration};
+use tcp_client::WallClock;
+
+/// How many milliseconds a run lasts at least after which those before it count no longer.
+const LONG_RUN_MILLISECONDS: u64 = 60_000;
 
 /// How a server of another process is asked.
 type Asked<'a, R> = OtherServer<'a, R, Remote<LoopbackConnector<'a, R>>>;
@@ -80,7 +87,7 @@ where
 
 /// Runs the controllers at a server that they know nothing of, until all is to stop, and returns whether they are to begin anew then: turns are
 /// left, and the server has ended, or is another one. Of the turns, if a number is given, those are left that were not finished. The error is
-/// running out of memory.
+/// running out of memory, before a turn was begun.
 fn work_anew<R>(
     rt: &R,
     alloc: Global,
@@ -102,13 +109,62 @@ where
         reach,
     };
     reach.begin();
-    work_at(&server, workers)?;
-    *left = signals.turns_left();
-    Ok(!signals.has_finished() && (signals.has_lost() || reach.is_gone()))
+    match work_at(&server, workers) {
+        Ok(()) => {
+            *left = signals.turns_left();
+            Ok(!signals.has_finished() && (signals.has_lost() || reach.is_gone()))
+        }
+        Err(error) => Err(error),
+    }
+}
+
+/// Returns how many of the runs that have ended count still after one that began and ended at these moments, in milliseconds: after one of a
+/// minute or more none.
+fn still_counted(failures: u32, began: u64, ended: u64) -> u32
+    ensures { result ≡ still_counted failures began ended }
+{
+    if ended.saturating_sub(began) < LONG_RUN_MILLISECONDS {
+        failures
+    } else {
+        0
+    }
+}
+
+/// Runs the controllers anew until they are not to begin anew again. Before each run it rests as a follower does after a try that failed
+/// (`Pauses`), but that a run of a minute or more ends the row of failures: so a server that cuts all that it is asked is asked now and then.
+/// Where memory is short for a run it is tried again after a rest. Meanwhile no thread works, so none is there to stop it.
+fn work_again<R>(
+    rt: &R,
+    alloc: Global,
+    port: u16,
+    workers: usize,
+    left: &mut Option<u64>,
+    reach: &Reach,
+    clock: &mut WallClock<'_, R>,
+)
+where
+    R: Net<Listener = TcpListener, Stream = TcpStream> + Eprint + Threads + Wait + Clock + Sync,
+    requires { workers < 2 ^ 16 }
+{
+    let mut pauses = Pauses {
+        failures: 0,
+        last: 0,
+    };
+    let mut began = 0;
+    for _ in rt.forever() {
+        let ended = clock.milliseconds();
+        pauses.failures = still_counted(pauses.failures, began, ended);
+        thread::sleep(rt, Duration::from_millis(pauses.on_failed(ended)));
+        began = clock.milliseconds();
+        if let Ok(false) = work_anew(rt, alloc, port, workers, left, reach) {
+            return;
+        }
+    }
 }
 
 /// Runs the controllers at the server of a port until so many turns are finished, if a number is given. Where the server ends, loses its
-/// memory or is another one, they begin anew: they know nothing then but what the server lists that comes after it.
+/// memory or is another one, they begin anew after a rest of 0.8 to 30 seconds: they know nothing then but what the server lists that comes
+/// after it. The error is running out of memory before they have begun once.
 pub fn control<R>(rt: &R, alloc: Global, options: ControlOptions) -> Result<(), AllocError>
 where
     R: Net<Listener = TcpListener, Stream = TcpStream> + Eprint + Threads + Wait + Clock + Sync,
@@ -120,11 +176,14 @@ where
     } = options;
     let workers = workers.min(MOST_WORKERS);
     let reach = Reach::new();
+    let mut clock = WallClock::new(rt);
     let mut left = turns;
-    for _ in rt.forever() {
-        if !work_anew(rt, alloc, port, workers, &mut left, &reach)? {
-            return Ok(());
+    match work_anew(rt, alloc, port, workers, &mut left, &reach) {
+        Ok(true) => {
+            work_again(rt, alloc, port, workers, &mut left, &reach, &mut clock);
+            Ok(())
         }
+        Ok(false) => Ok(()),
+        Err(error) => Err(error),
     }
-    unreachable!()
 }

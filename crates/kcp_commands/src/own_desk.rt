@@ -141,6 +141,7 @@ impl<'a, R: Net<Listener = TcpListener, Stream = TcpStream> + Eprint + Wait + Cl
             alloc: self.alloc,
             apis,
             signals: self.signals,
+            loops: self.loops,
         })
     }
 
@@ -170,6 +171,7 @@ impl<'a, R: Net<Listener = TcpListener, Stream = TcpStream> + Eprint + Wait + Cl
         Ok(Answering {
             rt: self.rt,
             event_loops: shared.event_loops(passes, places, listening)?,
+            signals: self.signals,
         })
     }
 }

@@ -1,7 +1,7 @@
 -- What the loops of a server have done, by what each of them did.
-use Rattle.std.proofs.Common.{◌≡◌, ◌≤◌, ◌+◌, ℕ, List, [], ◌∷◌, ◌++◌, Option, Some, None, All, length, map, reverse, refl, ap, sym, subst, ◌∙◌, arith}
+use Rattle.std.proofs.Common.{◌≡◌, ◌≤◌, ◌+◌, ℕ, List, [], ◌∷◌, Option, Some, None, All, length, map, refl, ap, sym, subst, ◌∙◌, arith}
 use Rattle.std.specs.List.{range_with_len}
-use Rattle.std.proofs.lemmas.List.{length-map, map-append, reverse-append}
+use Rattle.std.proofs.lemmas.List.{length-map}
 use Rattle.std.proofs.lemmas.List.Elements.{All-head, All-map, All-tail, All-weaker}
 use Rattle.std.proofs.lemmas.Simd.{map-map}
 use Rattle.http_event_loop.specs.Asked.{HasAsked}
@@ -20,21 +20,15 @@ use Rattle.kcp_loopback.specs.Threads.{Begin}
 use Rattle.kcp_loopback.specs.declared.ringing.Ringer.{Ringer}
 use Rattle.kcp_loopback.proofs.Serving.{stays}
 
-module _ {A B : Type 0} (f : A → B) where
-  map_reversed : (xs : List A) → map f (reverse xs) ≡ reverse (map f xs)
-  map_reversed [] = refl
-  map_reversed (x ∷ xs) =
-      ap (map f) (reverse-append (x ∷ []) xs) ∙ map-append f (reverse xs) (x ∷ []) ∙ ap (λ ys. ys ++ f x ∷ []) (map_reversed xs) ∙ sym (reverse-append (f x ∷ []) (map f xs))
-
 -- loops begin, whose seats are made of the passes that a desk opens with
 module _ {R L P K : Type 0} (known : P → K) (knows : EventLoop (Seat Anything Ringer R) L → K) (name : K → ℕ) (same : (e : EventLoop (Seat Anything Ringer R) L) → name_of (seat_of e) ≡ name (knows e))
     (passes : List P) (made : List (EventLoop (Seat Anything Ringer R) L)) (count : ℕ)
-    (so : map knows made ≡ reverse (map known passes)) (names : map (λ p. name (known p)) passes ≡ range_with_len 0 (length passes)) (many : length passes ≡ count) where
-  -- the last of the passes first, with their numbers
-  numbered : map (λ e. name_of (seat_of e)) made ≡ reverse (range_with_len 0 count)
+    (so : map knows made ≡ map known passes) (names : map (λ p. name (known p)) passes ≡ range_with_len 0 (length passes)) (many : length passes ≡ count) where
+  -- in the order of the passes, with their numbers
+  numbered : map (λ e. name_of (seat_of e)) made ≡ range_with_len 0 count
   numbered =
       (λ i. map (λ e. same e i) made)
-      ∙ sym (map-map name knows made) ∙ ap (map name) so ∙ map_reversed name (map known passes) ∙ ap reverse (map-map name known passes ∙ names ∙ ap (range_with_len 0) many)
+      ∙ sym (map-map name knows made) ∙ ap (map name) so ∙ map-map name known passes ∙ names ∙ ap (range_with_len 0) many
 
   pub begun : (d : Desk Anything) (window : ℕ) → window_size d ≡ window → All (IsNewOf d) made → length made ≡ length passes → Begin R window count (map seat_of made)
   begun d window sized new each = (d, sized, length-map made seat_of ∙ each ∙ many, All-map (IsNewSeat d) seat_of made (All-weaker (IsNewOf d) (λ e. IsNewSeat d (seat_of e)) (λ e is. is.0) made new), map-map name_of seat_of made ∙ numbered)

@@ -7,3 +7,4 @@ pub mod Escaped
 pub mod Heard
 pub mod Others
 pub mod Refusals
+pub mod Strife

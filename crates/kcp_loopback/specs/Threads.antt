@@ -1,5 +1,5 @@
 -- What the loops of a server have done.
-use Rattle.std.specs.Prelude.{◌≡◌, ℕ, List, All, Option, length, map, reverse}
+use Rattle.std.specs.Prelude.{◌≡◌, ℕ, List, All, Option, length, map}
 use Rattle.std.specs.List.{range_with_len}
 use Rattle.http_event_loop.specs.Rows.{ServesEach, ServesEachSome}
 use Rattle.desk.specs.Desks.{window_size}
@@ -11,10 +11,10 @@ use Rattle.kcp_loopback.specs.declared.ringing.Ringer.{Ringer}
 
 module _ (R : Type 0) where
   -- a desk opened with windows of this size, and this many loops begin at seats of it: no one has seen or made anything yet, and each has a name
-  -- of its own, the first of them the greatest
+  -- of its own, from 0 on in their order
   abbrev pub Begin : ℕ → ℕ → List (Seat Anything Ringer R) → Type 0
   Begin window count firsts =
-      (d : Desk Anything) × (window_size d ≡ window) × (length firsts ≡ count) × All (IsNewSeat d) firsts × (map name_of firsts ≡ reverse (range_with_len 0 count))
+      (d : Desk Anything) × (window_size d ≡ window) × (length firsts ≡ count) × All (IsNewSeat d) firsts × (map name_of firsts ≡ range_with_len 0 count)
 
   -- loops that began so have answered this many connections over all
   abbrev pub HaveServed : ℕ → ℕ → ℕ → Type 0

@@ -1,5 +1,5 @@
 //! What answers the connections of a server.
-ghost use Rattle.std.specs.Prelude.{◌≡◌, All, IfOk, length, map, reverse};
+ghost use Rattle.std.specs.Prelude.{◌≡◌, All, IfOk, length, map};
 ghost use Rattle.kcp_loopback.specs.Serving.{IsNewOf, seat_of};
 ghost use Rattle.desk.specs.Desks.{IsNewAt, IsPassAt, known};
 ghost use Rattle.desk.specs.Seats.{desk_at, known_at};
@@ -49,8 +49,9 @@ impl<'a, R: Wait, L: Ledger> Shared<'a, R, L> {
         )
     }
 
-    /// Returns loops, one for each pass and place, the first of which accepts connections for all. The error is one of the system, or running
-    /// out of memory.
+    /// Returns loops, one for each pass and place and in their order, the last of which accepts connections for all: `run_row` runs the last of a
+    /// row where it is called, and starts threads for the others from the first on, which are given connections first. So connections are
+    /// accepted where the system makes no thread. The error is one of the system, or running out of memory.
     pub fn event_loops(
         &self,
         passes: Vec<StorePass>,
@@ -61,7 +62,7 @@ impl<'a, R: Wait, L: Ledger> Shared<'a, R, L> {
         requires count { length places.items ≡ length passes.items }
         ensures new { IfOk result (λ made. All (IsNewOf self.now.desk.now) made.items) }
         ensures count { IfOk result (λ made. length made.items ≡ length passes.items) }
-        ensures known { IfOk result (λ made. map (λ e. known_at (seat_of e)) made.items ≡ reverse (map known passes.items)) }
+        ensures known { IfOk result (λ made. map (λ e. known_at (seat_of e)) made.items ≡ map known passes.items) }
     {
         let mut made = Vec::with_capacity(self.alloc, passes.len())?;
         let (mut passes, mut places) = (passes, places);
@@ -72,6 +73,7 @@ impl<'a, R: Wait, L: Ledger> Shared<'a, R, L> {
             };
             made.push(self.event_loop(pass, place, listening.take())?)?;
         }
+        made.reverse();
         Ok(made)
     }
 }

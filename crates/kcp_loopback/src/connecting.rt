@@ -7,7 +7,7 @@ use api_client::Connect;
 use std::alloc::Global;
 use std::io;
 use std::io::{BufReader, ErrorKind};
-use std::net::{Ipv4Addr, Net, TcpStream};
+use std::net::{Ipv4Addr, Net, SocketAddr, SocketAddrV4, TcpStream};
 use std::time::Duration;
 use tcp_client::Patient;
 use tcp_client::patient::PIECE_MILLISECONDS;
@@ -15,6 +15,12 @@ use wakeups::Stop;
 
 /// After how many seconds without a byte a connection is given up.
 const PATIENCE_SECONDS: u32 = 60;
+
+/// How many milliseconds a try to connect takes at most: after each it is looked whether all is to stop.
+const TRY_MILLISECONDS: u64 = 250;
+
+/// How often it is tried: for ten seconds.
+const TRIES: u32 = 40;
 
 /// What reads a connection.
 type Reading<'a, R> = BufReader<Heard<'a, R, Patient<'a, TcpStream>>>;
@@ -49,9 +55,30 @@ impl<'a, R> LoopbackConnector<'a, R> {
 }
 
 impl<'a, R: Net<Stream = TcpStream> + Eprint> LoopbackConnector<'a, R> {
+    /// Returns a stream to the port. Where the system does not make one at once, as where too many wait to be accepted, it is tried for ten seconds,
+    /// or until a stop.
+    fn connect_in_time(&self) -> io::Result<TcpStream> {
+        let address = SocketAddr::V4(SocketAddrV4::new(Ipv4Addr::LOCALHOST, self.port));
+        let time = Duration::from_millis(TRY_MILLISECONDS);
+        for _ in 0..TRIES {
+            if self.stop.is_stopped() {
+                return Err(io::Error::from(ErrorKind::Interrupted));
+            }
+            match TcpStream::connect_timeout(self.rt, &address, time) {
+                Ok(stream) => return Ok(stream),
+                Err(error) => {
+                    if error.kind() != ErrorKind::TimedOut {
+                        return Err(error);
+                    }
+                }
+            }
+        }
+        Err(io::Error::from(ErrorKind::TimedOut))
+    }
+
     /// Returns a stream to the port, and notes whether there is one.
     fn reach(&self) -> io::Result<TcpStream> {
-        let reached = TcpStream::connect(self.rt, (Ipv4Addr::LOCALHOST, self.port));
+        let reached = self.connect_in_time();
         match &reached {
             Ok(_) => self.reach.note_reached(),
             Err(error) => self.note_failed(error),
@@ -59,8 +86,11 @@ impl<'a, R: Net<Stream = TcpStream> + Eprint> LoopbackConnector<'a, R> {
         reached
     }
 
-    /// Notes that there is no stream. Where nobody listens any more the server has ended, and all who ask it stop.
+    /// Notes that there is no stream, unless all is to stop. Where nobody listens any more the server has ended, and all who ask it stop.
     fn note_failed(&self, error: &io::Error) {
+        if self.stop.is_stopped() {
+            return;
+        }
         if error.kind() == ErrorKind::ConnectionRefused && self.reach.note_refused() {
             self.stop.stop();
         }

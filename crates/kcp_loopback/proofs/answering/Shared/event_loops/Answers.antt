@@ -1,10 +1,10 @@
 use Rattle.std.proofs.Common.{◌≡◌, [], ◌∷◌, Some, ◌++◌, All, length, map, reverse, ap, sym, subst, ◌∙◌, arith}
-use Rattle.std.proofs.lemmas.List.{length-append, nil_from_length}
+use Rattle.std.proofs.lemmas.List.{length-append, length-reverse, nil_from_length}
 use Rattle.std.proofs.lemmas.List.Elements.{All-pop, All-push}
 use Rattle.desk.specs.Desks.{IsNewAt, known}
 use Rattle.desk.specs.Seats.{known_at}
 use Rattle.kcp_loopback.specs.Serving.{IsNewOf, seat_of}
-use Rattle.kcp_loopback.proofs.Made.{made_more, made_all, made_count, new_of}
+use Rattle.kcp_loopback.proofs.Made.{all_reversed, made_more, made_all, made_count, made_in_order, new_of}
 use Rattle.kcp_loopback.proofs.answering.Shared.event_loops.Goals as goal
 
 pub loop-pass-preserved : goal.loop-pass-preserved
@@ -25,7 +25,19 @@ loop-pass-preserved g c =
       subst (λ es. map known c.args.passes.items ≡ map known c.pop.new.self.items ++ reverse (map (λ e. known_at (seat_of e)) es)) (sym c.in_ok-push.ensures.items) more,
     )
 
+pub returns-clause-new : goal.returns-clause-new
+returns-clause-new g c =
+    let is_new = IsNewOf c.args.self.now.desk.now in
+    subst (All is_new) (sym c.reverse.ensures.items) (all_reversed is_new c.loop-pass.made.items c.loop-pass.invariant.2)
+
 pub returns-clause-count : goal.returns-clause-count
 returns-clause-count g c =
     let none = nil_from_length c.loop-pass.passes.items (sym c.loop-pass.passes.ok.0 ∙ c.in_default.ensures.cases.0) in
-    made_count known (λ e. known_at (seat_of e)) c.args.passes.items c.loop-pass.made.items (made_all known (λ e. known_at (seat_of e)) c.args.passes.items c.loop-pass.passes.items c.loop-pass.made.items none c.loop-pass.invariant.3)
+    let last_first = made_all known (λ e. known_at (seat_of e)) c.args.passes.items c.loop-pass.passes.items c.loop-pass.made.items none c.loop-pass.invariant.3 in
+    ap length c.reverse.ensures.items ∙ length-reverse c.loop-pass.made.items ∙ made_count known (λ e. known_at (seat_of e)) c.args.passes.items c.loop-pass.made.items last_first
+
+pub returns-clause-known : goal.returns-clause-known
+returns-clause-known g c =
+    let none = nil_from_length c.loop-pass.passes.items (sym c.loop-pass.passes.ok.0 ∙ c.in_default.ensures.cases.0) in
+    let last_first = made_all known (λ e. known_at (seat_of e)) c.args.passes.items c.loop-pass.passes.items c.loop-pass.made.items none c.loop-pass.invariant.3 in
+    ap (map (λ e. known_at (seat_of e))) c.reverse.ensures.items ∙ made_in_order known (λ e. known_at (seat_of e)) c.args.passes.items c.loop-pass.made.items last_first
