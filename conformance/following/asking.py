@@ -2,7 +2,7 @@
 import json
 
 STREAM, LIST, WATCH, LOOK = "stream", "list", "watch", "look"
-REASONS = {400: "Bad Request", 422: "Unprocessable Entity"}
+REASONS = {400: "Bad Request", 403: "Forbidden", 422: "Unprocessable Entity"}
 # What a Kubernetes API server before 1.27 says of it.
 FORBIDDEN = "resourceVersionMatch is forbidden for watch"
 CAUSE = {"reason": "FieldValueForbidden", "message": f"Forbidden: {FORBIDDEN}", "field": "resourceVersionMatch"}

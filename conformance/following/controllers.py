@@ -3,11 +3,12 @@
 
 First single changes: Pods are made, labelled, run and deleted, the ConfigMap of one is deleted by another writer, and one is written by it right
 before the controller's own write, which is so refused as a conflict. A Pod is being deleted, and another writer deletes its ConfigMap, which is then
-not made again. Then so many changes at random, one right after another. What has to be there follows from the Pods: after each single change within so
-many seconds, and after those at random within a minute. The server is then killed, which the controller says, and started anew, empty, on the same port;
-of each kind of which it was said that is then over, and what has to be there follows from the Pods that are made then. The controller's input begins
-with a line that is no text, which does not matter. At the end its input ends, and so does it; at a `kcp all` a Pod is then deleted, and the garbage
-collector removes what it owned. Words that are refused are told at once, while the input stays open.
+not made again. Then so many changes at random, one right after another. What has to be there follows from the Pods: after each single change within
+so many seconds, and after those at random within a minute. Watches are forbidden for a while, which it says once. The server is then killed, which
+the controller says, and started anew, empty, on the same port; of each kind of which it was said that is then over, and what has to be there follows
+from the Pods that are made then. The controller's input begins with a line that is no text, which does not matter. At the end its input ends, and so
+does it; at a `kcp all` a Pod is then deleted, and the garbage collector removes what it owned. Words that are refused are told at once, while the
+input stays open.
 Usage: controllers.py --program PATH [--controller PATH] [--writes N] [--seed N] [--within SECONDS]
 """
 import argparse
@@ -25,6 +26,7 @@ import time
 
 sys.dont_write_bytecode = True
 sys.path[1:1] = [str(pathlib.Path(__file__).resolve().parent.parent / "controllers")]
+from asking import STREAM, WATCH, asked_for, refusal
 from programs import lasting_port
 from run import BUILD_SECONDS, PATIENCE, ROOT, Client
 
@@ -61,6 +63,9 @@ STAYS_SECONDS, ENDS_SECONDS = 1, 1
 # A line of input that is no text.
 NO_TEXT = b"\xff\n"
 AWAY = "the server does not reply"
+FORBIDDEN = "the server answers watches with 403"
+# The kinds that it follows, and how often watches of them are refused in all.
+FOLLOWED, REFUSALS = ["configmaps", "pods"], 6
 HELD = "example.com/held"
 
 
@@ -75,10 +80,12 @@ def place(value):
 
 
 class Relay:
-    """Relays each connection to a port, whoever listens there. Before a write that comes over it, what is armed is done."""
+    """Relays each connection to a port, whoever listens there. Before a write that comes over it, what is armed is done. It forbids watches while
+    it is told to, and then knows no streams of initial events."""
 
     def __init__(self, port):
         self.port, self.armed, self.conflicts = port, None, 0
+        self.forbids, self.forbidden, self.watches = False, 0, []
         self.listener = socket.create_server(("127.0.0.1", 0))
         self.listening = self.listener.getsockname()[1]
         threading.Thread(target=self.accept, daemon=True).start()
@@ -89,6 +96,23 @@ class Relay:
             taken, _ = self.listener.accept()
             threading.Thread(target=self.relay, args=(taken,), daemon=True).start()
 
+    def forbid(self):
+        """Forbids watches from now on, and ends those that are open."""
+        self.forbids = True
+        for taken in self.watches:
+            with contextlib.suppress(OSError):
+                taken.shutdown(socket.SHUT_RDWR)
+
+    def refusal(self, taken, request):
+        """Returns what a request is answered that is forbidden, and keeps the connection of a watch that is not."""
+        if (what := asked_for(request)) not in (WATCH, STREAM):
+            return None
+        if self.forbids:
+            self.forbidden += what == WATCH
+            return refusal(403 if what == WATCH else 400)
+        self.watches.append(taken)
+        return None
+
     def relay(self, taken):
         """Relays one request and its reply. At the end both ends are told, since a socket that is closed while another thread reads it stays open."""
         with contextlib.suppress(OSError), taken:
@@ -96,6 +120,8 @@ class Relay:
             if request.startswith(b"PATCH ") and self.armed:
                 done, self.armed = self.armed, None
                 done()
+            if refused := self.refusal(taken, request):
+                return taken.sendall(refused)
             with socket.create_connection(("127.0.0.1", self.port)) as server:
                 server.sendall(request)
                 threading.Thread(target=self.pump, args=(taken, server), daemon=True).start()
@@ -103,6 +129,7 @@ class Relay:
                     self.answer(server, taken)
                 finally:
                     taken.shutdown(socket.SHUT_RDWR)
+        return None
 
     def pump(self, source, sink):
         """Relays what comes of one end until there is no more, and tells the other end so."""
@@ -283,6 +310,17 @@ class Run:
                 self.pods.set(*place, None if place in self.pods.labels and rolls.random() < 0.2 else rolls.choice(LABELS))
         self.churned = self.reaches(f"after {self.asked.writes} changes")
 
+    def forbid_watches(self):
+        """Has watches refused again and again while lists are given: that is said once, and that it is over only where it is."""
+        self.relay.forbid()
+        self.hears("it does not say that watches are forbidden", lambda: self.said_of(FORBIDDEN) == FOLLOWED)
+        self.hears("it does not ask again", lambda: self.relay.forbidden >= REFUSALS)
+        said = self.said_of(FORBIDDEN) + self.said_of(f"no longer: {FORBIDDEN}")
+        self.check(f"of refused watches it said {said}", said == FOLLOWED)
+        self.relay.forbids = False
+        self.hears("it does not say that watches are allowed", lambda: self.said_of(f"no longer: {FORBIDDEN}") == FOLLOWED)
+        self.reaches_soon("watches are allowed again")
+
     def restart(self):
         """Kills the server and starts an empty one on its port, with other Pods."""
         self.server.kill()
@@ -325,6 +363,7 @@ def ran(asked, name):
         run.single_changes()
         run.being_deleted()
         run.churn(random.Random(asked.seed))
+        run.forbid_watches()
         run.restart()
         run.end()
     except Exception as fault:

@@ -39,6 +39,6 @@ name_named (update_status k d) = k.name
 name_named (patch_object k d) = k.name
 name_named (delete_object k o) = k.name
 
--- 100 bytes at most
+-- 400 bytes at most
 abbrev pub first_shown : List ℕ → List ℕ
-first_shown bytes = take (min (length bytes) 100) bytes
+first_shown bytes = take (min (length bytes) 400) bytes

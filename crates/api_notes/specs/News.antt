@@ -14,48 +14,44 @@ use Rattle.api_notes.specs.declared.trouble.Trouble.TheVariants as trouble
 
 -- a status code in the place of a watch; with that of success comes something that is no watch
 abbrev pub refusal : ℕ → Trouble
-refusal code = if nat_eq code 200 then trouble.NotUnderstood else trouble.Refused code
+refusal code = if nat_eq code 200 then trouble.NotUnderstood else trouble.WatchesRefused code
 
 -- nothing comes of the kind while lists are refused or not answered
 abbrev pub list_news : Answer → News
-list_news (answer.Replied r) = if nat_eq r.code 200 then news.Given else news.Troubled (trouble.Refused r.code)
+list_news (answer.Replied r) = if nat_eq r.code 200 then news.ListGiven else news.Troubled (trouble.ListsRefused r.code)
 list_news answer.NotSent = news.Troubled trouble.NoReply
 list_news answer.Lost = news.Troubled trouble.NoReply
 
 -- nor while it is asked again for the first object, as where that is refused for now: after another refusal a list is asked for, which tells
 abbrev pub first_news : Answer → News
-first_news (answer.Replied r) = if nat_eq r.code 200 || is_refusal r.code then news.Replied else news.Troubled (trouble.Refused r.code)
+first_news (answer.Replied r) = if nat_eq r.code 200 || is_refusal r.code then news.Replied else news.Troubled (trouble.ListsRefused r.code)
 first_news answer.NotSent = news.Troubled trouble.NoReply
 first_news answer.Lost = news.Troubled trouble.NoReply
 
 -- nor while watches are refused or not answered; after one that has expired a list is asked for
 abbrev pub watch_news : Opened → News
-watch_news opened.Open = news.Given
+watch_news opened.Open = news.WatchGiven
 watch_news opened.Expired = news.Replied
 watch_news (opened.Refused code) = news.Troubled (refusal code)
 watch_news opened.Lost = news.Troubled trouble.NoReply
 
 -- nor while streams of initial events are asked for again: only where the server does not know them a list is asked for
 abbrev pub stream_news : Opened → News
-stream_news opened.Open = news.Given
-stream_news opened.Expired = news.Troubled (trouble.Refused 410)
+stream_news opened.Open = news.WatchGiven
+stream_news opened.Expired = news.Troubled (trouble.WatchesRefused 410)
 stream_news (opened.Refused code) = if is_refusal_of_streams code then news.Replied else news.Troubled (refusal code)
 stream_news opened.Lost = news.Troubled trouble.NoReply
 
--- that there is no reply is over by any reply, a refusal by what is given, and that something is not understood by what is
+-- that there is no reply is over by any reply; that lists are refused by what is given; that watches are by a watch, and not by the list before
+-- it; and that something is not understood by what is
 abbrev pub is_over : News → Trouble → Bool
-is_over news.Replied trouble.NoReply = true
-is_over news.Replied (trouble.Refused code) = false
-is_over news.Replied trouble.NotUnderstood = false
-is_over news.Given trouble.NoReply = true
-is_over news.Given (trouble.Refused code) = true
-is_over news.Given trouble.NotUnderstood = false
-is_over news.Understood trouble.NoReply = true
-is_over news.Understood (trouble.Refused code) = false
+is_over (news.Troubled other) t = false
+is_over n trouble.NoReply = true
+is_over news.ListGiven (trouble.ListsRefused code) = true
+is_over news.WatchGiven (trouble.ListsRefused code) = true
+is_over news.WatchGiven (trouble.WatchesRefused code) = true
 is_over news.Understood trouble.NotUnderstood = true
-is_over (news.Troubled other) trouble.NoReply = false
-is_over (news.Troubled other) (trouble.Refused code) = false
-is_over (news.Troubled other) trouble.NotUnderstood = false
+is_over n t = false
 
 -- an object is to be made
 abbrev pub is_create : words.Request → Bool

@@ -18,8 +18,10 @@ const GONE: u16 = 410;
 pub(crate) enum News {
     /// The server replies.
     Replied,
-    /// It replies that what was asked for follows.
-    Given,
+    /// It replies that a list follows.
+    ListGiven,
+    /// It replies that a watch follows.
+    WatchGiven,
     /// What follows was read as such.
     Understood,
     /// This keeps the objects of the kind from coming.
@@ -33,7 +35,7 @@ fn refusal(code: u16) -> Trouble
     if code == OK {
         Trouble::NotUnderstood
     } else {
-        Trouble::Refused(code)
+        Trouble::WatchesRefused(code)
     }
 }
 
@@ -44,9 +46,9 @@ pub(crate) fn list_news(answer: &Answer) -> News
     match answer {
         Answer::Replied(reply) => {
             if reply.code == OK {
-                News::Given
+                News::ListGiven
             } else {
-                News::Troubled(Trouble::Refused(reply.code))
+                News::Troubled(Trouble::ListsRefused(reply.code))
             }
         }
         Answer::NotSent | Answer::Lost => News::Troubled(Trouble::NoReply),
@@ -63,7 +65,7 @@ pub(crate) fn first_news(answer: &Answer) -> News
             if reply.code == OK || is_refusal(reply.code) {
                 News::Replied
             } else {
-                News::Troubled(Trouble::Refused(reply.code))
+                News::Troubled(Trouble::ListsRefused(reply.code))
             }
         }
         Answer::NotSent | Answer::Lost => News::Troubled(Trouble::NoReply),
@@ -75,7 +77,7 @@ pub(crate) fn watch_news(opened: Opened) -> News
     ensures { result ≡ watch_news opened }
 {
     match opened {
-        Opened::Open => News::Given,
+        Opened::Open => News::WatchGiven,
         Opened::Expired => News::Replied,
         Opened::Refused(code) => News::Troubled(refusal(code)),
         Opened::Lost => News::Troubled(Trouble::NoReply),
@@ -88,8 +90,8 @@ pub(crate) fn stream_news(opened: Opened) -> News
     ensures { result ≡ stream_news opened }
 {
     match opened {
-        Opened::Open => News::Given,
-        Opened::Expired => News::Troubled(Trouble::Refused(GONE)),
+        Opened::Open => News::WatchGiven,
+        Opened::Expired => News::Troubled(Trouble::WatchesRefused(GONE)),
         Opened::Refused(code) => {
             if is_refusal_of_streams(code) {
                 News::Replied
@@ -101,23 +103,15 @@ pub(crate) fn stream_news(opened: Opened) -> News
     }
 }
 
-/// Returns whether a trouble is over by such news: that there is no reply by any reply, a refusal by what is given, and not by a first object that is
-/// read meanwhile, and that something is not understood by what is.
+/// Returns whether a trouble is over by such news: that there is no reply by any reply; that lists are refused by what is given, and not by a first
+/// object that is read meanwhile; that watches are by a watch, and not by the list before it; and that something is not understood by what is.
 pub(crate) fn is_over(news: News, trouble: Trouble) -> bool
     ensures { result ≡ is_over news trouble }
 {
     match trouble {
-        Trouble::NoReply => match news {
-            News::Replied | News::Given | News::Understood => true,
-            News::Troubled(_) => false,
-        },
-        Trouble::Refused(_) => match news {
-            News::Given => true,
-            News::Replied | News::Understood | News::Troubled(_) => false,
-        },
-        Trouble::NotUnderstood => match news {
-            News::Understood => true,
-            News::Replied | News::Given | News::Troubled(_) => false,
-        },
+        Trouble::NoReply => !matches!(news, News::Troubled(_)),
+        Trouble::ListsRefused(_) => matches!(news, News::ListGiven | News::WatchGiven),
+        Trouble::WatchesRefused(_) => matches!(news, News::WatchGiven),
+        Trouble::NotUnderstood => matches!(news, News::Understood),
     }
 }

@@ -7,8 +7,9 @@ use crate::trouble::Trouble;
 use request_parts::Request;
 use spec_api::kinds::Kind;
 
-/// How many bytes are shown of a text that a server sent, or that it is to be sent.
-const MOST_SHOWN: usize = 100;
+/// How many bytes are shown of a text that a server sent, or that it is to be sent: a name has 253 at most, and what a Kubernetes API server
+/// refuses says within so many why.
+const MOST_SHOWN: usize = 400;
 
 /// Is told how it goes with a server. Threads tell side by side, and wait while they do.
 pub trait Notes {
@@ -40,7 +41,7 @@ impl Notes for Silent {
 
 /// Writes what it is told on standard error, each time a line behind the name of the program. Of a refused request these are its verb, the kind,
 /// namespace and name of its object, or what a name is to be made of (`generateName`), the status code, and the beginning of the body: of each text
-/// 100 bytes at most, and those that are no printable ASCII by their escapes. What cannot be written is left out.
+/// 400 bytes at most, and those that are no printable ASCII by their escapes. What cannot be written is left out.
 #[derive(Drop)]
 pub struct StandardError<'a, R> {
     rt: &'a R,
