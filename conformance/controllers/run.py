@@ -6,8 +6,8 @@ and releases pods; 20 ReplicaSets are declared at once, undisturbed, while the s
 connections, and no list of pods ever shows a pod too many of a set; each kind of command is lost once on its way, or its reply; a server is
 started anew behind a proxy, and known as another one; what is not understood is told of, and lists that are refused; the controllers end
 after so many turns; workers are woken though the clock stands still; commands are answered 503 for a while, and as conflicts, which is told
-of; live reads of a set are refused; streams of initial events are given, and refused; a stand-in for a Kubernetes API server takes each
-request of a rollout; and watches fall silent. Each scenario begins with nothing.
+of; live reads of a set are refused; a reply and a watch drip; streams of initial events are given, and refused; a stand-in for a Kubernetes
+API server takes each request of a rollout; and watches fall silent. Each scenario begins with nothing.
 
 Nothing has to happen within a certain time but that of `--limit`, which is long. In short, answers and watches are cut, but no requests:
 a controller that cannot know whether a create has arrived waits 300 seconds for the pod.
@@ -26,6 +26,7 @@ sys.dont_write_bytecode = True
 sys.path[:0] = [str(pathlib.Path(__file__).resolve().parent)]
 import adoptions
 import cluster_rollouts
+import dripping
 import hurried
 import losing
 import refusing
@@ -64,6 +65,7 @@ def scenarios(asked):
         "workers-are-woken": lambda: waking.woken(program),
         "refused-for-now": lambda: refusing.refused_for_now(program),
         "reads-refused": lambda: refusing.reads_refused(program),
+        "drops-are-left": lambda: dripping.drops_are_left(program),
         "conflicts-are-told": lambda: refusing.conflicts(program),
         "streams-given": lambda: streaming.streamed(program),
         "streams-refused": lambda: streaming.streams_refused(program, [400, 422]),

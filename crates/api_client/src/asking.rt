@@ -97,7 +97,7 @@ impl<C: Connect + Drop> Remote<C> {
         ensures opened { IsOpened C.Reader.remaining C.Writer.contents text.now result }
         ensures stays { Stays self.old self.new }
     {
-        let (reader, writer) = match self.connector.connect() {
+        let (reader, writer) = match self.connector.connect_to_watch() {
             Ok(ends) => ends,
             Err(_) => return Opened::Lost,
         };

@@ -9,6 +9,12 @@ pub trait Connect {
     /// What is written to a connection.
     type Writer: Write + Drop;
 
-    /// Returns both ends of a new connection.
+    /// Returns both ends of a new connection, for a request and its reply.
     fn connect(&mut self) -> io::Result<(Self::Reader, Self::Writer)>;
+
+    /// Returns both ends of a new connection for a watch, which may last longer than a reply takes: one as for a reply, where an implementer
+    /// makes no other.
+    fn connect_to_watch(&mut self) -> io::Result<(Self::Reader, Self::Writer)> {
+        self.connect()
+    }
 }

@@ -30,6 +30,6 @@ pub use keyed_board::Outcome;
 pub use object_keys::PerKind;
 pub use programs::{run_at, stop_at_end_of_input};
 pub use reconciler::Reconciler;
-pub use running::{Ended, run_at_board, run_workers};
+pub use running::{Ended, OTHER_THREADS, run_at_board, run_workers};
 pub use start_fault::StartFault;
 pub use watches::{Watch, check_watches};

@@ -37,13 +37,19 @@ pub struct Connector<'a, R> {
     connector: StoppableConnect<'a, R, &'a str>,
 }
 
-impl<'a, R: Net<Stream = TcpStream>> Connect for Connector<'a, R> {
-    type Reader = BufReader<Patient<'a, TcpStream>>;
+impl<'a, R: Net<Stream = TcpStream> + Clock> Connect for Connector<'a, R> {
+    type Reader = BufReader<Patient<'a, R, TcpStream>>;
 
     type Writer = TcpStream;
 
-    fn connect(&mut self) -> io::Result<(BufReader<Patient<'a, TcpStream>>, TcpStream)> {
+    fn connect(&mut self) -> io::Result<(BufReader<Patient<'a, R, TcpStream>>, TcpStream)> {
         self.connector.connect()
+    }
+
+    fn connect_to_watch(
+        &mut self,
+    ) -> io::Result<(BufReader<Patient<'a, R, TcpStream>>, TcpStream)> {
+        self.connector.connect_to_watch()
     }
 }
 
@@ -60,7 +66,7 @@ struct Server<'a, R, N> {
     over: &'a Stop,
 }
 
-impl<'a, R: Net<Stream = TcpStream>, N: Notes> Server<'a, R, N> {
+impl<'a, R: Net<Stream = TcpStream> + Clock, N: Notes> Server<'a, R, N> {
     ghost use Rattle.std.specs.Prelude.{◌≡◌, IfOk, IfErr, vec_len};
     ghost use Rattle.request_encoding.specs.Given.{Refuses};
     ghost use Rattle.request_encoding.specs.Seen.{scope_of};

@@ -33,7 +33,7 @@ struct Server<'a, R> {
     reach: &'a Reach,
 }
 
-impl<'a, R: Net<Listener = TcpListener, Stream = TcpStream> + Eprint> Server<'a, R> {
+impl<'a, R: Net<Listener = TcpListener, Stream = TcpStream> + Eprint + Clock> Server<'a, R> {
     ghost use Rattle.std.specs.Prelude.{◌≡◌, IfOk, vec_len};
 
     /// Returns what connects to it.

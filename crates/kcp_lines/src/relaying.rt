@@ -43,7 +43,8 @@ fn ask<C: Connect>(
         media_type: media_type(method),
         body,
     };
-    let Ok((reader, writer)) = connector.connect() else {
+    // A line may ask for a watch.
+    let Ok((reader, writer)) = connector.connect_to_watch() else {
         return Err(RelayFault::NoReply);
     };
     match call(

@@ -8,9 +8,9 @@ use std::alloc::Global;
 use std::io;
 use std::io::{BufReader, ErrorKind};
 use std::net::{Ipv4Addr, Net, SocketAddr, SocketAddrV4, TcpStream};
-use std::time::Duration;
-use tcp_client::Patient;
+use std::time::{Clock, Duration};
 use tcp_client::patient::PIECE_MILLISECONDS;
+use tcp_client::{Patient, TimeLimits};
 use wakeups::Stop;
 
 /// After how many seconds without a byte a connection is given up.
@@ -23,7 +23,7 @@ const TRY_MILLISECONDS: u64 = 250;
 const TRIES: u32 = 40;
 
 /// What reads a connection.
-type Reading<'a, R> = BufReader<Heard<'a, R, Patient<'a, TcpStream>>>;
+type Reading<'a, R> = BufReader<Heard<'a, R, Patient<'a, R, TcpStream>>>;
 
 /// Connects to a server of the loopback address, again for each request, until a stop.
 #[derive(Drop)]
@@ -102,16 +102,6 @@ impl<'a, R: Net<Stream = TcpStream> + Eprint> LoopbackConnector<'a, R> {
         Teller::new(self.rt, self.alloc, self.port, self.reach)
     }
 
-    /// Prepares a stream, and returns what reads it.
-    fn reader_of(&self, writer: &TcpStream) -> io::Result<Reading<'a, R>> {
-        writer.set_nodelay(true)?;
-        writer.set_read_timeout(Some(Duration::from_millis(PIECE_MILLISECONDS)))?;
-        writer.set_write_timeout(Some(Duration::from_secs(u64::from(PATIENCE_SECONDS))))?;
-        let stream = writer.try_clone()?;
-        let patient = Patient::new(stream, self.stop, PATIENCE_SECONDS);
-        BufReader::new(self.alloc, Heard::new(patient, self.teller()))
-    }
-
     /// Looks whether the server is still there, unless all is to stop.
     pub(crate) fn look(&self) {
         if !self.stop.is_stopped() {
@@ -120,17 +110,24 @@ impl<'a, R: Net<Stream = TcpStream> + Eprint> LoopbackConnector<'a, R> {
     }
 }
 
-impl<'a, R: Net<Stream = TcpStream> + Eprint> Connect for LoopbackConnector<'a, R> {
-    type Reader = Reading<'a, R>;
+impl<'a, R: Net<Stream = TcpStream> + Eprint + Clock> LoopbackConnector<'a, R> {
+    /// Prepares a stream, and returns what reads it, for so long.
+    fn reader_of(&self, writer: &TcpStream, time: Duration) -> io::Result<Reading<'a, R>> {
+        writer.set_nodelay(true)?;
+        writer.set_read_timeout(Some(Duration::from_millis(PIECE_MILLISECONDS)))?;
+        writer.set_write_timeout(Some(Duration::from_secs(u64::from(PATIENCE_SECONDS))))?;
+        let stream = writer.try_clone()?;
+        let patient = Patient::new(self.rt, stream, self.stop, PATIENCE_SECONDS, time);
+        BufReader::new(self.alloc, Heard::new(patient, self.teller()))
+    }
 
-    type Writer = TcpStream;
-
-    fn connect(&mut self) -> io::Result<(Reading<'a, R>, TcpStream)> {
+    /// Returns both ends of a new connection, of which nothing is read any more after so long.
+    fn connect_for(&self, time: Duration) -> io::Result<(Reading<'a, R>, TcpStream)> {
         if self.stop.is_stopped() {
             return Err(io::Error::from(ErrorKind::Interrupted));
         }
         let writer = self.reach()?;
-        match self.reader_of(&writer) {
+        match self.reader_of(&writer, time) {
             Ok(reader) => {
                 self.teller().note_ready();
                 Ok((reader, writer))
@@ -140,5 +137,19 @@ impl<'a, R: Net<Stream = TcpStream> + Eprint> Connect for LoopbackConnector<'a, 
                 Err(error)
             }
         }
+    }
+}
+
+impl<'a, R: Net<Stream = TcpStream> + Eprint + Clock> Connect for LoopbackConnector<'a, R> {
+    type Reader = Reading<'a, R>;
+
+    type Writer = TcpStream;
+
+    fn connect(&mut self) -> io::Result<(Reading<'a, R>, TcpStream)> {
+        self.connect_for(TimeLimits::usual().reply)
+    }
+
+    fn connect_to_watch(&mut self) -> io::Result<(Reading<'a, R>, TcpStream)> {
+        self.connect_for(TimeLimits::usual().watch)
     }
 }

@@ -2,3 +2,4 @@
 pub mod Connections
 pub mod Clocks
 pub mod StoppedClocks
+pub mod Patience

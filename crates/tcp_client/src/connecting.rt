@@ -22,7 +22,7 @@ pub(crate) fn go_on(stop: &Stop) -> io::Result<()>
     }
 }
 
-/// Connects to a server over TCP, again for each request. Where a host's name has several addresses, they are tried in turn. How long the look-up
+/// Connects to a server over TCP, again for each request. A peer that sends a byte now and then is not given up: `StoppableConnect` gives it up. Where a host's name has several addresses, they are tried in turn. How long the look-up
 /// of a name takes is up to the system, as it is set up: no time limit ends it.
 #[derive(Drop)]
 pub struct TcpConnect<'a, R, A: Drop> {
@@ -48,6 +48,13 @@ impl<'a, R, A: Drop> TcpConnect<'a, R, A> {
             server,
             limits,
         }
+    }
+
+    /// Returns how long its connections wait.
+    pub(crate) fn limits(&self) -> TimeLimits
+        ensures { result ≡ limits_of self.now }
+    {
+        self.limits
     }
 }
 
