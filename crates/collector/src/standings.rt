@@ -8,8 +8,8 @@ ghost use Rattle.spec_reconcile.specs.Standings.{is_to, waits_for_dependents, st
 
 use meta::finalizers::has_text;
 use meta::{Object, OwnerReference};
-use owner_references::owned_by::is_text;
 use owner_references::references::owner_key;
+use owner_references::texts::is_text;
 use reconcile_types::Read;
 use reconcile_types::hands::live;
 use spec_reconcile::Standing;

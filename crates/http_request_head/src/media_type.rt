@@ -1,7 +1,6 @@
 //! Media types without their parameters, and which one the fields of a head name.
 ghost use Rattle.std.specs.Prelude.{◌≡◌, MatchOption, Some, None, map, reverse, codes, ◌==◌};
 ghost use Rattle.std.specs.List.{before_first};
-ghost use Rattle.std.specs.Str.{str_eq_ignore_ascii_case};
 ghost use Rattle.httparse.specs.Grammar.{is_ows, skip_ows, trim_ows};
 ghost use Rattle.spec_http.specs.Heads.{values_of, without_parameters, first_type};
 ghost use Rattle.http_request_head.specs.Fields.{field_seen};
@@ -65,13 +64,6 @@ fn without_parameters(value: &[u8]) -> &[u8]
     ensures { result.now ≡ without_parameters value.now }
 {
     skip_ows_at_end(skip_ows(before_semicolon(value)))
-}
-
-/// Returns whether a value names this media type, whatever its parameters; case does not count (RFC 9110, Media Type).
-pub fn is_type(value: &[u8], name: &[u8]) -> bool
-    ensures { result ≡ str_eq_ignore_ascii_case (without_parameters value.now) name.now }
-{
-    without_parameters(value).eq_ignore_ascii_case(name)
 }
 
 /// Returns the media type of a body, without parameters, if the fields of its head name one; the first counts

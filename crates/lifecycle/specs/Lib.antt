@@ -1,4 +1,3 @@
 pub mod Fates
 pub mod Finalizers
 pub mod Options
-pub mod Updates

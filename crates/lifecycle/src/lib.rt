@@ -1,4 +1,4 @@
-//! Deletion: what a delete asks for and does, and what an update leaves of an object that is being deleted.
+//! Deletion: what a delete asks for and does, and which update removes an object that is being deleted.
 #![tactic(auto)]
 
 mod fates;
@@ -8,4 +8,4 @@ mod updates;
 
 pub use fates::{DeleteFault, Fate, decide_delete};
 pub use options::DeleteOptions;
-pub use updates::{after_update, is_finalized};
+pub use updates::is_finalized;

@@ -5,7 +5,7 @@ ghost use Rattle.serde_json.specs.View.{view, items_view};
 ghost use Rattle.spec_api.specs.Metadata.{Owner, owner, owners_in};
 ghost use Rattle.spec_client_go.specs.OwnerReferences.{has_controller, is_controlled_by, is_text};
 
-use crate::owned_by::is_text;
+use crate::texts::is_text;
 use meta::Object;
 use object_fields::{text_at, truth_at};
 use serde_json::Value;

@@ -3,5 +3,5 @@
 
 pub mod controlled_by;
 pub mod edits;
-pub mod owned_by;
 pub mod references;
+pub mod texts;

@@ -4,7 +4,7 @@ ghost use Rattle.object_keys.specs.Keys.{key_of};
 ghost use Rattle.meta.specs.Owners.{owner_of};
 ghost use Rattle.spec_client_go.specs.OwnerReferences.{refers_to, kind_referred, key_named, owner_key, namespace_of, owner_keys, controls_as, controllers, controller_keys};
 
-use crate::owned_by::is_text;
+use crate::texts::is_text;
 use meta::{Kind, Object, OwnerReference};
 use object_keys::Key;
 use std::alloc::{AllocError, Global};

@@ -4,13 +4,11 @@
 //! given what comes after that place in the list that it asks for. `server` answers pages by these.
 #![tactic(auto)]
 
-pub mod cuts;
 pub mod pieces;
 pub(crate) mod reading;
 pub mod texts;
 pub mod tokens;
 
-pub use cuts::{Page, page_of};
 pub use pieces::{closing_text, opening_text, push_item};
 pub use texts::page_text;
 pub use tokens::Token;

@@ -10,8 +10,8 @@ ghost use Rattle.spec_client_go.specs.OwedKeys.{deployments_if, deployments_over
 
 use meta::{Kind, Object, OwnerReference};
 use object_keys::Key;
-use owner_references::owned_by::is_text;
 use owner_references::references::{controller_keys, controllers, key_named, namespace_of};
+use owner_references::texts::is_text;
 use reconcile_types::Seen;
 use std::alloc::{AllocError, Global};
 

@@ -10,7 +10,7 @@ ghost use Rattle.plain_informer.specs.Changes.{data_of, seen_first, seen_deleted
 use crate::sets::sets_of;
 use indexer::Shift;
 use meta::{Kind, Object};
-use owner_references::owned_by::is_text;
+use owner_references::texts::is_text;
 use reflector::SharedObject;
 use std::alloc::{AllocError, Global};
 use work_board::{Observation, Owner};

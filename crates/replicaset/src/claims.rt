@@ -11,7 +11,7 @@ use crate::pods::is_active;
 use meta::Object;
 use object_fields::in_spec;
 use owner_references::controlled_by::{controls_with, has_controller, is_controlled_by};
-use owner_references::owned_by::is_text;
+use owner_references::texts::is_text;
 use selector::{Selector, SelectorFault};
 use serde_json::Value;
 use std::alloc::{AllocError, Global};

@@ -6,7 +6,7 @@ ghost use Rattle.spec_reconcile.specs.PodRanks.{node, creation};
 
 use meta::Object;
 use object_fields::{in_spec, in_status, text_at, text_in};
-use owner_references::owned_by::is_text;
+use owner_references::texts::is_text;
 use serde_json::Value;
 
 /// Returns the pod's phase; the empty text where it has none.
