@@ -1,6 +1,9 @@
 //! What a method, a target and a body ask for.
 ghost use Rattle.std.specs.Prelude.{◌≡◌, IfOk, option_map, string_bytes};
-ghost use Rattle.spec_api.specs.Targets.{asked, read_as, selected, asked_with, body_of, delete_options, query_for, read_request};
+ghost use Rattle.std.specs.Result.{result_map_both};
+ghost use Rattle.spec_api.specs.ObjectRequests.{create_object};
+ghost use Rattle.spec_api.specs.Targets as targets;
+ghost use Rattle.spec_api.specs.Targets.{asked, asked_with, asks_with, body_of, collection, delete_options, object_at, query_for, read_as, read_request, selected, status_of};
 ghost use Rattle.object_keys.specs.Faults.{refusal_of};
 ghost use Rattle.object_keys.specs.Keys.{key_of};
 ghost use Rattle.request_parts.specs.Collected.{collection_seen, read_seen};
@@ -73,35 +76,83 @@ pub fn ask(
 ) -> Result<Asked, Fault>
     ensures { Asks (asked method (route_seen target.entry) (query_seen query) body.now) result }
 {
-    match (method, target) {
-        (Method::Get, Target::Collection(kind, namespace)) => {
-            let namespace = owned(alloc, namespace)?;
-            Ok(read_as(kind, namespace, query.collection))
+    match target {
+        Target::Collection(kind, namespace) => {
+            ask_collection(alloc, method, kind, namespace, query, body)
         }
-        (
-            Method::Get,
-            Target::Object(kind, namespace, name) | Target::Status(kind, namespace, name),
-        ) => { Ok(Asked::Request(Request::Get(key(alloc, kind, namespace, name)?))) }
-        (Method::Post, Target::Collection(kind, Some(namespace))) => {
-            let value = read(alloc, body)?;
-            let namespace = String::from_str(alloc, namespace)?;
-            Ok(Asked::Request(Request::Create(kind, namespace, value)))
+        Target::Object(kind, namespace, name) => {
+            ask_object(alloc, method, kind, namespace, name, &query, body)
         }
-        (Method::Put, Target::Object(kind, namespace, name)) => {
-            let value = read(alloc, body)?;
-            Ok(Asked::Request(Request::Update(key(alloc, kind, namespace, name)?, value)))
+        Target::Status(kind, namespace, name) => {
+            ask_status(alloc, method, kind, namespace, name, body)
         }
-        (Method::Put, Target::Status(kind, namespace, name)) => {
-            let value = read(alloc, body)?;
-            Ok(Asked::Request(Request::UpdateStatus(key(alloc, kind, namespace, name)?, value)))
+    }
+}
+
+/// Returns what a method asks of the objects of a kind.
+fn ask_collection(
+    alloc: Global,
+    method: Method,
+    kind: Kind,
+    namespace: Option<&str>,
+    query: Query,
+    body: &[u8],
+) -> Result<Asked, Fault>
+    ensures { Asks (asked method (collection kind (option_map now namespace.entry)) (query_seen query) body.now) result }
+{
+    match method {
+        Method::Get => read_collection(alloc, kind, namespace, query.collection),
+        Method::Post => create(alloc, kind, namespace, body),
+        _ => Err(Fault::MethodNotAllowed),
+    }
+}
+
+/// Returns what a method asks of an object.
+fn ask_object(
+    alloc: Global,
+    method: Method,
+    kind: Kind,
+    namespace: &str,
+    name: &str,
+    query: &Query,
+    body: &[u8],
+) -> Result<Asked, Fault>
+    ensures { Asks (asked method (object_at (record { kind = kind; namespace = namespace.now; name = name.now })) (query_seen query.now) body.now) result }
+{
+    match method {
+        Method::Get => Ok(Asked::Request(Request::Get(key(alloc, kind, namespace, name)?))),
+        Method::Put => {
+            let (key, value) = key_and_data(alloc, kind, namespace, name, body)?;
+            Ok(Asked::Request(Request::Update(key, value)))
         }
-        (Method::Patch, Target::Object(kind, namespace, name)) => {
-            let value = read(alloc, body)?;
-            Ok(Asked::Request(Request::Patch(key(alloc, kind, namespace, name)?, value)))
+        Method::Patch => {
+            let (key, value) = key_and_data(alloc, kind, namespace, name, body)?;
+            Ok(Asked::Request(Request::Patch(key, value)))
         }
-        (Method::Delete, Target::Object(kind, namespace, name)) => {
-            let options = delete_options(alloc, &query, body)?;
+        Method::Delete => {
+            let options = delete_options(alloc, query, body)?;
             Ok(Asked::Request(Request::Delete(key(alloc, kind, namespace, name)?, options)))
+        }
+        Method::Post => Err(Fault::MethodNotAllowed),
+    }
+}
+
+/// Returns what a method asks of the status of an object. Its query counts for nothing.
+fn ask_status(
+    alloc: Global,
+    method: Method,
+    kind: Kind,
+    namespace: &str,
+    name: &str,
+    body: &[u8],
+) -> Result<Asked, Fault>
+    ensures { (query : targets.Query) → Asks (asked method (status_of (record { kind = kind; namespace = namespace.now; name = name.now })) query body.now) result }
+{
+    match method {
+        Method::Get => Ok(Asked::Request(Request::Get(key(alloc, kind, namespace, name)?))),
+        Method::Put => {
+            let (key, value) = key_and_data(alloc, kind, namespace, name, body)?;
+            Ok(Asked::Request(Request::UpdateStatus(key, value)))
         }
         _ => Err(Fault::MethodNotAllowed),
     }
@@ -124,6 +175,38 @@ fn read_as(kind: Kind, namespace: Option<String>, collection: Collection) -> Ask
     }
 }
 
+/// Returns the list of a collection, or a watch of it. The error is running out of memory.
+fn read_collection(
+    alloc: Global,
+    kind: Kind,
+    namespace: Option<&str>,
+    collection: Collection,
+) -> Result<Asked, Fault>
+    ensures { Asks (Ok (read_as (selected kind (option_map now namespace.entry) (collection_seen collection)) (read_seen collection.read))) result }
+{
+    let namespace = owned(alloc, namespace)?;
+    Ok(read_as(kind, namespace, collection))
+}
+
+/// Returns what a POST asks of a collection: an object is created in one namespace, and not in all.
+fn create(alloc: Global, kind: Kind, namespace: Option<&str>, body: &[u8]) -> Result<Asked, Fault>
+    ensures { (query : targets.Query) → Asks (asked Method.Post (collection kind (option_map now namespace.entry)) query body.now) result }
+{
+    match namespace {
+        None => Err(Fault::MethodNotAllowed),
+        Some(namespace) => create_in(alloc, kind, namespace, body),
+    }
+}
+
+/// Returns the create of an object of this body in a namespace.
+fn create_in(alloc: Global, kind: Kind, namespace: &str, body: &[u8]) -> Result<Asked, Fault>
+    ensures { Asks (asks_with (create_object kind namespace.now) (body_of body.now)) result }
+{
+    let value = read(alloc, body)?;
+    let namespace = String::from_str(alloc, namespace)?;
+    Ok(Asked::Request(Request::Create(kind, namespace, value)))
+}
+
 /// Returns the key of an object.
 fn key(alloc: Global, kind: Kind, namespace: &str, name: &str) -> Result<Key, AllocError>
     ensures { IfOk result (λ k. key_of k ≡ record { kind = kind; namespace = namespace.now; name = name.now }) }
@@ -133,6 +216,21 @@ fn key(alloc: Global, kind: Kind, namespace: &str, name: &str) -> Result<Key, Al
         namespace: String::from_str(alloc, namespace)?,
         name: String::from_str(alloc, name)?,
     })
+}
+
+/// Returns the key of an object, and the data of a body that is asked to take its place.
+fn key_and_data(
+    alloc: Global,
+    kind: Kind,
+    namespace: &str,
+    name: &str,
+    body: &[u8],
+) -> Result<(Key, Value), Fault>
+    ensures key { IfOk result (λ n. key_of n.0 ≡ record { kind = kind; namespace = namespace.now; name = name.now }) }
+    ensures data { ReadsData (body_of body.now) (result_map_both (λ n. n.1) (λ fault. fault) result) }
+{
+    let value = read(alloc, body)?;
+    Ok((key(alloc, kind, namespace, name)?, value))
 }
 
 /// Returns a text of one's own, where there is one.
