@@ -4,7 +4,8 @@ ghost use Rattle.serde_json.specs.Data.{string, no_members, member};
 ghost use Rattle.serde_json.specs.View.{view};
 ghost use Rattle.serde_json.specs.Written.{compact_text};
 ghost use Rattle.spec_api.specs.Refusals.{code, told, details, status_body, success_body};
-ghost use Rattle.reply.specs.Bare.{bare_body};
+ghost use Rattle.spec_api.specs.Values.{with_member};
+ghost use Rattle.reply.specs.Bare.{bare_body, coded_body, outcome_body};
 ghost use Rattle.object_keys.specs.Faults.{refusal_of};
 ghost use Rattle.object_keys.specs.Keys.{key_of};
 
@@ -67,6 +68,13 @@ fn about(fault: &Fault) -> Option<&Key>
     }
 }
 
+/// Returns the value with a text at the member `name`, where it is an object.
+fn with_text(alloc: Global, value: Value, name: &str, text: &str) -> Result<Value, AllocError>
+    ensures { IfOk result (λ v. view v ≡ with_member name.now (string text.now) (view value)) }
+{
+    with_member(alloc, value, name, Value::try_from_str(alloc, text)?)
+}
+
 /// Returns the details that name an object.
 fn details(alloc: Global, key: &Key) -> Result<Value, AllocError>
     ensures { IfOk result (λ value. view value ≡ details (key_of key.now) no_members) }
@@ -76,7 +84,7 @@ fn details(alloc: Global, key: &Key) -> Result<Value, AllocError>
     if group.is_empty() {
         return Ok(named);
     }
-    with_member(alloc, named, "group", Value::try_from_str(alloc, group)?)
+    with_text(alloc, named, "group", group)
 }
 
 /// Returns the details that name an object and its uid.
@@ -85,7 +93,27 @@ fn details_with_uid(alloc: Global, key: &Key, uid: &str) -> Result<Value, AllocE
         ≡ details (key_of key.now) (member (codes "uid") (string uid.now) no_members)) }
 {
     let details = details(alloc, key)?;
-    with_member(alloc, details, "uid", Value::try_from_str(alloc, uid)?)
+    with_text(alloc, details, "uid", uid)
+}
+
+/// Returns the body of a Status that says no more than whether it is a `Success` or a `Failure`.
+fn outcome_body(alloc: Global, outcome: &str) -> Result<Value, AllocError>
+    ensures { IfOk result (λ value. view value ≡ outcome_body outcome.now) }
+{
+    json!(in alloc; {
+        "apiVersion": "v1",
+        "kind": "Status",
+        "metadata": {},
+        "status": outcome,
+    })
+}
+
+/// Returns the body of a refusal with this code, without a message, a reason and details.
+fn coded_body(alloc: Global, code: u16) -> Result<Value, AllocError>
+    ensures { IfOk result (λ value. view value ≡ coded_body code) }
+{
+    let body = outcome_body(alloc, "Failure")?;
+    with_member(alloc, body, "code", json!(in alloc; code)?)
 }
 
 /// Returns the body of a refusal, without details.
@@ -93,16 +121,9 @@ fn bare_body(alloc: Global, fault: &Fault) -> Result<Value, AllocError>
     ensures { IfOk result (λ value. view value ≡ bare_body (refusal_of fault.now)) }
 {
     let message = message(alloc, fault)?;
-    let reason = reason(fault);
-    json!(in alloc; {
-        "apiVersion": "v1",
-        "code": code(fault),
-        "kind": "Status",
-        "message": message.as_str(),
-        "metadata": {},
-        "reason": reason,
-        "status": "Failure",
-    })
+    let coded = coded_body(alloc, code(fault))?;
+    let told = with_text(alloc, coded, "message", message.as_str())?;
+    with_text(alloc, told, "reason", reason(fault))
 }
 
 /// Returns the body of a refusal, a Status. The error is running out of memory.
@@ -130,19 +151,19 @@ fn success_body(alloc: Global, removed: Option<(&Key, &str)>) -> Result<Value, A
     ensures { IfOk result (λ value. view value
         ≡ success_body (option_map (λ object. (key_of object.0.now, object.1.now)) removed.entry)) }
 {
-    let status = json!(in alloc; {
-        "apiVersion": "v1",
-        "kind": "Status",
-        "metadata": {},
-        "status": "Success",
-    })?;
     match removed {
-        Some((key, uid)) => {
-            let details = details_with_uid(alloc, key, uid)?;
-            with_member(alloc, status, "details", details)
-        }
-        None => Ok(status),
+        Some((key, uid)) => removal_body(alloc, key, uid),
+        None => outcome_body(alloc, "Success"),
     }
+}
+
+/// Returns the body of a success that answers a removal, with the key and the uid of what was removed.
+fn removal_body(alloc: Global, key: &Key, uid: &str) -> Result<Value, AllocError>
+    ensures { IfOk result (λ value. view value ≡ success_body (Some (key_of key.now, uid.now))) }
+{
+    let status = outcome_body(alloc, "Success")?;
+    let details = details_with_uid(alloc, key, uid)?;
+    with_member(alloc, status, "details", details)
 }
 
 /// Returns the body of a success that answers no object, as compact JSON: of a removal, with the key and the uid of what was
