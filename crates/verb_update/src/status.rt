@@ -47,7 +47,7 @@ pub fn update_status(
         None => Err(Fault::NotFound(key)),
         Some(kept) => {
             let existing = Existing::open(alloc, kept)?;
-            restate_with(alloc, key, object, store.revision(), &existing)
+            restate_with(alloc, key, &object, store.revision(), &existing)
         }
     }
 }
@@ -56,17 +56,17 @@ pub fn update_status(
 fn restate_with(
     alloc: Global,
     key: Key,
-    object: Object,
+    object: &Object,
     before: u64,
     existing: &Existing<'_>,
 ) -> Result<(Reply, Option<Write>), Fault>
     requires { before ≤ greatest_revision }
-    ensures { Serves (replace_status (key_of key) object.value before existing.now.object.value) result }
+    ensures { Serves (replace_status (key_of key) object.now.value before existing.now.object.value) result }
 {
-    match mismatch(&object, &existing.object) {
+    match mismatch(object, &existing.object) {
         Some(why) => Err(Fault::Conflict(key, why)),
         None => {
-            let object = with_said_status(alloc, key.kind, &existing.object, &object)?;
+            let object = with_said_status(alloc, key.kind, &existing.object, object)?;
             restate(alloc, key, existing, object, before)
         }
     }

@@ -9,14 +9,14 @@ use Rattle.verb_update.proofs.status.restate_with.Goals as goal
 pub returns-in-Some : goal.returns-in-Some
 returns-in-Some c =
     let k = key_of c.args.key in
-    let o = c.args.object.value in
+    let o = c.args.object.now.value in
     let existing = c.args.existing.now.object.value in
     inr (if_same-other k o existing (restate k existing (with_status_in k.kind existing o) c.args.before) c.mismatch.result c.in-Some.why c.mismatch.ensures c.in-Some.is)
 
-pub returns : goal.returns
-returns c =
+pub returns-in_ok-object-in-None : goal.returns-in_ok-object-in-None
+returns-in_ok-object-in-None c =
     let k = key_of c.args.key in
-    let o = c.args.object.value in
+    let o = c.args.object.now.value in
     let existing = c.args.existing.now.object.value in
     let same = if_same-same k o existing (restate k existing (with_status_in k.kind existing o) c.args.before) c.mismatch.result c.mismatch.ensures c.in-None.is in
     subst (λ next. Serves next c.restate.result) (sym same)
