@@ -1,5 +1,6 @@
 //! Responses as they are written: a reply at once, a watch up to its end.
-ghost use Rattle.api.specs.Delivering.{Delivers, GoesOn};
+ghost use Rattle.std.specs.Prelude.{◌≡◌};
+ghost use Rattle.api.specs.Delivering.{after_watch, Delivers, GoesOn};
 ghost use Rattle.api.specs.Replying.{Sends};
 ghost use Rattle.api.specs.Responding.{IsMade};
 
@@ -11,6 +12,17 @@ use http_watch::{Cut, LookPace, WatchSource, go_on};
 use std::alloc::Global;
 use std::io::Write;
 
+/// Returns how a connection is left whose watch is left so.
+fn after_watch(followed: Result<(), Cut>) -> Result<(), ServeFault>
+    ensures { result ≡ after_watch followed }
+{
+    match followed {
+        Ok(()) => Ok(()),
+        Err(Cut::Device) => Err(ServeFault::Write),
+        Err(Cut::NoMemory) => Err(ServeFault::NoMemory),
+    }
+}
+
 /// Writes what a watch opened with, and goes on with it up to its end.
 fn deliver_watch<S: WatchSource, P: LookPace, W: Write + Drop>(
     alloc: Global,
@@ -21,20 +33,12 @@ fn deliver_watch<S: WatchSource, P: LookPace, W: Write + Drop>(
 ) -> Result<(), ServeFault>
     ensures { GoesOn S.Watches W.contents site.old site.new writer.old writer.new watch result }
 {
-    let opened = watch.opened;
-    match go_on(
-        alloc,
-        site,
-        &watch.view,
-        watch.bookmarks,
+    let OpenWatch {
+        view,
+        bookmarks,
         opened,
-        pace,
-        writer,
-    ) {
-        Ok(()) => Ok(()),
-        Err(Cut::Device) => Err(ServeFault::Write),
-        Err(Cut::NoMemory) => Err(ServeFault::NoMemory),
-    }
+    } = watch;
+    after_watch(go_on(alloc, site, &view, bookmarks, opened, pace, writer))
 }
 
 /// Writes a response: a reply at once, a watch up to its end. It is no list that is made as it is written, which would lack memory within.
@@ -50,14 +54,8 @@ pub(crate) fn deliver<S: WatchSource, P: LookPace, W: Write + Drop>(
 {
     match response {
         Response::Nothing => Ok(()),
-        Response::Reply(text) => match send_reply(alloc, &text, writer) {
-            Ok(()) => Ok(()),
-            Err(fault) => Err(fault),
-        },
+        Response::Reply(text) => send_reply(alloc, &text, writer),
         Response::List(_) => Err(ServeFault::NoMemory),
-        Response::Watch(watch) => match deliver_watch(alloc, watch, site, pace, writer) {
-            Ok(()) => Ok(()),
-            Err(fault) => Err(fault),
-        },
+        Response::Watch(watch) => deliver_watch(alloc, watch, site, pace, writer),
     }
 }
