@@ -60,6 +60,7 @@ impl<S: Site, L: Ledger> Asker<'_, S, L> {
             → Stands S.Calls S.Lists S.Begins S.Watches result read written }
     {
         if self.asked >= self.taken.count {
+            drop(asked);
             return ConnectionPhase::Closing(Served::NotAsked);
         }
         self.asked += 1;

@@ -5,7 +5,7 @@ use std::thread::{Threads, available_parallelism};
 
 /// How many of some loops, from the first on, are given connections by one that accepts, itself among them: no more than there are processors
 /// but one, since more would only take these from one another.
-#[derive(Debug, Clone, Copy, PartialEq, Eq)]
+#[derive(Clone, Copy)]
 pub(crate) struct AtWork {
     /// How many are given those that ask for what takes long.
     pub long: usize,

@@ -128,7 +128,7 @@ impl Connections<'_> {
         if self.is_registered(registry, key) {
             return Some(key);
         }
-        let _ = self.held.try_remove(key);
+        drop(self.held.try_remove(key));
         None
     }
 

@@ -86,9 +86,14 @@ impl<'a, S: Drop, L: Ledger> EventLoop<'a, S, L> {
 }
 
 impl<S: Site, L: Ledger> EventLoop<'_, S, L> {
-    /// Runs until all loops are to stop.
+    /// Goes its rounds until all loops are to stop.
     #[tactic(auto, using(crate::proofs::Chains::asks_on, crate::proofs::Chains::asks_nothing))]
-    fn run_until_stop<R: Wait + Clock>(&mut self, rt: &R) -> io::Result<()>
+    fn run_rounds<R: Wait + Clock>(
+        &mut self,
+        rt: &R,
+        events: &mut Events,
+        tick: Tick,
+    ) -> io::Result<()>
         ensures { HasAsked S.Calls S.Lists S.Begins S.Watches self.old.asker self.new.asker }
     {
         let EventLoop {
@@ -103,16 +108,24 @@ impl<S: Site, L: Ledger> EventLoop<'_, S, L> {
         let Some(wakes) = loops.wakes(*number) else {
             return Ok(());
         };
-        let tick = Tick::now(rt)?;
-        let mut events = Events::with_capacity(*alloc, EVENTS)?;
-        if accepting.as_ref().is_some_and(Accepting::is_over) {
-            loops.end();
-        }
         let connections = Connections::new(*alloc, routes, loops, wakes);
         let mut rounds = Rounds::new(loops, wakes, *number, connections, tick);
-        let outcome = rounds.run(rt, poll, &mut events, accepting, asker);
+        let outcome = rounds.run(rt, poll, events, accepting, asker);
         drop(rounds);
         outcome
+    }
+
+    /// Runs until all loops are to stop.
+    #[tactic(auto, using(crate::proofs::Chains::asks_on, crate::proofs::Chains::asks_nothing))]
+    fn run_until_stop<R: Wait + Clock>(&mut self, rt: &R) -> io::Result<()>
+        ensures { HasAsked S.Calls S.Lists S.Begins S.Watches self.old.asker self.new.asker }
+    {
+        let tick = Tick::now(rt)?;
+        let mut events = Events::with_capacity(self.alloc, EVENTS)?;
+        if self.accepting.as_ref().is_some_and(Accepting::is_over) {
+            self.loops.end();
+        }
+        self.run_rounds(rt, &mut events, tick)
     }
 
     /// Answers connections until a stop: one that is asked for, or the end of all connections of those that are counted but watches. Then it

@@ -141,7 +141,7 @@ impl<'a> Connections<'a> {
 
     /// Lets go of a connection that is over.
     fn let_go(&mut self, key: usize) {
-        let _ = self.held.try_remove(key);
+        drop(self.held.try_remove(key));
         if let Some(place) = self.paused.iter().position(|paused| *paused == key) {
             let _ = self.paused.remove(place);
         }

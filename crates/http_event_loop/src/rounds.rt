@@ -346,20 +346,22 @@ impl<'a> Rounds<'a> {
         Ok(())
     }
 
-    /// Ends all connections, as far as their peers let it within a while.
+    /// Accepts no more, and ends all connections, as far as their peers let it within a while.
     #[tactic(auto, using(crate::proofs::Chains::asks_on, crate::proofs::Chains::asks_nothing))]
     fn stop<S: Site, L: Ledger, R: Wait + Clock>(
         &mut self,
         rt: &R,
         poll: &mut Poll,
         events: &mut Events,
+        accepting: &mut Option<Accepting>,
         asker: &mut Asker<'_, S, L>,
     ) -> io::Result<()>
         ensures { HasAsked S.Calls S.Lists S.Begins S.Watches asker.old asker.new }
     {
+        drop(accepting.take());
         self.tick = Tick::now(rt)?;
         let began = self.tick.now;
-        self.take_given(rt, poll.registry(), &mut None, asker);
+        self.take_given(rt, poll.registry(), accepting, asker);
         self.connections.stop(asker, &self.tick);
         for _ in 0..u64::MAX {
             if self.connections.is_empty() || self.tick.is_after(began, STOP_MILLISECONDS) {
@@ -391,7 +393,6 @@ impl<'a> Rounds<'a> {
             }
             self.go(rt, poll, events, accepting, asker)?;
         }
-        *accepting = None;
-        self.stop(rt, poll, events, asker)
+        self.stop(rt, poll, events, accepting, asker)
     }
 }
