@@ -118,6 +118,7 @@ impl Connections<'_> {
         if held.is_to_be_held(now) {
             self.inserted(registry, held)
         } else {
+            drop(held);
             None
         }
     }

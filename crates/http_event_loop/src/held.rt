@@ -108,6 +108,7 @@ impl Held {
 
     /// Returns the connection to be given to another loop, as far as it has come.
     pub(crate) fn into_given(self, begun: Begun) -> Given {
+        drop(self.phase);
         Given {
             stream: self.stream,
             begun,
@@ -124,7 +125,7 @@ impl Held {
     fn stand(&mut self, phase: ConnectionPhase)
         ensures { self.new.phase ≡ phase }
     {
-        self.phase = phase;
+        drop(std::mem::replace(&mut self.phase, phase));
     }
 
     /// Takes a request that is whole and not yet asked, if there is one.
