@@ -21,10 +21,10 @@ use Rattle.api_notes.specs.contracts.told.Told as Told
 module _ (a : NamedLft) (R : RattleType) (r : IsSync R) where
   -- what reads a connection
   abbrev Reading : RattleType
-  Reading = BufReader.the_row (Patient.the_row a TcpStream.the_row) Global.the_row ghosts
+  Reading = BufReader.the_row (Patient.the_row a R TcpStream.the_row) Global.the_row ghosts
 
   reading : IsSend Reading
-  reading = buffered.the_send (Patient.the_row a TcpStream.the_row) Global.the_row ghosts (patient.the_send a TcpStream.the_row stream.the_send) heap.send heap.frees
+  reading = buffered.the_send (Patient.the_row a R TcpStream.the_row) Global.the_row ghosts (patient.the_send a R TcpStream.the_row stream.the_send r) heap.send heap.frees
 
   connector : IsSend (Connector.the_row a R)
   connector = connector_of.the_send a R r

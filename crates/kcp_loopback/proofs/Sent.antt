@@ -104,12 +104,12 @@ module _ (a : NamedLft) (R : RattleType) (r : IsSync R) where
 
   -- what reads a connection
   abbrev pub Reading : RattleType
-  Reading = BufReader.the_row (Heard.the_row a R (Patient.the_row a TcpStream.the_row)) Global.the_row ghosts
+  Reading = BufReader.the_row (Heard.the_row a R (Patient.the_row a R TcpStream.the_row)) Global.the_row ghosts
 
   pub reading : IsSend Reading
   reading =
-      buffered.the_send (Heard.the_row a R (Patient.the_row a TcpStream.the_row)) Global.the_row ghosts
-      (heard (Patient.the_row a TcpStream.the_row) (patient.the_send a TcpStream.the_row stream.the_send)) heap.send heap.frees
+      buffered.the_send (Heard.the_row a R (Patient.the_row a R TcpStream.the_row)) Global.the_row ghosts
+      (heard (Patient.the_row a R TcpStream.the_row) (patient.the_send a R TcpStream.the_row stream.the_send r)) heap.send heap.frees
 
   -- what asks over connections
   abbrev pub Asked : RattleType
