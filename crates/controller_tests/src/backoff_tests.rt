@@ -1,4 +1,5 @@
 //! Delays and the moments at which keys come due, from outside.
+use crate::assertions::assert_same;
 use crate::workqueue_tests::work_key;
 use backoff::{Backoff, Delayed};
 use object_keys::WorkKey;
@@ -23,7 +24,7 @@ fn delays(alloc: Global) -> Result<Vec<u64>, AllocError> {
 #[test]
 fn delays_double(rt: HostRuntime) {
     let delays = delays(rt.alloc());
-    assert_eq!(rt; delays.as_deref(), Ok(DELAYS));
+    assert_same(&rt, &delays.as_deref(), &Ok(DELAYS));
 }
 
 const DELAYS: &[u64] = &[
@@ -67,5 +68,5 @@ fn due(alloc: Global) -> Result<String, AllocError> {
 #[test]
 fn keys_come_due_in_order(rt: HostRuntime) {
     let text = due(rt.alloc());
-    assert_eq!(rt; text.as_deref(), Ok(";db api web ;;"));
+    assert_same(&rt, &text.as_deref(), &Ok(";db api web ;;"));
 }

@@ -1,4 +1,5 @@
 //! Texts on a board that fail, and come due again.
+use crate::assertions::assert_same;
 use keyed_board::{KeyedBoard, Outcome};
 use std::alloc::{AllocError, Global};
 
@@ -47,9 +48,10 @@ const FAILED_TWICE: [(Outcome, u64); 3] = [
 #[test]
 fn a_text_that_fails_comes_due_again(rt: HostRuntime) {
     let delays = waits(rt.alloc(), &FAILED_TWICE);
-    assert_eq!(rt;
-        delays.as_deref(),
-        Ok([Some(5), Some(10), Some(4)].as_slice())
+    assert_same(
+        &rt,
+        &delays.as_deref(),
+        &Ok([Some(5), Some(10), Some(4)].as_slice()),
     );
 }
 
@@ -68,9 +70,10 @@ const FAILED_ANEW: [(Outcome, u64); 3] = [
 #[test]
 fn a_success_forgets_failures(rt: HostRuntime) {
     let delays = waits(rt.alloc(), &FAILED_ANEW);
-    assert_eq!(rt;
-        delays.as_deref(),
-        Ok([Some(5), Some(1_000), Some(5)].as_slice())
+    assert_same(
+        &rt,
+        &delays.as_deref(),
+        &Ok([Some(5), Some(1_000), Some(5)].as_slice()),
     );
 }
 
@@ -91,5 +94,5 @@ fn ended(alloc: Global) -> Result<(usize, Option<u64>), AllocError> {
 
 #[test]
 fn a_board_that_is_shut_down_takes_nothing_in(rt: HostRuntime) {
-    assert_eq!(rt; ended(rt.alloc()), Ok((0, None)));
+    assert_same(&rt, &ended(rt.alloc()), &Ok((0, None)));
 }

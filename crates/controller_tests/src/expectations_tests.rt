@@ -1,4 +1,5 @@
 //! Creations and deletions that are waited for.
+use crate::assertions::assert_same;
 use expectations::Table;
 use object_keys::Key;
 use spec_api::kinds::Kind;
@@ -72,10 +73,14 @@ fn ages(alloc: Global, moments: &[u64]) -> Result<Vec<usize>, AllocError> {
 #[test]
 fn who_waits_in_vain_ages_out_once(rt: HostRuntime) {
     let ages = ages(rt.alloc(), &[300_000, 300_001, 600_000]);
-    assert_eq!(rt; ages.as_deref(), Ok([0, 1, 0].as_slice()));
+    assert_same(&rt, &ages.as_deref(), &Ok([0, 1, 0].as_slice()));
 }
 
 #[test]
 fn creations_and_deletions_are_waited_for(rt: HostRuntime) {
-    assert_eq!(rt; waits(rt.alloc()), Ok(([false, true, true], [false, true])));
+    assert_same(
+        &rt,
+        &waits(rt.alloc()),
+        &Ok(([false, true, true], [false, true])),
+    );
 }

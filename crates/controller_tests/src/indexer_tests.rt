@@ -1,4 +1,5 @@
 //! Two Pods that are listed, and what becomes of them.
+use crate::assertions::assert_same;
 use crate::fixtures::{ELSEWHERE, POD, RELEASED, listing, pod, put, remove, tell};
 use indexer::Indexed;
 use reflector::Delta;
@@ -66,7 +67,7 @@ fn followed(alloc: Global) -> Result<String, AllocError> {
 #[test]
 fn a_copy_follows_its_deltas(rt: HostRuntime) {
     let text = followed(rt.alloc());
-    assert_eq!(rt; text.as_deref(), Ok(FOLLOWED));
+    assert_same(&rt, &text.as_deref(), &Ok(FOLLOWED));
 }
 
 const FOLLOWED: &str =
@@ -88,5 +89,5 @@ fn relisted(alloc: Global) -> Result<[usize; 3], AllocError> {
 
 #[test]
 fn a_relist_shifts_what_differs(rt: HostRuntime) {
-    assert_eq!(rt; relisted(rt.alloc()), Ok([1, 1, 1]));
+    assert_same(&rt, &relisted(rt.alloc()), &Ok([1, 1, 1]));
 }

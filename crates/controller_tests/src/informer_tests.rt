@@ -1,4 +1,5 @@
 //! A Pod that is put and removed before it is published, and one that is published.
+use crate::assertions::assert_same;
 use crate::fixtures::{ELSEWHERE, POD, pod, put, remove};
 use plain_informer::PlainInformer;
 use std::alloc::{AllocError, Global};
@@ -31,5 +32,9 @@ fn published(alloc: Global) -> Result<(([u64; 2], [usize; 3]), bool), AllocError
 
 #[test]
 fn deltas_are_published_together(rt: HostRuntime) {
-    assert_eq!(rt; published(rt.alloc()), Ok((([0, 7], [3, 0, 1]), true)));
+    assert_same(
+        &rt,
+        &published(rt.alloc()),
+        &Ok((([0, 7], [3, 0, 1]), true)),
+    );
 }

@@ -1,4 +1,5 @@
 //! Delays of a text that fails.
+use crate::assertions::assert_same;
 use keyed_queues::KeyedBackoff;
 use std::alloc::{AllocError, Global};
 
@@ -17,5 +18,5 @@ fn delays(alloc: Global) -> Result<([u64; 3], [Option<u32>; 2]), AllocError> {
 
 #[test]
 fn delays_double_until_a_success(rt: HostRuntime) {
-    assert_eq!(rt; delays(rt.alloc()), Ok(([5, 10, 5], [Some(2), None])));
+    assert_same(&rt, &delays(rt.alloc()), &Ok(([5, 10, 5], [Some(2), None])));
 }

@@ -1,4 +1,5 @@
 //! The moments at which texts come due.
+use crate::assertions::assert_same;
 use keyed_queues::KeyedDelays;
 use std::alloc::{AllocError, Global};
 
@@ -40,7 +41,7 @@ fn due(alloc: Global) -> Result<String, AllocError> {
 #[test]
 fn texts_come_due_in_order(rt: HostRuntime) {
     let text = due(rt.alloc());
-    assert_eq!(rt; text.as_deref(), Ok(";db api web ;;"));
+    assert_same(&rt, &text.as_deref(), &Ok(";db api web ;;"));
 }
 
 /// Returns how many of the three texts are due at 20, and how many at 50 once those are dropped.
@@ -53,5 +54,5 @@ fn dropped(alloc: Global) -> Result<[usize; 2], AllocError> {
 
 #[test]
 fn texts_are_dropped_when_due(rt: HostRuntime) {
-    assert_eq!(rt; dropped(rt.alloc()), Ok([3, 0]));
+    assert_same(&rt, &dropped(rt.alloc()), &Ok([3, 0]));
 }

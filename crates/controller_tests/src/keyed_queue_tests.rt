@@ -1,4 +1,5 @@
 //! A text that is added while a worker has it, and what is added together.
+use crate::assertions::assert_same;
 use keyed_queues::KeyedQueue;
 use std::alloc::{AllocError, Global};
 
@@ -30,7 +31,7 @@ fn added_twice(alloc: Global) -> Result<(bool, [usize; 2], bool), AllocError> {
 
 #[test]
 fn a_text_waits_for_its_done(rt: HostRuntime) {
-    assert_eq!(rt; added_twice(rt.alloc()), Ok((true, [0, 1], true)));
+    assert_same(&rt, &added_twice(rt.alloc()), &Ok((true, [0, 1], true)));
 }
 
 /// Returns these texts.
@@ -67,5 +68,5 @@ fn added_together(alloc: Global) -> Result<(usize, bool), AllocError> {
 
 #[test]
 fn texts_wait_once_in_their_order(rt: HostRuntime) {
-    assert_eq!(rt; added_together(rt.alloc()), Ok((2, true)));
+    assert_same(&rt, &added_together(rt.alloc()), &Ok((2, true)));
 }

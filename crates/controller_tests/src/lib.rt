@@ -3,6 +3,8 @@
 #![tactic(auto)]
 
 #[cfg(test)]
+mod assertions;
+#[cfg(test)]
 mod backoff_tests;
 #[cfg(test)]
 mod board_tests;

@@ -1,4 +1,5 @@
 //! Each call of an informer that threads look at, once, with ample memory.
+use crate::assertions::assert_same;
 use crate::fixtures::{pod, publish, put_at, remove};
 use informer::{Informer, Lister, SharedInformer};
 use plain_informer::Publishing;
@@ -78,9 +79,10 @@ fn called<R: Wait>(
 
 #[test]
 fn each_call_once(rt: HostRuntime) {
-    assert_eq!(rt;
-        called(&rt, rt.alloc()),
-        Ok(((3, 5, 2), 2, ((5, true), false)))
+    assert_same(
+        &rt,
+        &called(&rt, rt.alloc()),
+        &Ok(((3, 5, 2), 2, ((5, true), false))),
     );
 }
 
@@ -95,9 +97,10 @@ fn looked_and_dropped<R: Wait>(rt: &R, alloc: Global) -> Result<((u64, bool), bo
 
 #[test]
 fn a_shared_informer_closes_as_it_is_dropped(rt: HostRuntime) {
-    assert_eq!(rt;
-        looked_and_dropped(&rt, rt.alloc()),
-        Ok(((0, false), false))
+    assert_same(
+        &rt,
+        &looked_and_dropped(&rt, rt.alloc()),
+        &Ok(((0, false), false)),
     );
 }
 
@@ -121,5 +124,5 @@ fn published<R: Wait>(rt: &R, alloc: Global) -> Result<(usize, u64), AllocError>
 
 #[test]
 fn a_publish_shifts_what_it_publishes(rt: HostRuntime) {
-    assert_eq!(rt; published(&rt, rt.alloc()), Ok((1, 7)));
+    assert_same(&rt, &published(&rt, rt.alloc()), &Ok((1, 7)));
 }

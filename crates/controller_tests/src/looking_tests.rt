@@ -1,4 +1,5 @@
 //! A thread that looks while another publishes.
+use crate::assertions::assert_same;
 use crate::fixtures::{publish, put_at};
 use informer::{Informer, Lister};
 use reflector::Delta;
@@ -139,8 +140,9 @@ fn summed<R: Threads + Wait + Sync>(
 
 #[test]
 fn what_is_seen_never_falls(rt: HostRuntime) {
-    assert_eq!(rt;
-        summed(&rt, rt.alloc()),
-        Ok((true, false, true, [PUBLISHES, PUBLISHES]))
+    assert_same(
+        &rt,
+        &summed(&rt, rt.alloc()),
+        &Ok((true, false, true, [PUBLISHES, PUBLISHES])),
     );
 }

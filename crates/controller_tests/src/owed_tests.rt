@@ -1,4 +1,5 @@
 //! A Pod that is released, where the ReplicaSet `web` of the Deployment `site` is looked at.
+use crate::assertions::assert_same;
 use crate::fixtures::{POD, RELEASED, WEB, shared};
 use indexer::Indexed;
 use object_keys::{PerKind, WorkKey};
@@ -77,7 +78,7 @@ fn owed(alloc: Global) -> Result<String, AllocError> {
 #[test]
 fn a_released_pod_owes_its_old_owner(rt: HostRuntime) {
     let keys = owed(rt.alloc());
-    assert_eq!(rt; keys.as_deref(), Ok(OWED));
+    assert_same(&rt, &keys.as_deref(), &Ok(OWED));
 }
 
 const OWED: &str = "rs ReplicaSet web,deploy Deployment site,gc Pod p,gc ReplicaSet web,";

@@ -1,4 +1,5 @@
 //! A turn of a ReplicaSet.
+use crate::assertions::assert_same;
 use crate::hands::{answers, show};
 use crate::written::told;
 use indexer::Indexed;
@@ -48,5 +49,9 @@ pub(crate) fn told_of(alloc: Global, hand: &mut Hand<Indexed>) -> Result<String,
 #[test]
 fn one_pod_too_many_goes(rt: HostRuntime) {
     let text = answers(rt.alloc(), Controller::ReplicaSet, Kind::ReplicaSet, "web");
-    assert_eq!(rt; text.as_deref(), Ok("ReplicaSet web,delete p3,u-3 none,"));
+    assert_same(
+        &rt,
+        &text.as_deref(),
+        &Ok("ReplicaSet web,delete p3,u-3 none,"),
+    );
 }

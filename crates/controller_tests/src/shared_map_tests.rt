@@ -1,4 +1,5 @@
 //! Maps of numbers: each call once with ample memory, and copies that are left alone.
+use crate::assertions::assert_same;
 use shared_map::SharedMap;
 use std::alloc::{AllocError, Global};
 
@@ -36,7 +37,7 @@ fn found(alloc: Global) -> Result<[usize; 2], AllocError> {
 
 #[test]
 fn what_was_put_is_found_in_order(rt: HostRuntime) {
-    assert_eq!(rt; found(rt.alloc()), Ok([200, 3]));
+    assert_same(&rt, &found(rt.alloc()), &Ok([200, 3]));
 }
 
 /// How many entries a map has, and what is found of 9, of 10 and of 200.
@@ -59,11 +60,12 @@ fn copied(alloc: Global) -> Result<(Seen, Seen), AllocError> {
 
 #[test]
 fn a_copy_is_left_alone(rt: HostRuntime) {
-    assert_eq!(rt;
-        copied(rt.alloc()),
-        Ok((
+    assert_same(
+        &rt,
+        &copied(rt.alloc()),
+        &Ok((
             (199, [None, Some(0), None]),
-            (200, [Some(81), Some(100), None])
-        ))
+            (200, [Some(81), Some(100), None]),
+        )),
     );
 }

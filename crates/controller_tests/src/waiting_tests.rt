@@ -1,6 +1,7 @@
 //! Threads that wait at a board: for a text, or until one comes due.
 ghost use Rattle.shared_keyed_board.specs.Passes.{IsNewAt};
 
+use crate::assertions::assert_same;
 use shared_keyed_board::{BoardPass, SharedKeyedBoard};
 use std::alloc::{AllocError, Global};
 use std::sync::Wait;
@@ -172,25 +173,41 @@ fn woken<R: Threads + Wait + Clock + Sync>(
 
 #[test]
 fn an_add_wakes_who_waits(rt: HostRuntime) {
-    assert_eq!(rt; woken(&rt, rt.alloc(), Cause::Add), Ok((true, true)));
+    assert_same(&rt, &woken(&rt, rt.alloc(), Cause::Add), &Ok((true, true)));
 }
 
 #[test]
 fn a_text_that_comes_due_wakes_who_waits(rt: HostRuntime) {
-    assert_eq!(rt; woken(&rt, rt.alloc(), Cause::ComesDue), Ok((true, true)));
+    assert_same(
+        &rt,
+        &woken(&rt, rt.alloc(), Cause::ComesDue),
+        &Ok((true, true)),
+    );
 }
 
 #[test]
 fn a_text_that_is_given_back_wakes_who_waits(rt: HostRuntime) {
-    assert_eq!(rt; woken(&rt, rt.alloc(), Cause::GivenBack), Ok((true, true)));
+    assert_same(
+        &rt,
+        &woken(&rt, rt.alloc(), Cause::GivenBack),
+        &Ok((true, true)),
+    );
 }
 
 #[test]
 fn a_shut_down_wakes_who_waits(rt: HostRuntime) {
-    assert_eq!(rt; woken(&rt, rt.alloc(), Cause::ShutDown), Ok((false, true)));
+    assert_same(
+        &rt,
+        &woken(&rt, rt.alloc(), Cause::ShutDown),
+        &Ok((false, true)),
+    );
 }
 
 #[test]
 fn a_delay_ends_a_rest(rt: HostRuntime) {
-    assert_eq!(rt; woken(&rt, rt.alloc(), Cause::Delay), Ok((false, true)));
+    assert_same(
+        &rt,
+        &woken(&rt, rt.alloc(), Cause::Delay),
+        &Ok((false, true)),
+    );
 }

@@ -1,4 +1,5 @@
 //! A key that is added while a worker has it.
+use crate::assertions::assert_same;
 use object_keys::WorkKey;
 use spec_api::kinds::Kind;
 use spec_client_go::controller::Controller;
@@ -56,5 +57,5 @@ fn added_twice(alloc: Global) -> Result<Seen, AllocError> {
 
 #[test]
 fn a_key_waits_for_its_done(rt: HostRuntime) {
-    assert_eq!(rt; added_twice(rt.alloc()), Ok((true, [0, 1], true)));
+    assert_same(&rt, &added_twice(rt.alloc()), &Ok((true, [0, 1], true)));
 }
