@@ -1,9 +1,10 @@
 //! Frames that are made, and fed to a decoder.
 ghost use Rattle.std.specs.Prelude.{◌≤◌};
 
+use crate::failures::Failure;
 use crate::sizes::SHORTEST_FRAME;
-use framing::{Decoder, Want};
-use std::alloc::{AllocError, Global};
+use framing::Decoder;
+use std::alloc::Global;
 
 /// What stands in a frame before its padding.
 const HEAD: &str = "{\"object\":{\"apiVersion\":\"v1\",\"data\":{\"k\":\"";
@@ -12,29 +13,8 @@ const HEAD: &str = "{\"object\":{\"apiVersion\":\"v1\",\"data\":{\"k\":\"";
 const TAIL: &str =
     "\"},\"kind\":\"ConfigMap\",\"metadata\":{\"creationTimestamp\":\"2026-01-01T00:00:00Z\",\"name\":\"a\",\"namespace\":\"default\",\"resourceVersion\":\"3\",\"uid\":\"00000000-0000-8000-8000-000000000002\"}},\"type\":\"MODIFIED\"}\n";
 
-/// Why not all frames came out.
-#[derive(Clone, Copy, Debug, PartialEq, Eq)]
-pub enum FeedFault {
-    /// Memory was wanted and refused.
-    Want,
-    /// A line was no frame.
-    Frame,
-}
-
-impl From<Want> for FeedFault {
-    fn from(_want: Want) -> FeedFault {
-        FeedFault::Want
-    }
-}
-
-impl From<AllocError> for FeedFault {
-    fn from(_error: AllocError) -> FeedFault {
-        FeedFault::Want
-    }
-}
-
 /// Returns a frame of this many bytes, its newline counted: a change of a ConfigMap whose data fills it.
-fn frame(alloc: Global, size: usize) -> Result<Vec<u8>, FeedFault>
+fn frame(alloc: Global, size: usize) -> Result<Vec<u8>, Failure>
     requires { SHORTEST_FRAME ≤ size }
 {
     let mut bytes = Vec::with_capacity(alloc, size)?;
@@ -45,7 +25,7 @@ fn frame(alloc: Global, size: usize) -> Result<Vec<u8>, FeedFault>
 }
 
 /// Returns as many frames of one size as go into a number of bytes.
-pub fn input(alloc: Global, size: usize, total: usize) -> Result<Vec<u8>, FeedFault>
+pub fn input(alloc: Global, size: usize, total: usize) -> Result<Vec<u8>, Failure>
     requires { SHORTEST_FRAME ≤ size }
 {
     let frame = frame(alloc, size)?;
@@ -57,7 +37,7 @@ pub fn input(alloc: Global, size: usize, total: usize) -> Result<Vec<u8>, FeedFa
 }
 
 /// Feeds bytes in pieces of one size, and counts the frames that come out.
-pub fn count(alloc: Global, bytes: &[u8], piece: usize) -> Result<u64, FeedFault>
+pub fn count(alloc: Global, bytes: &[u8], piece: usize) -> Result<u64, Failure>
     requires { 1 ≤ piece }
 {
     let mut decoder = Decoder::new(alloc);
@@ -65,7 +45,7 @@ pub fn count(alloc: Global, bytes: &[u8], piece: usize) -> Result<u64, FeedFault
     for piece in bytes.chunks(piece) {
         let decoded = decoder.feed(alloc, piece)?;
         if decoded.fault.is_some() {
-            return Err(FeedFault::Frame);
+            return Err(Failure::Frame);
         }
         count = count.saturating_add(decoded.frames.len() as u64);
     }

@@ -2,8 +2,8 @@
 //! many times: `put` applies a delta that puts a Pod, `copy` copies the copy, `owner` looks up the Pods of a ReplicaSet,
 //! `owed` asks which keys a change of a Pod owes, and `publish` publishes a delta.
 
-use std::process::ExitCode;
-use std::{env, io};
+use crate::failures::Failure;
+use std::alloc::Global;
 
 /// What is measured.
 #[derive(Clone, Copy)]
@@ -28,30 +28,19 @@ fn named(word: &str) -> Option<What> {
 }
 
 /// Returns what the arguments ask for, and how many times.
-fn asked(words: &mut env::Args) -> Option<(What, u32)> {
-    let (Some(what), Some(times), None) = (words.next(), words.next(), words.next()) else {
+fn asked(words: &[String]) -> Option<(What, u32)> {
+    let [what, times] = words else {
         return None;
     };
-    let (Some(what), Ok(times)) = (named(what.as_str()), times.as_str().parse::<u32>()) else {
-        return None;
-    };
-    Some((what, times))
+    let times = times.parse::<u32>().ok()?;
+    Some((named(what.as_str())?, times))
 }
 
-/// Measures what the words ask for, writes what came of it, and returns the status of the program.
-pub fn run(rt: &HostRuntime, words: &mut env::Args) -> io::Result<ExitCode> {
+/// Measures what the words ask for, and returns what came of it, as a text.
+pub fn run(alloc: Global, words: &[String]) -> Result<String, Failure> {
     let Some((what, times)) = asked(words) else {
-        eprintln!(rt; "benchmarks: bad arguments")?;
-        return Ok(ExitCode::from(2));
+        return Err(Failure::Arguments);
     };
-    match crate::informer_rounds::run(rt.alloc(), what, times) {
-        Ok(count) => {
-            println!(rt; "{count}")?;
-            Ok(ExitCode::SUCCESS)
-        }
-        Err(_) => {
-            eprintln!(rt; "benchmarks: no memory")?;
-            Ok(ExitCode::from(1))
-        }
-    }
+    let count = crate::informer_rounds::run(alloc, what, times)?;
+    Ok(format!(in alloc; "{count}")?)
 }

@@ -1,7 +1,6 @@
 //! The Pods and ReplicaSets by which an indexed copy is measured.
-use meta::Object;
+use crate::objects::shared;
 use reflector::SharedObject;
-use serde_json::Value;
 use spec_api::kinds::Kind;
 use std::alloc::{AllocError, Global};
 
@@ -10,17 +9,6 @@ pub const PODS: u32 = 10_000;
 
 /// How many ReplicaSets there are.
 pub const SETS: u32 = 100;
-
-/// Returns the object of a kind that a text says. The text is one that can be read.
-fn object(alloc: Global, kind: Kind, text: &str) -> Result<SharedObject, AllocError> {
-    let Ok(value) = Value::from_str(alloc, text) else {
-        return Err(AllocError);
-    };
-    let Ok(object) = Object::from_value(alloc, kind, value) else {
-        return Err(AllocError);
-    };
-    SharedObject::new(alloc, object)
-}
 
 /// Returns the uid of a ReplicaSet.
 pub fn uid(alloc: Global, number: u32) -> Result<String, AllocError> {
@@ -34,7 +22,7 @@ pub fn pod(alloc: Global, number: u32) -> Result<SharedObject, AllocError> {
     let text = format!(in alloc;
         "{{\"metadata\":{{\"creationTimestamp\":\"2026-01-01T00:00:00Z\",\"labels\":{{\"app\":\"web\"}},\"name\":\"web-{set:03}-{number:06}\",\"namespace\":\"default\",\"ownerReferences\":[{{\"apiVersion\":\"apps/v1\",\"blockOwnerDeletion\":true,\"controller\":true,\"kind\":\"ReplicaSet\",\"name\":\"web-{set:03}\",\"uid\":\"{uid}\"}}],\"resourceVersion\":\"{number}\",\"uid\":\"00000000-0000-8000-8001-{number:012}\"}},\"spec\":{{\"containers\":[{{\"image\":\"registry.example/web:1\",\"name\":\"web\"}}],\"nodeName\":\"node-{set}\"}},\"status\":{{\"conditions\":[{{\"status\":\"True\",\"type\":\"Ready\"}}],\"phase\":\"Running\"}}}}"
     )?;
-    object(alloc, Kind::Pod, text.as_str())
+    shared(alloc, Kind::Pod, text.as_str())
 }
 
 /// Returns a ReplicaSet.
@@ -43,5 +31,5 @@ pub fn set(alloc: Global, number: u32) -> Result<SharedObject, AllocError> {
     let text = format!(in alloc;
         "{{\"metadata\":{{\"name\":\"web-{number:03}\",\"namespace\":\"default\",\"ownerReferences\":[{{\"apiVersion\":\"apps/v1\",\"controller\":true,\"kind\":\"Deployment\",\"name\":\"web\",\"uid\":\"00000000-0000-8000-8002-000000000001\"}}],\"resourceVersion\":\"{number}\",\"uid\":\"{uid}\"}},\"spec\":{{\"selector\":{{\"matchLabels\":{{\"app\":\"web\"}}}}}}}}"
     )?;
-    object(alloc, Kind::ReplicaSet, text.as_str())
+    shared(alloc, Kind::ReplicaSet, text.as_str())
 }

@@ -3,15 +3,13 @@
 //! deltas a second, or as many as it can, and each look reads the revision; with `gets` each gets a Pod. It prints how many shifts
 //! the publishes had, or how many looks and publishes there were a second.
 
+use crate::failures::Failure;
 use crate::lister_looks::Wanted;
 use crate::lister_pods::{PODS, key};
 use std::alloc::{AllocError, Global};
-use std::io::{Eprint, Print};
-use std::process::ExitCode;
 use std::sync::Wait;
 use std::thread::Threads;
 use std::time::Clock;
-use std::{env, io};
 
 /// What is measured.
 #[derive(Clone, Copy)]
@@ -32,14 +30,12 @@ fn named(word: &str) -> Option<Measurement> {
 }
 
 /// Returns what the arguments ask for, and the number.
-fn asked(words: &mut env::Args) -> Option<(Measurement, u32)> {
-    let (Some(what), Some(number), None) = (words.next(), words.next(), words.next()) else {
+fn asked(words: &[String]) -> Option<(Measurement, u32)> {
+    let [what, number] = words else {
         return None;
     };
-    let (Some(what), Ok(number)) = (named(what.as_str()), number.as_str().parse::<u32>()) else {
-        return None;
-    };
-    Some((what, number))
+    let number = number.parse::<u32>().ok()?;
+    Some((named(what.as_str())?, number))
 }
 
 /// Returns how many looks and publishes there were a second, as a text.
@@ -76,23 +72,14 @@ fn measured<R: Threads + Wait + Clock + Sync>(
     }
 }
 
-/// Measures what the words ask for, writes what came of it, and returns the status of the program.
-pub fn run<R>(rt: &R, alloc: Global, words: &mut env::Args) -> io::Result<ExitCode>
-where
-    R: Threads + Wait + Clock + Sync + Print + Eprint,
-{
+/// Measures what the words ask for, and returns what came of it, as a text.
+pub fn run<R: Threads + Wait + Clock + Sync>(
+    rt: &R,
+    alloc: Global,
+    words: &[String],
+) -> Result<String, Failure> {
     let Some((what, number)) = asked(words) else {
-        eprintln!(rt; "benchmarks: bad arguments")?;
-        return Ok(ExitCode::from(2));
+        return Err(Failure::Arguments);
     };
-    match measured(rt, alloc, what, number) {
-        Ok(text) => {
-            println!(rt; "{text}")?;
-            Ok(ExitCode::SUCCESS)
-        }
-        Err(_) => {
-            eprintln!(rt; "benchmarks: no memory")?;
-            Ok(ExitCode::from(1))
-        }
-    }
+    Ok(measured(rt, alloc, what, number)?)
 }

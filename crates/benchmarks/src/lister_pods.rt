@@ -1,9 +1,8 @@
 //! The Pods by which an informer is measured whose map is read without waiting.
+use crate::objects::shared;
 use informer::Informer;
-use meta::Object;
 use object_keys::Key;
 use reflector::{Delta, SharedObject};
-use serde_json::Value;
 use spec_api::kinds::Kind;
 use std::alloc::{AllocError, Global};
 use std::sync::Wait;
@@ -13,17 +12,6 @@ pub const PODS: u32 = 10_000;
 
 /// How many ReplicaSets control them.
 const SETS: u32 = 100;
-
-/// Returns the Pod that a text says. The text is one that can be read.
-fn object(alloc: Global, text: &str) -> Result<SharedObject, AllocError> {
-    let Ok(value) = Value::from_str(alloc, text) else {
-        return Err(AllocError);
-    };
-    let Ok(object) = Object::from_value(alloc, Kind::Pod, value) else {
-        return Err(AllocError);
-    };
-    SharedObject::new(alloc, object)
-}
 
 /// Returns the name of a Pod.
 fn name(alloc: Global, number: u32) -> Result<String, AllocError> {
@@ -46,7 +34,7 @@ fn pod(alloc: Global, number: u32) -> Result<SharedObject, AllocError> {
     let text = format!(in alloc;
         "{{\"metadata\":{{\"creationTimestamp\":\"2026-01-01T00:00:00Z\",\"labels\":{{\"app\":\"web\"}},\"name\":\"{name}\",\"namespace\":\"default\",\"ownerReferences\":[{{\"apiVersion\":\"apps/v1\",\"blockOwnerDeletion\":true,\"controller\":true,\"kind\":\"ReplicaSet\",\"name\":\"web-{set:03}\",\"uid\":\"00000000-0000-8000-8000-{set:012}\"}}],\"resourceVersion\":\"{revision}\",\"uid\":\"00000000-0000-8000-8001-{number:012}\"}},\"spec\":{{\"containers\":[{{\"image\":\"registry.example/web:1\",\"name\":\"web\"}}],\"nodeName\":\"node-{set}\"}},\"status\":{{\"conditions\":[{{\"status\":\"True\",\"type\":\"Ready\"}}],\"phase\":\"Running\"}}}}"
     )?;
-    object(alloc, text.as_str())
+    shared(alloc, Kind::Pod, text.as_str())
 }
 
 /// Returns the Pods.

@@ -4,14 +4,12 @@
 //! pods, or leaves them, and for the Deployment `rollout`, where its new set grows, and `history`, where sets that nobody needs
 //! are deleted.
 
+use crate::failures::Failure;
 use crate::plan_deployments::rollout_hand;
 use crate::plan_hands::hand;
 use indexer::Indexed;
-use object_keys::Fault;
 use reconcile_types::{Hand, Plan};
 use std::alloc::{AllocError, Global};
-use std::process::ExitCode;
-use std::{env, io};
 
 /// What is planned.
 #[derive(Clone, Copy)]
@@ -46,23 +44,23 @@ fn way_named(name: &str) -> Option<Way> {
 }
 
 /// Returns what the arguments ask for.
-fn asked(words: &mut env::Args) -> Option<Task> {
-    let (Some(way), Some(count), Some(plans), None) = (
-        words.next(),
-        words.next(),
-        words.next(),
-        words.next(),
-    ) else {
+fn asked(words: &[String]) -> Option<Task> {
+    let [way, count, plans] = words else {
         return None;
     };
-    let (Some(way), Ok(count), Ok(plans)) = (
-        way_named(way.as_str()),
-        count.as_str().parse::<u32>(),
-        plans.as_str().parse::<u32>(),
-    ) else {
-        return None;
-    };
-    Some(Task { way, count, plans })
+    Some(Task {
+        way: way_named(way.as_str())?,
+        count: count.parse::<u32>().ok()?,
+        plans: plans.parse::<u32>().ok()?,
+    })
+}
+
+/// Returns what a worker has in its hand.
+fn hand_of(alloc: Global, way: Way, count: u32) -> Result<Hand<Indexed>, AllocError> {
+    match way {
+        Way::Rollout | Way::History => rollout_hand(alloc, way, count),
+        _ => hand(alloc, way, count),
+    }
 }
 
 /// Returns the plan of a hand.
@@ -75,11 +73,8 @@ fn plan(alloc: Global, way: Way, hand: &Hand<Indexed>) -> Result<Plan, AllocErro
 }
 
 /// Plans so often, and returns how many commands there were in all.
-fn commands(alloc: Global, task: Task) -> Result<u64, Fault> {
-    let hand = match task.way {
-        Way::Rollout | Way::History => rollout_hand(alloc, task.way, task.count)?,
-        _ => hand(alloc, task.way, task.count)?,
-    };
+fn commands(alloc: Global, task: Task) -> Result<u64, AllocError> {
+    let hand = hand_of(alloc, task.way, task.count)?;
     let mut commands = 0u64;
     for _ in 0..task.plans {
         let plan = plan(alloc, task.way, &hand)?;
@@ -88,20 +83,11 @@ fn commands(alloc: Global, task: Task) -> Result<u64, Fault> {
     Ok(commands)
 }
 
-/// Measures what the words ask for, writes what came of it, and returns the status of the program.
-pub fn run(rt: &HostRuntime, words: &mut env::Args) -> io::Result<ExitCode> {
+/// Measures what the words ask for, and returns what came of it, as a text.
+pub fn run(alloc: Global, words: &[String]) -> Result<String, Failure> {
     let Some(task) = asked(words) else {
-        eprintln!(rt; "benchmarks: bad arguments")?;
-        return Ok(ExitCode::from(2));
+        return Err(Failure::Arguments);
     };
-    match commands(rt.alloc(), task) {
-        Ok(count) => {
-            println!(rt; "{} plans, {count} commands", task.plans)?;
-            Ok(ExitCode::SUCCESS)
-        }
-        Err(fault) => {
-            eprintln!(rt; "benchmarks: {fault:?}")?;
-            Ok(ExitCode::from(1))
-        }
-    }
+    let count = commands(alloc, task)?;
+    Ok(format!(in alloc; "{} plans, {count} commands", task.plans)?)
 }

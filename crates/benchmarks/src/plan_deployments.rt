@@ -1,8 +1,8 @@
 //! What is planned of: a Deployment, and its sets.
+use crate::objects::shared;
 use crate::plan_bench::Way;
-use crate::plan_hands::{look, object};
+use crate::plan_hands::{alone, empty_hand, key, show};
 use indexer::Indexed;
-use object_keys::{Fault, Key, PerKind};
 use reconcile_types::Hand;
 use reflector::SharedObject;
 use spec_api::kinds::Kind;
@@ -42,35 +42,28 @@ fn set(alloc: Global, way: Way, number: u32, last: u32) -> Result<String, AllocE
 }
 
 /// Returns the sets.
-fn sets(alloc: Global, way: Way, count: u32) -> Result<Vec<SharedObject>, Fault> {
+fn sets(alloc: Global, way: Way, count: u32) -> Result<Vec<SharedObject>, AllocError> {
     let mut sets = Vec::new(alloc);
     for number in 0..count {
         let text = set(alloc, way, number, count - 1)?;
-        let set = object(alloc, Kind::ReplicaSet, text.as_str())?;
-        sets.push(SharedObject::new(alloc, set)?)?;
+        sets.push(shared(alloc, Kind::ReplicaSet, text.as_str())?)?;
     }
     Ok(sets)
 }
 
-/// Returns what a worker has in its hand: looks at the Deployment and so many sets.
-pub fn rollout_hand(alloc: Global, way: Way, count: u32) -> Result<Hand<Indexed>, Fault> {
+/// Has a hand look at the Deployment and so many sets.
+fn fill(alloc: Global, hand: &mut Hand<Indexed>, way: Way, count: u32) -> Result<(), AllocError> {
     let text = deployment(alloc, count.saturating_sub(1))?;
-    let mut deployments = Vec::new(alloc);
-    let deployment = object(alloc, Kind::Deployment, text.as_str())?;
-    deployments.push(SharedObject::new(alloc, deployment)?)?;
-    Ok(Hand {
-        key: Key {
-            kind: Kind::Deployment,
-            namespace: String::from_str(alloc, "default")?,
-            name: String::from_str(alloc, "web")?,
-        },
-        looks: PerKind {
-            config_maps: Some(look(alloc, Vec::new(alloc))?),
-            pods: Some(look(alloc, Vec::new(alloc))?),
-            replica_sets: Some(look(alloc, sets(alloc, way, count)?)?),
-            deployments: Some(look(alloc, deployments)?),
-        },
-        is_satisfied: true,
-        reads: Vec::new(alloc),
-    })
+    show(
+        &mut hand.looks.deployments,
+        alone(alloc, Kind::Deployment, text.as_str())?,
+    )?;
+    show(&mut hand.looks.replica_sets, sets(alloc, way, count)?)
+}
+
+/// Returns what a worker has in its hand: looks at the Deployment and so many sets.
+pub fn rollout_hand(alloc: Global, way: Way, count: u32) -> Result<Hand<Indexed>, AllocError> {
+    let mut hand = empty_hand(alloc, key(alloc, Kind::Deployment)?);
+    fill(alloc, &mut hand, way, count)?;
+    Ok(hand)
 }

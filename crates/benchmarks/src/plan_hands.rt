@@ -1,70 +1,86 @@
 //! What is planned of: the set, and its pods.
+use crate::objects::{object, shared};
 use crate::plan_bench::Way;
 use crate::plan_texts::{pod, set};
 use indexer::Indexed;
-use meta::Object;
-use object_keys::{Fault, Key, PerKind};
+use object_keys::{Key, PerKind};
 use reconcile_types::{Hand, Read};
 use reflector::{Delta, SharedObject};
-use serde_json::Value;
 use spec_api::kinds::Kind;
-use spec_api::refusals::Part;
 use std::alloc::{AllocError, Global};
 
-/// Returns the object that a text says.
-pub fn object(alloc: Global, kind: Kind, text: &str) -> Result<Object, Fault> {
-    match Value::from_str(alloc, text) {
-        Ok(value) => Object::from_value(alloc, kind, value),
-        Err(_) => Err(Fault::BadRequest(Part::Body)),
-    }
-}
-
-/// Returns the key of the set.
-fn key(alloc: Global) -> Result<Key, AllocError> {
+/// Returns the key of the object of a kind that is planned of.
+pub fn key(alloc: Global, kind: Kind) -> Result<Key, AllocError> {
     Ok(Key {
-        kind: Kind::ReplicaSet,
+        kind,
         namespace: String::from_str(alloc, "default")?,
         name: String::from_str(alloc, "web")?,
     })
 }
 
-/// Returns a look at these objects.
-pub fn look(alloc: Global, objects: Vec<SharedObject>) -> Result<Indexed, AllocError> {
-    let mut seen = Indexed::new(alloc);
-    seen.apply(&Delta::Replace(2, objects))?;
-    Ok(seen)
+/// Returns a hand with a key, whose looks show nothing, and with nothing read live.
+pub fn empty_hand(alloc: Global, key: Key) -> Hand<Indexed> {
+    Hand {
+        key,
+        looks: PerKind {
+            config_maps: Some(Indexed::new(alloc)),
+            pods: Some(Indexed::new(alloc)),
+            replica_sets: Some(Indexed::new(alloc)),
+            deployments: Some(Indexed::new(alloc)),
+        },
+        is_satisfied: true,
+        reads: Vec::new(alloc),
+    }
+}
+
+/// Has a look show these objects, and no others, as a list at revision 2 gives them.
+pub fn show(seen: &mut Option<Indexed>, objects: Vec<SharedObject>) -> Result<(), AllocError> {
+    let list = Delta::Replace(2, objects);
+    match seen {
+        Some(seen) => seen.apply(&list),
+        None => Ok(()),
+    }
+}
+
+/// Returns the list of the object of a kind that a text says, alone.
+pub fn alone(alloc: Global, kind: Kind, text: &str) -> Result<Vec<SharedObject>, AllocError> {
+    let mut objects = Vec::new(alloc);
+    objects.push(shared(alloc, kind, text)?)?;
+    Ok(objects)
 }
 
 /// Returns the pods.
-fn pods(alloc: Global, count: u32) -> Result<Vec<SharedObject>, Fault> {
+fn pods(alloc: Global, count: u32) -> Result<Vec<SharedObject>, AllocError> {
     let mut pods = Vec::new(alloc);
     for number in 0..count {
         let text = pod(alloc, number)?;
-        let pod = object(alloc, Kind::Pod, text.as_str())?;
-        pods.push(SharedObject::new(alloc, pod)?)?;
+        pods.push(shared(alloc, Kind::Pod, text.as_str())?)?;
     }
     Ok(pods)
 }
 
+/// Adds the live read of the set.
+fn read(alloc: Global, reads: &mut Vec<Read>, text: &str) -> Result<(), AllocError> {
+    let key = key(alloc, Kind::ReplicaSet)?;
+    let found = Some(object(alloc, Kind::ReplicaSet, text)?);
+    reads.push(Read { key, found })?;
+    Ok(())
+}
+
+/// Has a hand look at the set, which a text says, and its pods, and adds the set as it is read live.
+fn fill(alloc: Global, hand: &mut Hand<Indexed>, text: &str, count: u32) -> Result<(), AllocError> {
+    show(&mut hand.looks.pods, pods(alloc, count)?)?;
+    show(
+        &mut hand.looks.replica_sets,
+        alone(alloc, Kind::ReplicaSet, text)?,
+    )?;
+    read(alloc, &mut hand.reads, text)
+}
+
 /// Returns what a worker has in its hand: looks at the set and its pods, and the set as it is read live.
-pub fn hand(alloc: Global, way: Way, count: u32) -> Result<Hand<Indexed>, Fault> {
+pub fn hand(alloc: Global, way: Way, count: u32) -> Result<Hand<Indexed>, AllocError> {
     let text = set(alloc, way, count)?;
-    let mut sets = Vec::new(alloc);
-    sets.push(SharedObject::new(alloc, object(alloc, Kind::ReplicaSet, text.as_str())?)?)?;
-    let mut reads = Vec::new(alloc);
-    reads.push(Read {
-        key: key(alloc)?,
-        found: Some(object(alloc, Kind::ReplicaSet, text.as_str())?),
-    })?;
-    Ok(Hand {
-        key: key(alloc)?,
-        looks: PerKind {
-            config_maps: Some(look(alloc, Vec::new(alloc))?),
-            pods: Some(look(alloc, pods(alloc, count)?)?),
-            replica_sets: Some(look(alloc, sets)?),
-            deployments: Some(look(alloc, Vec::new(alloc))?),
-        },
-        is_satisfied: true,
-        reads,
-    })
+    let mut hand = empty_hand(alloc, key(alloc, Kind::ReplicaSet)?);
+    fill(alloc, &mut hand, text.as_str(), count)?;
+    Ok(hand)
 }

@@ -3,10 +3,9 @@
 //!
 //! A second word is how many thousand keys are added, 1,000 where it is left out.
 
+use crate::failures::Failure;
 use crate::plain_queue::Plain;
-use std::alloc::AllocError;
-use std::process::ExitCode;
-use std::{env, io};
+use std::alloc::{AllocError, Global};
 use workqueue::Queue;
 
 /// How many thousand keys are added where the arguments do not say it.
@@ -19,45 +18,40 @@ enum Way {
     Plain,
 }
 
+/// Returns what is measured under a name.
+fn named(word: &str) -> Option<Way> {
+    match word {
+        "queue" => Some(Way::Queue),
+        "plain" => Some(Way::Plain),
+        _ => None,
+    }
+}
+
 /// Returns what the arguments ask for: what is measured, and how many thousand keys are added.
-fn asked(words: &mut env::Args) -> Option<(Way, u32)> {
-    let (Some(way), thousands, None) = (words.next(), words.next(), words.next()) else {
-        return None;
-    };
-    let way = match way.as_str() {
-        "queue" => Way::Queue,
-        "plain" => Way::Plain,
-        _ => return None,
-    };
-    let thousands = match thousands {
-        Some(word) => word.as_str().parse::<u32>().ok(),
-        None => Some(THOUSANDS),
-    };
-    thousands.map(|count| (way, count))
+fn asked(words: &[String]) -> Option<(Way, u32)> {
+    match words {
+        [way] => Some((named(way.as_str())?, THOUSANDS)),
+        [way, thousands] => {
+            let thousands = thousands.parse::<u32>().ok()?;
+            Some((named(way.as_str())?, thousands))
+        }
+        _ => None,
+    }
 }
 
 /// Returns how many keys were handed out.
-fn handed_out(rt: &HostRuntime, way: Way, thousands: u32) -> Result<u64, AllocError> {
+fn handed_out(alloc: Global, way: Way, thousands: u32) -> Result<u64, AllocError> {
     match way {
-        Way::Queue => crate::queue_rounds::run(rt.alloc(), &mut Queue::new(rt.alloc()), thousands),
-        Way::Plain => crate::queue_rounds::run(rt.alloc(), &mut Plain::new(rt.alloc()), thousands),
+        Way::Queue => crate::queue_rounds::run(alloc, &mut Queue::new(alloc), thousands),
+        Way::Plain => crate::queue_rounds::run(alloc, &mut Plain::new(alloc), thousands),
     }
 }
 
-/// Measures what the words ask for, writes what came of it, and returns the status of the program.
-pub fn run(rt: &HostRuntime, words: &mut env::Args) -> io::Result<ExitCode> {
+/// Measures what the words ask for, and returns what came of it, as a text.
+pub fn run(alloc: Global, words: &[String]) -> Result<String, Failure> {
     let Some((way, thousands)) = asked(words) else {
-        eprintln!(rt; "benchmarks: bad arguments")?;
-        return Ok(ExitCode::from(2));
+        return Err(Failure::Arguments);
     };
-    match handed_out(rt, way, thousands) {
-        Ok(count) => {
-            println!(rt; "{count} keys handed out")?;
-            Ok(ExitCode::SUCCESS)
-        }
-        Err(_) => {
-            eprintln!(rt; "benchmarks: no memory")?;
-            Ok(ExitCode::from(1))
-        }
-    }
+    let count = handed_out(alloc, way, thousands)?;
+    Ok(format!(in alloc; "{count} keys handed out")?)
 }
