@@ -1,8 +1,14 @@
-//! The assertion of the tests, in a function of its own: what is printed where values differ is proved once, and not in each test.
+//! The assertions of the tests, in functions of their own: what is printed where values differ is proved once, and not in each test.
+use std::alloc::AllocError;
 use std::fmt::Debug;
 use std::process::Abort;
 
 /// Ends a test that saw something else than it wanted, and prints both.
 pub(crate) fn assert_same<T: PartialEq + Debug>(rt: &impl Abort, seen: &T, wanted: &T) {
     assert_eq!(*rt; *seen, *wanted);
+}
+
+/// Ends a test that saw another text than it wanted, or that ran out of memory, and prints both.
+pub(crate) fn assert_text(rt: &impl Abort, seen: &Result<String, AllocError>, wanted: &str) {
+    assert_eq!(*rt; seen.as_deref(), Ok(wanted));
 }

@@ -1,5 +1,5 @@
 //! Delays and the moments at which keys come due, from outside.
-use crate::assertions::assert_same;
+use crate::assertions::{assert_same, assert_text};
 use crate::workqueue_tests::work_key;
 use backoff::{Backoff, Delayed};
 use object_keys::WorkKey;
@@ -68,5 +68,5 @@ fn due(alloc: Global) -> Result<String, AllocError> {
 #[test]
 fn keys_come_due_in_order(rt: HostRuntime) {
     let text = due(rt.alloc());
-    assert_same(&rt, &text.as_deref(), &Ok(";db api web ;;"));
+    assert_text(&rt, &text, ";db api web ;;");
 }

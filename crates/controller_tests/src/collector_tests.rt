@@ -1,5 +1,5 @@
 //! A turn of the collector.
-use crate::assertions::assert_same;
+use crate::assertions::assert_text;
 use crate::hands::{answers, read, read_none, show};
 use crate::written::{tell_commands, tell_keys};
 use collector::{asks, plan};
@@ -39,9 +39,5 @@ pub(crate) fn told_of(alloc: Global, hand: &mut Hand<Indexed>) -> Result<String,
 #[test]
 fn what_has_no_owner_goes(rt: HostRuntime) {
     let text = answers(rt.alloc(), Controller::Collector, Kind::Pod, "p");
-    assert_same(
-        &rt,
-        &text.as_deref(),
-        &Ok("Pod p,ConfigMap a,delete p,u-p 3,"),
-    );
+    assert_text(&rt, &text, "Pod p,ConfigMap a,delete p,u-p 3,");
 }

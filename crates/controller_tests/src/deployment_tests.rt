@@ -1,5 +1,5 @@
 //! A turn of a Deployment.
-use crate::assertions::assert_same;
+use crate::assertions::assert_text;
 use crate::hands::{answers, show};
 use crate::written::told;
 use deployment::{asks, plan};
@@ -50,5 +50,5 @@ pub(crate) fn told_of(alloc: Global, hand: &mut Hand<Indexed>) -> Result<String,
 #[test]
 fn the_old_set_shrinks(rt: HostRuntime) {
     let text = answers(rt.alloc(), Controller::Deployment, Kind::Deployment, "web");
-    assert_same(&rt, &text.as_deref(), &Ok("update web-1,status web,"));
+    assert_text(&rt, &text, "update web-1,status web,");
 }

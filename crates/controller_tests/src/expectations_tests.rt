@@ -1,5 +1,6 @@
 //! Creations and deletions that are waited for.
 use crate::assertions::assert_same;
+use crate::keyed_queue_tests::texts;
 use expectations::Table;
 use object_keys::Key;
 use spec_api::kinds::Kind;
@@ -20,8 +21,7 @@ fn creations(alloc: Global, key: &Key) -> Result<[bool; 3], AllocError> {
 
 /// Returns whether the deletion of a pod is waited for no longer as another one is seen deleted, and as it is seen deleted itself.
 fn deletions(alloc: Global, key: &Key) -> Result<[bool; 2], AllocError> {
-    let mut pods = Vec::new(alloc);
-    pods.push(String::from_str(alloc, "pod-1")?)?;
+    let pods = texts(alloc, &["pod-1"])?;
     let mut table = Table::new(alloc);
     table.expect_deletions(key, "uid-1", pods, 5)?;
     table.deleted(key, "uid-1", "pod-2");

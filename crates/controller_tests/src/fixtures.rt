@@ -105,9 +105,12 @@ pub(crate) fn remove(
     Ok(Delta::Remove(revision, pod(alloc, namespace, name)?))
 }
 
-/// Adds the names of entries to a text, with a blank after each, and a comma in the end.
-pub(crate) fn tell(text: &mut String, entries: Vec<Entry<'_>>) -> Result<(), AllocError> {
-    for entry in &entries {
+/// Adds the names of entries to a text, if there was memory for them, with a blank after each, and a comma in the end.
+pub(crate) fn tell(
+    text: &mut String,
+    entries: Result<Vec<Entry<'_>>, AllocError>,
+) -> Result<(), AllocError> {
+    for entry in &entries? {
         text.push_str(entry.key.name.as_str())?;
         text.push(' ')?;
     }

@@ -1,21 +1,15 @@
 //! Two Pods that are listed, and what becomes of them.
-use crate::assertions::assert_same;
+use crate::assertions::{assert_same, assert_text};
 use crate::fixtures::{ELSEWHERE, POD, RELEASED, listing, pod, put, remove, tell};
 use indexer::Indexed;
 use reflector::Delta;
 use spec_api::kinds::Kind;
 use std::alloc::{AllocError, Global};
 
-/// Applies a delta.
-fn apply(indexed: &mut Indexed, delta: Delta) -> Result<(), AllocError> {
-    indexed.apply(&delta)
-}
-
 /// A copy with the list of both Pods, at revision 7.
 fn listed(alloc: Global) -> Result<Indexed, AllocError> {
     let mut indexed = Indexed::new(alloc);
-    let list = listing(alloc, Kind::Pod, 7, &[ELSEWHERE, POD])?;
-    apply(&mut indexed, list)?;
+    indexed.apply(&listing(alloc, Kind::Pod, 7, &[ELSEWHERE, POD])?)?;
     Ok(indexed)
 }
 
@@ -28,23 +22,31 @@ fn has_p(alloc: Global, indexed: &Indexed) -> Result<bool, AllocError> {
 /// Adds a line to a text: the Pods of a copy, those that `web` owns, those that another one owns, those of the namespace `other`, whether
 /// `p` is found, and the revision.
 fn tell_all(alloc: Global, text: &mut String, indexed: &Indexed) -> Result<(), AllocError> {
-    tell(text, indexed.list(alloc)?)?;
-    tell(text, indexed.by_owner(alloc, "u-web")?)?;
-    tell(text, indexed.by_owner(alloc, "u-we")?)?;
-    tell(text, indexed.by_namespace(alloc, "other")?)?;
+    tell(text, indexed.list(alloc))?;
+    tell(text, indexed.by_owner(alloc, "u-web"))?;
+    tell(text, indexed.by_owner(alloc, "u-we"))?;
+    tell(text, indexed.by_namespace(alloc, "other"))?;
     let has_p = has_p(alloc, indexed)?;
     let rest = format!(in alloc; "{has_p},{}\n", indexed.revision())?;
     text.push_str(rest.as_str())
 }
 
+/// Applies a delta, if there was memory for it, and adds a line to a text.
+fn apply(
+    alloc: Global,
+    text: &mut String,
+    indexed: &mut Indexed,
+    delta: Result<Delta, AllocError>,
+) -> Result<(), AllocError> {
+    indexed.apply(&delta?)?;
+    tell_all(alloc, text, indexed)
+}
+
 /// Releases `p`, removes `q` and marks a revision, with a line after each.
 fn change(alloc: Global, text: &mut String, indexed: &mut Indexed) -> Result<(), AllocError> {
-    apply(indexed, put(alloc, RELEASED)?)?;
-    tell_all(alloc, text, indexed)?;
-    apply(indexed, remove(alloc, 8, "other", "q")?)?;
-    tell_all(alloc, text, indexed)?;
-    apply(indexed, Delta::Mark(9))?;
-    tell_all(alloc, text, indexed)
+    apply(alloc, text, indexed, put(alloc, RELEASED))?;
+    apply(alloc, text, indexed, remove(alloc, 8, "other", "q"))?;
+    apply(alloc, text, indexed, Ok(Delta::Mark(9)))
 }
 
 /// Changes a copy, and adds a line for what there is at first, after each change, and in a copy that was made before.
@@ -67,7 +69,7 @@ fn followed(alloc: Global) -> Result<String, AllocError> {
 #[test]
 fn a_copy_follows_its_deltas(rt: HostRuntime) {
     let text = followed(rt.alloc());
-    assert_same(&rt, &text.as_deref(), &Ok(FOLLOWED));
+    assert_text(&rt, &text, FOLLOWED);
 }
 
 const FOLLOWED: &str =

@@ -1,6 +1,7 @@
 //! A Pod that is put and removed before it is published, and one that is published.
 use crate::assertions::assert_same;
 use crate::fixtures::{ELSEWHERE, POD, pod, put, remove};
+use object_keys::Key;
 use plain_informer::PlainInformer;
 use std::alloc::{AllocError, Global};
 
@@ -21,13 +22,25 @@ fn publish_twice(informer: &mut PlainInformer) -> Result<([u64; 2], [usize; 3]),
     Ok(([before, look.revision()], [first, second, look.len()]))
 }
 
-/// Publishes three deltas. Returns what `publish_twice` does, and whether `q` is there then.
-fn published(alloc: Global) -> Result<(([u64; 2], [usize; 3]), bool), AllocError> {
+/// What `publish_twice` returns, and whether `q` is there then.
+type Seen = (([u64; 2], [usize; 3]), bool);
+
+/// Publishes three deltas.
+fn publish_three(
+    alloc: Global,
+    informer: &mut PlainInformer,
+    key: &Key,
+) -> Result<Seen, AllocError> {
+    append_three(alloc, informer)?;
+    let seen = publish_twice(informer)?;
+    Ok((seen, informer.look().get(key).is_some()))
+}
+
+/// Returns what is seen as three deltas are published.
+fn published(alloc: Global) -> Result<Seen, AllocError> {
     let key = pod(alloc, "other", "q")?;
     let mut informer = PlainInformer::new(alloc);
-    append_three(alloc, &mut informer)?;
-    let seen = publish_twice(&mut informer)?;
-    Ok((seen, informer.look().get(&key).is_some()))
+    publish_three(alloc, &mut informer, &key)
 }
 
 #[test]

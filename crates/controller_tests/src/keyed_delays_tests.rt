@@ -1,5 +1,5 @@
 //! The moments at which texts come due.
-use crate::assertions::assert_same;
+use crate::assertions::{assert_same, assert_text};
 use keyed_queues::KeyedDelays;
 use std::alloc::{AllocError, Global};
 
@@ -41,7 +41,7 @@ fn due(alloc: Global) -> Result<String, AllocError> {
 #[test]
 fn texts_come_due_in_order(rt: HostRuntime) {
     let text = due(rt.alloc());
-    assert_same(&rt, &text.as_deref(), &Ok(";db api web ;;"));
+    assert_text(&rt, &text, ";db api web ;;");
 }
 
 /// Returns how many of the three texts are due at 20, and how many at 50 once those are dropped.

@@ -12,21 +12,30 @@ fn is_handed_out(queue: &mut KeyedQueue<String>, wanted: &str) -> Result<bool, A
 }
 
 /// Adds a text that is in a worker's hands, and says that it is done. Returns how many wait before and after that.
-fn add_and_end(queue: &mut KeyedQueue<String>, key: String) -> Result<[usize; 2], AllocError> {
+fn add_and_end(queue: &mut KeyedQueue<String>, key: &String) -> Result<[usize; 2], AllocError> {
     queue.add(key.clone()?)?;
     let meanwhile = queue.len();
-    queue.done(&key);
+    queue.done(key);
     Ok([meanwhile, queue.len()])
 }
 
-/// Adds `web` twice, where it is taken in between. Returns whether it was handed out, how many wait before and after it is done,
-/// and whether it is handed out once more.
-fn added_twice(alloc: Global) -> Result<(bool, [usize; 2], bool), AllocError> {
+/// What is seen of a text that is added twice: whether it was handed out, how many wait before and after it is done, and whether it is handed
+/// out once more.
+type Seen = (bool, [usize; 2], bool);
+
+/// Adds a text twice, where it is taken in between.
+fn add_twice(queue: &mut KeyedQueue<String>, key: &String) -> Result<Seen, AllocError> {
+    queue.add(key.clone()?)?;
+    let first = is_handed_out(queue, key.as_str())?;
+    let waiting = add_and_end(queue, key)?;
+    Ok((first, waiting, is_handed_out(queue, key.as_str())?))
+}
+
+/// Returns what is seen as the text `web` is added twice.
+fn added_twice(alloc: Global) -> Result<Seen, AllocError> {
+    let key = String::from_str(alloc, "web")?;
     let mut queue = KeyedQueue::new(alloc);
-    queue.add(String::from_str(alloc, "web")?)?;
-    let first = is_handed_out(&mut queue, "web")?;
-    let waiting = add_and_end(&mut queue, String::from_str(alloc, "web")?)?;
-    Ok((first, waiting, is_handed_out(&mut queue, "web")?))
+    add_twice(&mut queue, &key)
 }
 
 #[test]
@@ -35,7 +44,7 @@ fn a_text_waits_for_its_done(rt: HostRuntime) {
 }
 
 /// Returns these texts.
-fn texts(alloc: Global, names: &[&str]) -> Result<Vec<String>, AllocError> {
+pub(crate) fn texts(alloc: Global, names: &[&str]) -> Result<Vec<String>, AllocError> {
     let mut texts = Vec::new(alloc);
     for name in names {
         texts.push(String::from_str(alloc, name)?)?;

@@ -1,6 +1,7 @@
 //! A Pod that is released, where the ReplicaSet `web` of the Deployment `site` is looked at.
-use crate::assertions::assert_same;
+use crate::assertions::assert_text;
 use crate::fixtures::{POD, RELEASED, WEB, shared};
+use crate::written::tell;
 use indexer::Indexed;
 use object_keys::{PerKind, WorkKey};
 use plain_informer::keys_of;
@@ -33,10 +34,7 @@ fn word(controller: Controller) -> &'static str {
 fn tell_key(text: &mut String, key: &WorkKey) -> Result<(), AllocError> {
     text.push_str(word(key.controller))?;
     text.push(' ')?;
-    text.push_str(key.key.kind.name())?;
-    text.push(' ')?;
-    text.push_str(key.key.name.as_str())?;
-    text.push(',')
+    tell(text, key.key.kind.name(), key.key.name.as_str())
 }
 
 /// The keys as words.
@@ -78,7 +76,7 @@ fn owed(alloc: Global) -> Result<String, AllocError> {
 #[test]
 fn a_released_pod_owes_its_old_owner(rt: HostRuntime) {
     let keys = owed(rt.alloc());
-    assert_same(&rt, &keys.as_deref(), &Ok(OWED));
+    assert_text(&rt, &keys, OWED);
 }
 
 const OWED: &str = "rs ReplicaSet web,deploy Deployment site,gc Pod p,gc ReplicaSet web,";

@@ -1,5 +1,5 @@
 //! A turn of a ReplicaSet.
-use crate::assertions::assert_same;
+use crate::assertions::assert_text;
 use crate::hands::{answers, show};
 use crate::written::told;
 use indexer::Indexed;
@@ -49,9 +49,5 @@ pub(crate) fn told_of(alloc: Global, hand: &mut Hand<Indexed>) -> Result<String,
 #[test]
 fn one_pod_too_many_goes(rt: HostRuntime) {
     let text = answers(rt.alloc(), Controller::ReplicaSet, Kind::ReplicaSet, "web");
-    assert_same(
-        &rt,
-        &text.as_deref(),
-        &Ok("ReplicaSet web,delete p3,u-3 none,"),
-    );
+    assert_text(&rt, &text, "ReplicaSet web,delete p3,u-3 none,");
 }

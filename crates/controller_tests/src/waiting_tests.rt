@@ -147,28 +147,43 @@ fn give_back<R: Wait + Clock>(
     again
 }
 
-/// Has one thread wait while another does something. Returns whether a text came to the first, and whether its wait was short.
+/// Has one thread wait at a board while another does something there. Returns whether a text came to the first, and whether its wait was short.
+fn wait_and_wake<R: Threads + Wait + Clock + Sync>(
+    rt: &R,
+    board: &SharedKeyedBoard<String>,
+    first: BoardPass<String>,
+    second: BoardPass<String>,
+    key: &String,
+    cause: Cause,
+) -> Result<(bool, bool), AllocError>
+    requires first { IsNewAt board.now first }
+    requires second { IsNewAt board.now second }
+{
+    let (told, done) = thread::join(
+        rt,
+        || -> (bool, bool)
+            requires { IsNewAt board.now first }
+        { wait(rt, board, first, cause) },
+        || -> Result<(), AllocError>
+            requires { IsNewAt board.now second }
+        { wake(rt, board, second, key, cause) },
+    );
+    done?;
+    Ok(told)
+}
+
+/// Has two threads share a new board, of which one waits. Returns what `wait_and_wake` does.
 fn woken<R: Threads + Wait + Clock + Sync>(
     rt: &R,
     alloc: Global,
     cause: Cause,
 ) -> Result<(bool, bool), AllocError> {
-    let (board, mut passes) = SharedKeyedBoard::<String>::open(alloc, 2)?;
     let key = String::from_str(alloc, "web")?;
+    let (board, mut passes) = SharedKeyedBoard::<String>::open(alloc, 2)?;
     let (Some(first), Some(second)) = (passes.pop(), passes.pop()) else {
         return Ok((false, false));
     };
-    let (told, done) = thread::join(
-        rt,
-        || -> (bool, bool)
-            requires { IsNewAt board first }
-        { wait(rt, &board, first, cause) },
-        || -> Result<(), AllocError>
-            requires { IsNewAt board second }
-        { wake(rt, &board, second, &key, cause) },
-    );
-    done?;
-    Ok(told)
+    wait_and_wake(rt, &board, first, second, &key, cause)
 }
 
 #[test]

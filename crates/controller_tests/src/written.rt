@@ -4,7 +4,7 @@ use reconcile_types::{Command, Version};
 use std::alloc::{AllocError, Global};
 
 /// Adds two words to a text, with a blank between them and a comma in the end.
-fn tell(text: &mut String, first: &str, second: &str) -> Result<(), AllocError> {
+pub(crate) fn tell(text: &mut String, first: &str, second: &str) -> Result<(), AllocError> {
     text.push_str(first)?;
     text.push(' ')?;
     text.push_str(second)?;
