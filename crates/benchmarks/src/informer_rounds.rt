@@ -17,21 +17,38 @@ fn pods(alloc: Global) -> Result<Vec<SharedObject>, AllocError> {
     Ok(pods)
 }
 
-/// Returns a copy that has taken in objects, one after another.
-fn taken(alloc: Global, objects: &[SharedObject]) -> Result<Indexed, AllocError> {
-    let mut indexed = Indexed::new(alloc);
+/// Puts an object into a copy.
+fn put_one(indexed: &mut Indexed, object: &SharedObject) -> Result<(), AllocError> {
+    indexed.apply(&Delta::Put(object.try_copy()?))
+}
+
+/// Puts objects into a copy, one after another.
+fn put_all(indexed: &mut Indexed, objects: &[SharedObject]) -> Result<(), AllocError> {
     for object in objects {
-        indexed.apply(&Delta::Put(object.try_copy()?))?;
+        put_one(indexed, object)?;
     }
+    Ok(())
+}
+
+/// Puts the ReplicaSets into a copy.
+fn put_sets(alloc: Global, indexed: &mut Indexed) -> Result<(), AllocError> {
+    for number in 0..SETS {
+        indexed.apply(&Delta::Put(set(alloc, number)?))?;
+    }
+    Ok(())
+}
+
+/// Returns a copy with the ReplicaSets.
+fn sets(alloc: Global) -> Result<Indexed, AllocError> {
+    let mut indexed = Indexed::new(alloc);
+    put_sets(alloc, &mut indexed)?;
     Ok(indexed)
 }
 
 /// Returns what is looked at.
-fn looks(alloc: Global, pods: Indexed) -> Result<PerKind<Indexed>, AllocError> {
-    let mut replica_sets = Indexed::new(alloc);
-    for number in 0..SETS {
-        replica_sets.apply(&Delta::Put(set(alloc, number)?))?;
-    }
+fn looks(alloc: Global, pods: &Indexed) -> Result<PerKind<Indexed>, AllocError> {
+    let pods = pods.try_copy()?;
+    let replica_sets = sets(alloc)?;
     Ok(PerKind {
         config_maps: Indexed::new(alloc),
         pods,
@@ -49,7 +66,7 @@ fn put(indexed: &mut Indexed, pods: &[SharedObject], times: u32) -> Result<usize
     let mut count = 0usize;
     for turn in 0..times {
         if let Some(pod) = of_turn(pods, turn) {
-            indexed.apply(&Delta::Put(pod.try_copy()?))?;
+            put_one(indexed, pod)?;
             count = count.wrapping_add(1);
         }
     }
@@ -74,7 +91,7 @@ fn owner(alloc: Global, indexed: &Indexed, times: u32) -> Result<usize, AllocErr
     Ok(count)
 }
 
-fn owed(
+fn owed_at(
     alloc: Global,
     looks: &PerKind<Indexed>,
     pods: &[SharedObject],
@@ -90,30 +107,70 @@ fn owed(
     Ok(count)
 }
 
-fn publish(alloc: Global, pods: &[SharedObject], times: u32) -> Result<usize, AllocError> {
-    let mut informer = PlainInformer::new(alloc);
+fn owed(
+    alloc: Global,
+    indexed: &Indexed,
+    pods: &[SharedObject],
+    times: u32,
+) -> Result<usize, AllocError> {
+    let looks = looks(alloc, indexed)?;
+    owed_at(alloc, &looks, pods, times)
+}
+
+/// Publishes the delta that puts a Pod. Returns how many shifts there were.
+fn publish_one(informer: &mut PlainInformer, pod: &SharedObject) -> Result<usize, AllocError> {
+    informer.append(Delta::Put(pod.try_copy()?))?;
+    Ok(informer.publish()?.len())
+}
+
+/// Publishes all Pods at once. Returns how many shifts there were.
+fn publish_all(informer: &mut PlainInformer, pods: &[SharedObject]) -> Result<usize, AllocError> {
     for pod in pods {
         informer.append(Delta::Put(pod.try_copy()?))?;
     }
-    let mut count = informer.publish()?.len();
+    Ok(informer.publish()?.len())
+}
+
+fn publish_in_turn(
+    informer: &mut PlainInformer,
+    pods: &[SharedObject],
+    times: u32,
+) -> Result<usize, AllocError> {
+    let mut count = publish_all(informer, pods)?;
     for turn in 0..times {
         if let Some(pod) = of_turn(pods, turn) {
-            informer.append(Delta::Put(pod.try_copy()?))?;
-            count = count.wrapping_add(informer.publish()?.len());
+            count = count.wrapping_add(publish_one(informer, pod)?);
         }
     }
     Ok(count)
 }
 
+fn publish(alloc: Global, pods: &[SharedObject], times: u32) -> Result<usize, AllocError> {
+    let mut informer = PlainInformer::new(alloc);
+    publish_in_turn(&mut informer, pods, times)
+}
+
 /// Takes in the Pods, does what is asked for so many times, and returns how many objects or keys came of it.
+fn run_with(
+    alloc: Global,
+    indexed: &mut Indexed,
+    pods: &[SharedObject],
+    what: What,
+    times: u32,
+) -> Result<usize, AllocError> {
+    put_all(indexed, pods)?;
+    match what {
+        What::Put => put(indexed, pods, times),
+        What::Copy => copy(indexed, times),
+        What::Owner => owner(alloc, indexed, times),
+        What::Owed => owed(alloc, indexed, pods, times),
+        What::Publish => publish(alloc, pods, times),
+    }
+}
+
+/// Makes the Pods, does what is asked for so many times, and returns how many objects or keys came of it.
 pub fn run(alloc: Global, what: What, times: u32) -> Result<usize, AllocError> {
     let pods = pods(alloc)?;
-    let mut indexed = taken(alloc, &pods)?;
-    match what {
-        What::Put => put(&mut indexed, &pods, times),
-        What::Copy => copy(&indexed, times),
-        What::Owner => owner(alloc, &indexed, times),
-        What::Owed => owed(alloc, &looks(alloc, indexed)?, &pods, times),
-        What::Publish => publish(alloc, &pods, times),
-    }
+    let mut indexed = Indexed::new(alloc);
+    run_with(alloc, &mut indexed, pods.as_slice(), what, times)
 }

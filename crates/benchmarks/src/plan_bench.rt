@@ -5,10 +5,11 @@
 //! are deleted.
 
 use crate::failures::Failure;
-use crate::plan_deployments::rollout_hand;
-use crate::plan_hands::hand;
+use crate::plan_deployments::fill_with_sets;
+use crate::plan_hands::{empty_hand, fill_with_pods, key};
 use indexer::Indexed;
 use reconcile_types::{Hand, Plan};
+use spec_api::kinds::Kind;
 use std::alloc::{AllocError, Global};
 
 /// What is planned.
@@ -55,11 +56,19 @@ fn asked(words: &[String]) -> Option<Task> {
     })
 }
 
-/// Returns what a worker has in its hand.
-fn hand_of(alloc: Global, way: Way, count: u32) -> Result<Hand<Indexed>, AllocError> {
+/// Returns the kind of the object that is planned of.
+fn kind_of(way: Way) -> Kind {
     match way {
-        Way::Rollout | Way::History => rollout_hand(alloc, way, count),
-        _ => hand(alloc, way, count),
+        Way::Status | Way::Half | Way::Foreground | Way::Orphan => Kind::ReplicaSet,
+        Way::Rollout | Way::History => Kind::Deployment,
+    }
+}
+
+/// Has a hand look at what is planned of.
+fn fill(alloc: Global, task: Task, hand: &mut Hand<Indexed>) -> Result<(), AllocError> {
+    match kind_of(task.way) {
+        Kind::Deployment => fill_with_sets(alloc, hand, task.way, task.count),
+        _ => fill_with_pods(alloc, hand, task.way, task.count),
     }
 }
 
@@ -72,15 +81,25 @@ fn plan(alloc: Global, way: Way, hand: &Hand<Indexed>) -> Result<Plan, AllocErro
     }
 }
 
-/// Plans so often, and returns how many commands there were in all.
-fn commands(alloc: Global, task: Task) -> Result<u64, AllocError> {
-    let hand = hand_of(alloc, task.way, task.count)?;
+/// Returns how many commands the plan of a hand has.
+fn commands_of(alloc: Global, way: Way, hand: &Hand<Indexed>) -> Result<usize, AllocError> {
+    Ok(plan(alloc, way, hand)?.commands.len())
+}
+
+/// Fills a hand and plans so often, and returns how many commands there were in all.
+fn plan_often(alloc: Global, task: Task, hand: &mut Hand<Indexed>) -> Result<u64, AllocError> {
+    fill(alloc, task, hand)?;
     let mut commands = 0u64;
     for _ in 0..task.plans {
-        let plan = plan(alloc, task.way, &hand)?;
-        commands = commands.wrapping_add(plan.commands.len() as u64);
+        commands = commands.wrapping_add(commands_of(alloc, task.way, hand)? as u64);
     }
     Ok(commands)
+}
+
+/// Plans so often of a new hand, and returns how many commands there were in all.
+fn commands(alloc: Global, task: Task) -> Result<u64, AllocError> {
+    let mut hand = empty_hand(alloc, key(alloc, kind_of(task.way))?);
+    plan_often(alloc, task, &mut hand)
 }
 
 /// Measures what the words ask for, and returns what came of it, as a text.

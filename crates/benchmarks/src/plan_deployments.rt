@@ -1,7 +1,7 @@
 //! What is planned of: a Deployment, and its sets.
 use crate::objects::shared;
 use crate::plan_bench::Way;
-use crate::plan_hands::{alone, empty_hand, key, show};
+use crate::plan_hands::{alone, show};
 use indexer::Indexed;
 use reconcile_types::Hand;
 use reflector::SharedObject;
@@ -52,18 +52,14 @@ fn sets(alloc: Global, way: Way, count: u32) -> Result<Vec<SharedObject>, AllocE
 }
 
 /// Has a hand look at the Deployment and so many sets.
-fn fill(alloc: Global, hand: &mut Hand<Indexed>, way: Way, count: u32) -> Result<(), AllocError> {
+pub fn fill_with_sets(
+    alloc: Global,
+    hand: &mut Hand<Indexed>,
+    way: Way,
+    count: u32,
+) -> Result<(), AllocError> {
+    show(&mut hand.looks.replica_sets, sets(alloc, way, count)?)?;
     let text = deployment(alloc, count.saturating_sub(1))?;
-    show(
-        &mut hand.looks.deployments,
-        alone(alloc, Kind::Deployment, text.as_str())?,
-    )?;
-    show(&mut hand.looks.replica_sets, sets(alloc, way, count)?)
-}
-
-/// Returns what a worker has in its hand: looks at the Deployment and so many sets.
-pub fn rollout_hand(alloc: Global, way: Way, count: u32) -> Result<Hand<Indexed>, AllocError> {
-    let mut hand = empty_hand(alloc, key(alloc, Kind::Deployment)?);
-    fill(alloc, &mut hand, way, count)?;
-    Ok(hand)
+    let deployments = alone(alloc, Kind::Deployment, text.as_str())?;
+    show(&mut hand.looks.deployments, deployments)
 }

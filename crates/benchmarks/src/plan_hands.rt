@@ -67,20 +67,21 @@ fn read(alloc: Global, reads: &mut Vec<Read>, text: &str) -> Result<(), AllocErr
     Ok(())
 }
 
-/// Has a hand look at the set, which a text says, and its pods, and adds the set as it is read live.
-fn fill(alloc: Global, hand: &mut Hand<Indexed>, text: &str, count: u32) -> Result<(), AllocError> {
-    show(&mut hand.looks.pods, pods(alloc, count)?)?;
-    show(
-        &mut hand.looks.replica_sets,
-        alone(alloc, Kind::ReplicaSet, text)?,
-    )?;
+/// Has a hand look at the set, which a text says, and adds the set as it is read live.
+fn take_set(alloc: Global, hand: &mut Hand<Indexed>, text: &str) -> Result<(), AllocError> {
+    let sets = alone(alloc, Kind::ReplicaSet, text)?;
+    show(&mut hand.looks.replica_sets, sets)?;
     read(alloc, &mut hand.reads, text)
 }
 
-/// Returns what a worker has in its hand: looks at the set and its pods, and the set as it is read live.
-pub fn hand(alloc: Global, way: Way, count: u32) -> Result<Hand<Indexed>, AllocError> {
+/// Has a hand look at the set and its pods, and adds the set as it is read live.
+pub fn fill_with_pods(
+    alloc: Global,
+    hand: &mut Hand<Indexed>,
+    way: Way,
+    count: u32,
+) -> Result<(), AllocError> {
+    show(&mut hand.looks.pods, pods(alloc, count)?)?;
     let text = set(alloc, way, count)?;
-    let mut hand = empty_hand(alloc, key(alloc, Kind::ReplicaSet)?);
-    fill(alloc, &mut hand, text.as_str(), count)?;
-    Ok(hand)
+    take_set(alloc, hand, text.as_str())
 }
