@@ -11,10 +11,19 @@ use std::marker::Model;
 use std::sync::Arc;
 
 /// A cluster, and the controller manager beside it, with the steps that were taken since it was opened, which only proofs read.
-#[derive(Drop)]
 pub struct World {
     stored: StoredWorld,
     trace: Trace,
+}
+
+impl Drop for World {
+    // A derived drop is proved anew at each place where a world is dropped; this one is called there.
+    fn drop(self) {
+        let World {
+            stored: _stored,
+            trace: _trace,
+        } = self;
+    }
 }
 
 impl Model for World {
