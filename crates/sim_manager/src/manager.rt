@@ -9,11 +9,21 @@ use std::sync::Arc;
 use work_board::{Board, Observation};
 
 /// The board, for each worker its turn or none, and all commands that were issued, in order.
-#[derive(Drop)]
 pub struct Manager {
     pub(crate) board: Board,
     pub(crate) turns: Slots,
     pub(crate) issued: Vec<Arc<Issued, Global>>,
+}
+
+impl Drop for Manager {
+    // A derived drop is proved anew at each place where a manager is dropped; this one is called there.
+    fn drop(self) {
+        let Manager {
+            board: _board,
+            turns: _turns,
+            issued: _issued,
+        } = self;
+    }
 }
 
 impl Model for Manager {

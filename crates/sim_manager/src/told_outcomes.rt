@@ -10,11 +10,20 @@ use sim_worker_slots::lines;
 use std::alloc::{AllocError, Global};
 
 /// What came of a step, and the line by which it is told: where there is no memory for it, the step is not taken.
-#[derive(Drop)]
 pub struct ToldOutcome {
     pub outcome: WorkOutcome,
     pub line: Vec<u8>,
     ghost says: { line.items ≡ outcome_text (outcome_of outcome) },
+}
+
+impl Drop for ToldOutcome {
+    // A derived drop is proved anew, for each kind of outcome, at each place where one is dropped; this one is called there.
+    fn drop(self) {
+        let ToldOutcome {
+            outcome: _outcome,
+            line: _line,
+        } = self;
+    }
 }
 
 impl ToldOutcome {
@@ -24,6 +33,17 @@ impl ToldOutcome {
     {
         let line = line_of(alloc, &outcome)?;
         Ok(ToldOutcome { outcome, line })
+    }
+
+    /// Returns the line.
+    pub fn into_line(self) -> Vec<u8>
+        ensures { result.items ≡ outcome_text (outcome_of self.outcome) }
+    {
+        let ToldOutcome {
+            outcome: _outcome,
+            line,
+        } = self;
+        line
     }
 }
 

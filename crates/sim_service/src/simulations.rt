@@ -22,7 +22,7 @@ fn line_of(line: Vec<u8>, outcome: Outcome) -> Vec<u8>
 {
     match outcome {
         Outcome::InCluster(outcome) => told(line, outcome),
-        Outcome::Work(told) => told.line,
+        Outcome::Work(told) => told.into_line(),
     }
 }
 
