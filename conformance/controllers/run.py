@@ -13,7 +13,7 @@ Nothing has to happen within a certain time but that of `--limit`, which is long
 a controller that cannot know whether a create has arrived waits 300 seconds for the pod.
 Usage: run.py --program PATH [--short] [--seed N] [--limit S] [WORD]
   --program PATH   the executable of kcp
-  --short          fewer pods, lists and kills, and no requests cut: about 45 seconds in place of thirteen minutes
+  --short          fewer pods, lists and kills, and no requests cut: about a minute in place of thirteen
   --limit S        for how many seconds is waited for what has to come, 180 if left out
   WORD             only scenarios whose name has it
 """

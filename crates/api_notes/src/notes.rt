@@ -7,8 +7,8 @@ use crate::trouble::Trouble;
 use request_parts::Request;
 use spec_api::kinds::Kind;
 
-/// How many bytes are shown of a text that a server sent, or that it is to be sent: a name has 253 at most, and what a Kubernetes API server
-/// refuses says within so many why.
+/// How many bytes are shown of a text that a server sent, or that it is to be sent. A name has 253 at most, and so many of a Status of a Kubernetes
+/// API server have its message, behind some 70 that each has.
 const MOST_SHOWN: usize = 400;
 
 /// Is told how it goes with a server. Threads tell side by side, and wait while they do.

@@ -60,6 +60,7 @@ impl<S: Site, L: Ledger> Asker<'_, S, L> {
             → Stands S.Calls S.Lists S.Begins S.Watches result read written }
     {
         if self.asked >= self.taken.count {
+            // By a call: laid out here, the drop of all that can be asked would cost more to prove than the rest.
             drop(asked);
             return ConnectionPhase::Closing(Served::NotAsked);
         }

@@ -22,8 +22,9 @@ pub(crate) fn go_on(stop: &Stop) -> io::Result<()>
     }
 }
 
-/// Connects to a server over TCP, again for each request. A peer that sends a byte now and then is not given up: `StoppableConnect` gives it up. Where a host's name has several addresses, they are tried in turn. How long the look-up
-/// of a name takes is up to the system, as it is set up: no time limit ends it.
+/// Connects to a server over TCP, again for each request. Where a host's name has several addresses, they are tried in turn. How long the look-up
+/// of a name takes is up to the system, as it is set up: no time limit ends it. Nor is a peer given up that sends a byte now and then:
+/// `StoppableConnect` gives it up.
 #[derive(Drop)]
 pub struct TcpConnect<'a, R, A: Drop> {
     rt: &'a R,
