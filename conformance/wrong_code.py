@@ -29,6 +29,8 @@ sys.dont_write_bytecode = True
 from negative import pieces, tried
 
 libraries = pieces.libraries
+# The folder of the pieces that each gate tries.
+MUST_FAIL = "must-fail"
 
 
 def with_pieces(known):
@@ -77,16 +79,24 @@ def turned(found, seed):
 
 def work_within():
     """Returns for each crate the pieces that the gate tries whatever time it takes, those that it tries while there is time, of crates that have
-    changed first, and which these are."""
+    changed first, and which these are.
+
+    The one piece of a crate that has not changed is tried beside those of its must-fail, if it has some: each check loads the libraries below.
+    """
     known, lines = libraries(), tried.read()
     seed = subprocess.run(["git", "rev-parse", "HEAD"], cwd=pieces.ROOT, capture_output=True, text=True).stdout.strip()
     changed = [name for name in with_pieces(known) if not tried.is_standing(name, known, lines)]
     others = turned([name for name in with_pieces(known) if name not in changed], seed)
-    first = {name: pieces.pieces(name, ["must-fail"]) for name in known}
+    first = {name: pieces.pieces(name, [MUST_FAIL]) for name in known}
     rest = {name: pieces.pieces(name, ["wrong-code"]) for name in known}
     # What was refused before and is not any more comes first, and what was never tried last; of each, another crate with each commit.
     work = [(name, rest[name]) for name in sorted(turned(changed, seed), key=lambda it: it not in lines)]
-    work += [(name, turned(rest[name], seed)[:1]) for name in others]
+    for name in others:
+        one = turned(rest[name], seed)[:1]
+        if first[name]:
+            first[name] += one
+        else:
+            work.append((name, one))
     return [(name, found) for name, found in first.items() if found], [(name, found) for name, found in work if found], set(changed)
 
 
@@ -154,10 +164,10 @@ def within(asked):
 
 
 def too_late(verdict):
-    """Returns what became of a piece that has to be tried: that there was no time for it is a fault."""
+    """Returns what became of a piece: that there was no time for one that has to be tried is a fault."""
     from negative.trials import NO_TIME, Outcome
 
-    is_late = verdict.outcome is Outcome.NOT_TRIED and verdict.reason == NO_TIME
+    is_late = verdict.piece.file.parent.name == MUST_FAIL and verdict.outcome is Outcome.NOT_TRIED and verdict.reason == NO_TIME
     return dataclasses.replace(verdict, outcome=Outcome.TOO_LATE) if is_late else verdict
 
 
