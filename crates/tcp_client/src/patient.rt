@@ -42,9 +42,9 @@ fn whole_milliseconds(time: Duration) -> u64
 }
 
 impl<'a, R: Clock, S: Drop> Patient<'a, R, S> {
-    ghost use Rattle.std.specs.Prelude.{◌≡◌, ◌<◌, ◌-◌, ◌/◌, ◌^◌, min, OnOk};
+    ghost use Rattle.std.specs.Prelude.{◌≡◌, ◌<◌, ◌-◌, ◌*◌, ◌/◌, ◌^◌, min, OnOk};
     ghost use Rattle.std.specs.Duration.{as_nanos};
-    ghost use Rattle.tcp_client.specs.Patience.{passed_at, time_of};
+    ghost use Rattle.tcp_client.specs.Patience.{calls_of, passed_at, time_of};
 
     /// Returns what reads a stream until a stop, gives up after so many seconds without a byte, and in all after this time from now on, in whole
     /// milliseconds.
@@ -55,6 +55,7 @@ impl<'a, R: Clock, S: Drop> Patient<'a, R, S> {
         seconds: u32,
         time: Duration,
     ) -> Patient<'a, R, S>
+        ensures calls { calls_of result ≡ seconds * 4 }
         ensures time { time_of result ≡ min (as_nanos time / 1_000_000) (2 ^ 64 - 1) }
         ensures begun { passed_at result ≡ 0 }
     {
@@ -81,7 +82,16 @@ impl<'a, R: Clock, S: Drop> Patient<'a, R, S> {
 }
 
 impl<R: Clock, S: Read + Drop> Read for Patient<'_, R, S> {
-    fn read(&mut self, buf: &mut [u8]) -> io::Result<usize> {
+    ghost use Rattle.std.specs.Prelude.{◌<◌, OnOk, None};
+    ghost use Rattle.std.specs.Io.{ReadsAtMost};
+    ghost use Rattle.std.specs.Io.KnownBytes.{ReadConsumes};
+    ghost use Rattle.tcp_client.specs.Patience.{passed_at, time_of};
+
+    fn read(&mut self, buf: &mut [u8]) -> io::Result<usize>
+        ensures bound { ReadsAtMost result buf.new }
+        ensures bytes { ReadConsumes None None result buf.new }
+        ensures in_time { OnOk result (passed_at self.new < time_of self.new) }
+    {
         for _ in 0..self.most {
             self.go_on()?;
             match self.stream.read(buf) {

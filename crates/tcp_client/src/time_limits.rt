@@ -3,7 +3,7 @@ use std::time::Duration;
 
 /// How long a connection waits before it is given up. The system refuses limits of no time at all, and then nothing connects; but a read of
 /// `StoppableConnect` waits for a second at least. `TcpConnect` does not heed the last two.
-#[derive(Debug, Clone, Copy, PartialEq, Eq)]
+#[derive(Clone, Copy)]
 pub struct TimeLimits {
     /// How long each address of the server has to take the connection.
     pub connect: Duration,
