@@ -15,11 +15,20 @@ const LIKELY_PIECE: usize = 270_336;
 const LONGEST_HEAD: usize = 160;
 
 /// The reply that is a list, of which a beginning may be made already. It is seen as what is still to be made of it.
-#[derive(Drop)]
 pub struct ListReply {
     /// Whether its head is made.
     begun: bool,
     text: ListText,
+}
+
+impl Drop for ListReply {
+    // Called where one is dropped; a derived drop is proved anew at each such place.
+    fn drop(self) {
+        let ListReply {
+            begun: _begun,
+            text: _text,
+        } = self;
+    }
 }
 
 impl Model for ListReply {

@@ -11,7 +11,7 @@ use spec_api::kinds::Kind;
 use std::alloc::Global;
 
 /// What became of the request for a watch, or for a stream of initial events.
-#[derive(Debug, Clone, Copy, PartialEq, Eq)]
+#[derive(Clone, Copy, PartialEq, Eq)]
 pub enum Opened {
     /// The watch is open.
     Open,

@@ -20,12 +20,23 @@ use std::alloc::Global;
 
 /// A server that is asked over connections, one for each request, and the watch of it that is open, if one is. Lists, watches and streams are
 /// those of a scope.
-#[derive(Drop)]
 pub struct Remote<C: Connect + Drop> {
     connector: C,
     watch: Option<Reader<C::Reader>>,
     scope: Scope,
     limits: Limits,
+}
+
+impl<C: Connect + Drop> Drop for Remote<C> {
+    // Called where one is dropped; a derived drop is proved anew at each such place.
+    fn drop(self) {
+        let Remote {
+            connector: _connector,
+            watch: _watch,
+            scope: _scope,
+            limits: _limits,
+        } = self;
+    }
 }
 
 /// Returns a GET of a target. No host is named but the machine itself: who connects knows where to.

@@ -2,7 +2,7 @@
 use http_client::LARGEST_BODY;
 
 /// How many bytes of the body of an answer are taken in at most.
-#[derive(Debug, Clone, Copy, PartialEq, Eq)]
+#[derive(Clone, Copy)]
 pub struct Limits {
     /// In an answer to a request of one object, or in one that refuses a watch.
     pub object: u32,

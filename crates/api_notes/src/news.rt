@@ -14,7 +14,7 @@ const OK: u16 = 200;
 const GONE: u16 = 410;
 
 /// What an answer, or who reads it, says.
-#[derive(Debug, Clone, Copy, PartialEq, Eq)]
+#[derive(Clone, Copy)]
 pub(crate) enum News {
     /// The server replies.
     Replied,

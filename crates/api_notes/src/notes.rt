@@ -28,7 +28,7 @@ pub trait Notes {
 }
 
 /// Notes nothing.
-#[derive(Debug, Clone, Copy)]
+#[derive(Clone, Copy)]
 pub struct Silent;
 
 impl Notes for Silent {

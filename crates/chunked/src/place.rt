@@ -1,7 +1,7 @@
 //! Where a reader stands in a body.
 
 /// Where a reader stands in a body in chunks.
-#[derive(Debug, Clone, Copy, PartialEq, Eq)]
+#[derive(Clone, Copy)]
 pub enum BodyPlace {
     /// At the line before a chunk.
     Line,

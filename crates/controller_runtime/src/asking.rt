@@ -28,11 +28,7 @@ const NOT_FOUND: u16 = 404;
 pub fn namesake(key: &Key, kind: Kind) -> Result<Key, AllocError>
     ensures { IfOk result (λ k. key_of k ≡ record (key_of key.now) { kind = kind }) }
 {
-    let Key {
-        kind: _,
-        namespace,
-        name,
-    } = key.try_copy()?;
+    let (namespace, name) = key.try_copy()?.into_texts();
     Ok(Key {
         kind,
         namespace,

@@ -30,7 +30,7 @@ use tcp_client::StoppableClock;
 use wakeups::Stop;
 
 /// Why a run ended.
-#[derive(Debug, Clone, Copy, PartialEq, Eq)]
+#[derive(Clone, Copy)]
 pub enum Ended {
     /// It was to stop.
     Stopped,

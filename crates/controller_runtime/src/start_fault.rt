@@ -9,7 +9,7 @@ use std::alloc::{AllocError, AllocFailed};
 use thiserror::Error;
 
 /// Why a controller is not started. Its text is for who gave the watches.
-#[derive(Debug, Clone, Copy, PartialEq, Eq, Error)]
+#[derive(Debug, Clone, Copy, Error)]
 pub enum StartFault {
     /// There is no such scope as a watch asks for, or no memory.
     #[error("{text}", text = scope_text(*.0))]

@@ -9,7 +9,7 @@ use std::alloc::Global;
 
 /// Objects that a controller follows: those of a kind, in a namespace or in all, and of these all or those with the labels that a selector asks for.
 /// A controller has one watch of a kind at most (`check_watches`).
-#[derive(Debug, Clone, Copy)]
+#[derive(Clone, Copy)]
 pub struct Watch<'a> {
     pub kind: Kind,
     pub namespace: Option<&'a str>,

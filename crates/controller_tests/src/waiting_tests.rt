@@ -10,7 +10,7 @@ use std::thread::Threads;
 use std::time::{Clock, Duration, Instant};
 
 /// What is done while a thread waits.
-#[derive(Debug, Clone, Copy, PartialEq, Eq)]
+#[derive(Clone, Copy)]
 enum Cause {
     Add,
     ComesDue,

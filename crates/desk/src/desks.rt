@@ -10,8 +10,17 @@ use server::Server;
 pub type StorePass = crossbeam_queue::Pass<Server, PassView<Server, StoreEntry>>;
 
 /// A server that threads share: one call at a time has it.
-#[derive(Drop)]
 pub struct Desk<A: Asking> {
     pub(crate) baton: Baton<Server, StoreLaw<A>>,
     pub(crate) window: usize,
+}
+
+impl<A: Asking> Drop for Desk<A> {
+    // Called where one is dropped; a derived drop is proved anew at each such place.
+    fn drop(self) {
+        let Desk {
+            baton: _baton,
+            window: _window,
+        } = self;
+    }
 }

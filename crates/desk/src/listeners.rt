@@ -15,7 +15,7 @@ pub trait Listener {
 }
 
 /// Does nothing when something is written.
-#[derive(Debug, Clone, Copy, Drop)]
+#[derive(Clone, Copy, Drop)]
 pub struct Silent;
 
 impl Listener for Silent {

@@ -8,7 +8,7 @@ use http_request_head::body_length::{is_number, number_of};
 use http_request_head::field::{HeaderField, count, first_value};
 
 /// How the end of a reply's body is known (RFC 9112, Message Body Length).
-#[derive(Debug, Clone, Copy, PartialEq, Eq)]
+#[derive(Clone, Copy)]
 pub enum Framing {
     /// By its length, in bytes.
     Length(usize),

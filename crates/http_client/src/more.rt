@@ -7,7 +7,7 @@ use chunked::Reader;
 use std::io::Read;
 
 /// What comes next of a watch.
-#[derive(Debug, Clone, Copy, PartialEq, Eq)]
+#[derive(Clone, Copy, PartialEq, Eq)]
 pub enum More {
     /// This many bytes of its frames, at the front of the buffer.
     Bytes(usize),

@@ -15,7 +15,7 @@ use std::alloc::Global;
 use std::io::Read;
 
 /// What a server says to who asks for a watch.
-#[derive(Debug, Clone, Copy, PartialEq, Eq)]
+#[derive(Clone, Copy, PartialEq, Eq)]
 pub enum WatchAnswer {
     /// The watch is open: its body is what follows.
     Open,

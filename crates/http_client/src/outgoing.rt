@@ -6,7 +6,7 @@ use spec_http::request_head;
 use std::alloc::{AllocError, Global};
 
 /// A request as it is written (RFC 9112, Message Format).
-#[derive(Debug, Clone, Copy)]
+#[derive(Clone, Copy)]
 pub struct Outgoing<'a> {
     pub method: &'a str,
     pub target: &'a str,

@@ -18,7 +18,7 @@ use std::alloc::{AllocError, Global};
 use std::io::Read;
 
 /// What counts of a reply's head (RFC 9112, Status Line).
-#[derive(Debug, Clone, Copy, PartialEq, Eq)]
+#[derive(Clone, Copy)]
 pub struct ReplyHead {
     /// The status code.
     pub code: u16,

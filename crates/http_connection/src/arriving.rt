@@ -5,7 +5,7 @@ ghost use Rattle.http_connection.specs.Arriving.{IsArriving};
 use std::alloc::Global;
 
 /// What has to come before a request can be whole.
-#[derive(Debug, Clone, Copy, PartialEq, Eq)]
+#[derive(Clone, Copy)]
 pub enum Awaited {
     /// The end of its head.
     HeadEnd,

@@ -15,7 +15,7 @@ use std::io::{ErrorKind, Write};
 pub(crate) const MOST_PIECES: u64 = 2;
 
 /// How far bytes were written.
-#[derive(Debug, Clone, Copy, PartialEq, Eq)]
+#[derive(Clone, Copy)]
 pub enum Sent {
     /// Up to here: to their end, or the writer takes no more now.
     To(usize),

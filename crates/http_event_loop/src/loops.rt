@@ -19,12 +19,23 @@ use std::thread::Threads;
 /// stop.
 ///
 /// No clause says that a loop sees what it is told, since contracts say nothing of what another thread does meanwhile.
-#[derive(Drop)]
 pub struct Loops {
     wakes: Vec<Wakes>,
     at_work: AtWork,
     open: Open,
     is_stopped: AtomicU64,
+}
+
+impl Drop for Loops {
+    // Called where one is dropped; a derived drop is proved anew at each such place.
+    fn drop(self) {
+        let Loops {
+            wakes: _wakes,
+            at_work: _at_work,
+            open: _open,
+            is_stopped: _is_stopped,
+        } = self;
+    }
 }
 
 /// Opens the place of the loop of this number, and how it is reached.

@@ -8,7 +8,7 @@ ghost use Rattle.http_request_head.specs.Fields.{field_seen, IsLength};
 use crate::field::{HeaderField, count, first_value};
 
 /// What a head states of its body's length.
-#[derive(Debug, Clone, Copy, PartialEq, Eq)]
+#[derive(Clone, Copy, PartialEq, Eq)]
 pub enum BodyLength {
     /// Nothing.
     Missing,

@@ -5,7 +5,7 @@ ghost use Rattle.spec_http.specs.Heads.{values_of};
 ghost use Rattle.http_request_head.specs.Fields.{field_seen};
 
 /// A field: a name, and a value without the white space around it (RFC 9112, Field Syntax).
-#[derive(Debug, Clone, Copy)]
+#[derive(Clone, Copy)]
 pub struct HeaderField<'a> {
     pub name: &'a [u8],
     pub value: &'a [u8],

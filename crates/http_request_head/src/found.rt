@@ -2,7 +2,7 @@
 use httparse::spans::RequestSpans;
 
 /// What bytes begin with.
-#[derive(Debug, Clone, Copy, PartialEq, Eq)]
+#[derive(Clone, Copy, PartialEq, Eq)]
 pub enum FoundHead {
     /// A whole head, with where its parts are.
     Whole(RequestSpans),

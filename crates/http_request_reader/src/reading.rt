@@ -111,5 +111,6 @@ pub(crate) fn with_body(
     ensures memory { IfOk result (λ r. r ≡ received.Refused NoMemory → ⊥) }
 {
     let body = &bytes[..opening.body_length];
-    answered(ask(alloc, opening.method, opening.target, opening.query, body))
+    let (method, target) = (opening.method, opening.target);
+    answered(ask(alloc, method, target, opening.into_query(), body))
 }

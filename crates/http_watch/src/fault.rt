@@ -3,7 +3,7 @@ use object_keys::Fault;
 use std::alloc::{AllocError, AllocFailed};
 
 /// Why a watch that has begun is left before its end.
-#[derive(Debug, Clone, Copy, PartialEq, Eq)]
+#[derive(Clone, Copy)]
 pub enum Cut {
     /// The writer failed.
     Device,
@@ -12,7 +12,7 @@ pub enum Cut {
 }
 
 /// Why a watch is not served to its end.
-#[derive(Debug, Drop)]
+#[derive(Drop)]
 pub enum WatchFault {
     /// It is refused, or out of memory as it opens: nothing was written.
     Refused(Fault),

@@ -22,7 +22,6 @@ const MOST_AHEAD: usize = 65_536;
 
 /// The frames with which a watch begins, of which some are made already: those of what is there, and of the bookmark that closes it. It
 /// has the objects until the last of their frames is made.
-#[derive(Drop)]
 pub struct FirstFrames {
     kind: Kind,
     /// The objects whose frames are still to be made.
@@ -31,6 +30,19 @@ pub struct FirstFrames {
     more: bool,
     closing: bool,
     revision: u64,
+}
+
+impl Drop for FirstFrames {
+    // Called where one is dropped; a derived drop is proved anew at each such place.
+    fn drop(self) {
+        let FirstFrames {
+            kind: _kind,
+            objects: _objects,
+            more: _more,
+            closing: _closing,
+            revision: _revision,
+        } = self;
+    }
 }
 
 impl Model for FirstFrames {
@@ -114,12 +126,13 @@ impl FirstFrames {
         ensures { IfOk result (λ f. f ≡ first_frames kind closing begun.revision begun.objects) }
     {
         let more = !begun.objects.is_empty(alloc)?;
+        let revision = begun.revision;
         Ok(FirstFrames {
             kind,
-            objects: begun.objects,
+            objects: begun.into_objects(),
             more,
             closing,
-            revision: begun.revision,
+            revision,
         })
     }
 

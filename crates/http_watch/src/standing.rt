@@ -1,7 +1,7 @@
 //! Where a watch stands.
 
 /// Where a watch stands.
-#[derive(Debug, Clone, Copy, PartialEq, Eq)]
+#[derive(Clone, Copy)]
 pub struct WatchStanding {
     /// The revision up to which all events were given.
     pub revision: u64,

@@ -11,11 +11,21 @@ use std::marker::Model;
 
 /// The objects that deltas made to be there, in the order of their keys, with the revision that the last delta named.
 /// It is seen as a snapshot.
-#[derive(Drop)]
 pub struct Indexed {
     objects: ObjectMap,
     revision: u64,
     alloc: Global,
+}
+
+impl Drop for Indexed {
+    // Called where one is dropped; a derived drop is proved anew at each such place.
+    fn drop(self) {
+        let Indexed {
+            objects: _objects,
+            revision: _revision,
+            alloc: _alloc,
+        } = self;
+    }
 }
 
 impl Model for Indexed {

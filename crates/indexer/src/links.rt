@@ -11,10 +11,20 @@ use shared_map::SharedMap;
 use std::alloc::{AllocError, Global};
 
 /// The uid of an owner, and the key of an object that names it. They go by uid, then key.
-#[derive(PartialEq, Eq, PartialOrd, Ord, Drop)]
+#[derive(PartialEq, Eq, PartialOrd, Ord)]
 pub struct OwnerLink {
     pub uid: String,
     pub key: Key,
+}
+
+impl Drop for OwnerLink {
+    // Called where one is dropped; a derived drop is proved anew at each such place.
+    fn drop(self) {
+        let OwnerLink {
+            uid: _uid,
+            key: _key,
+        } = self;
+    }
 }
 
 /// Returns a link for each owner that the object under a key names by its uid.

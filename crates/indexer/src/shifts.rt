@@ -15,11 +15,21 @@ use reflector::{Delta, SharedObject};
 use std::alloc::{AllocError, Global};
 
 /// A change of one object: what was under a key, and what is there now.
-#[derive(Drop)]
 pub struct Shift {
     pub key: Key,
     pub old: Option<SharedObject>,
     pub new: Option<SharedObject>,
+}
+
+impl Drop for Shift {
+    // Called where one is dropped; a derived drop is proved anew at each such place.
+    fn drop(self) {
+        let Shift {
+            key: _key,
+            old: _old,
+            new: _new,
+        } = self;
+    }
 }
 
 /// Returns whether two objects have different texts.

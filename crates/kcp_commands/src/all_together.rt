@@ -23,7 +23,7 @@ use std::time::Clock;
 use std::{io, thread};
 
 /// Why a server with its controllers ends before its lines do.
-#[derive(Debug, Clone, Copy, PartialEq, Eq)]
+#[derive(Clone, Copy)]
 pub enum AllFault {
     /// It could not serve, or out of memory.
     Serve(ListenFault),

@@ -2,7 +2,7 @@
 use line_service::RunFault;
 
 /// Why a relay ended before the end of its lines.
-#[derive(Debug, Clone, Copy, PartialEq, Eq)]
+#[derive(Clone, Copy)]
 pub enum RelayFault {
     /// A line could not be read or its reply not be written, or there was no memory.
     Run(RunFault),

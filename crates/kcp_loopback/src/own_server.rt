@@ -84,7 +84,10 @@ impl<'a, R: Wait + Clock, C: Connect + Drop> OwnServer<'a, R, C> {
     {
         match moment(self.rt) {
             Some(moment) => answer_of(alloc, self.seat.call(alloc, request, moment)),
-            None => Answer::NotSent,
+            None => {
+                drop(request);
+                Answer::NotSent
+            }
         }
     }
 

@@ -19,7 +19,6 @@ const WELL: u64 = 0;
 
 /// Whether a server is there, as all who connect to it have found. Once it was reached and then refuses a connection it has ended: what comes
 /// after it is another server, even where it comes at once, and knows nothing of what this one was asked.
-#[derive(Drop)]
 pub struct Reach {
     /// `UNREACHED`, `REACHED` or `GONE`.
     found: AtomicU64,
@@ -29,6 +28,18 @@ pub struct Reach {
     refusals: Refusals,
     /// Whether it refuses writes as conflicts again and again.
     pub(crate) strife: Strife,
+}
+
+impl Drop for Reach {
+    // Called where one is dropped; a derived drop is proved anew at each such place.
+    fn drop(self) {
+        let Reach {
+            found: _found,
+            said: _said,
+            refusals: _refusals,
+            strife: _strife,
+        } = self;
+    }
 }
 
 impl Reach {

@@ -13,7 +13,7 @@ const NONE_FOR_PROCESS: i32 = 24;
 const NONE_ON_MACHINE: i32 = 23;
 
 /// What keeps who asks a server from an answer that says something.
-#[derive(Debug, Clone, Copy, PartialEq, Eq)]
+#[derive(Clone, Copy)]
 pub enum Trouble {
     /// No connection can be made.
     Unreachable,

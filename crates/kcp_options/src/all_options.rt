@@ -6,7 +6,7 @@ use crate::setting::Setting;
 use crate::words::said_or;
 
 /// What `kcp all` is asked.
-#[derive(Clone, Copy, Debug, PartialEq, Eq)]
+#[derive(Clone, Copy)]
 pub struct AllOptions {
     /// The port to listen on; with 0 the system takes a free one.
     pub port: u16,

@@ -8,7 +8,7 @@ use crate::setting::Setting;
 use crate::words::are_options;
 
 /// What the program is asked.
-#[derive(Clone, Copy, Debug, PartialEq, Eq)]
+#[derive(Clone, Copy)]
 pub enum Subcommand {
     /// Request lines are answered.
     Replay,

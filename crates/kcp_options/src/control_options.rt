@@ -6,7 +6,7 @@ use crate::setting::Setting;
 use crate::words::{said, said_or};
 
 /// What `kcp control` is asked.
-#[derive(Clone, Copy, Debug, PartialEq, Eq)]
+#[derive(Clone, Copy)]
 pub struct ControlOptions {
     /// The port of the loopback address where the server listens.
     pub port: u16,

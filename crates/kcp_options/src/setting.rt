@@ -15,7 +15,7 @@ pub const MOST_THREADS: usize = 128;
 pub const MOST_WORKERS: usize = 64;
 
 /// An option that takes a number.
-#[derive(Clone, Copy, Debug, PartialEq, Eq)]
+#[derive(Clone, Copy)]
 pub enum Setting {
     /// The port to listen on; with 0 the system takes a free one.
     Port,

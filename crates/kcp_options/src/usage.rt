@@ -3,7 +3,7 @@ ghost use Rattle.std.specs.Prelude.{◌≡◌, map, string_bytes};
 ghost use Rattle.kcp_options.specs.Usages.{usage_asked, usage_of_command};
 
 /// What a usage text is about.
-#[derive(Clone, Copy, Debug, PartialEq, Eq)]
+#[derive(Clone, Copy)]
 pub enum Usage {
     /// The program, with its commands.
     Program,

@@ -5,13 +5,25 @@ use std::alloc::{AllocError, Global};
 use std::marker::Model;
 
 /// The keys that wait and those in workers' hands, the keys with a delay, the failures in a row, and the time in milliseconds.
-#[derive(Drop)]
 pub struct KeyedBoard<K: Named> {
     queue: KeyedQueue<K>,
     delays: KeyedDelays<K>,
     backoff: KeyedBackoff<K>,
     time: u64,
     is_shut: bool,
+}
+
+impl<K: Named> Drop for KeyedBoard<K> {
+    // Called where one is dropped; a derived drop is proved anew at each such place.
+    fn drop(self) {
+        let KeyedBoard {
+            queue: _queue,
+            delays: _delays,
+            backoff: _backoff,
+            time: _time,
+            is_shut: _is_shut,
+        } = self;
+    }
 }
 
 impl<K: Named> Model for KeyedBoard<K> {

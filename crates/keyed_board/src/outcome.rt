@@ -1,7 +1,7 @@
 //! How a worker's turn went.
 
 /// How a worker's turn with a key went.
-#[derive(Debug, Clone, Copy, PartialEq, Eq)]
+#[derive(Clone, Copy)]
 pub enum Outcome {
     /// All is done.
     Done,

@@ -6,13 +6,25 @@ use std::marker::Model;
 
 /// The keys that wait, first come first; those that are to be processed; those in workers' hands.
 /// The list has room for each key in a worker's hands, so that `done` can put it back.
-#[derive(Drop)]
 pub struct KeyedQueue<K: Named> {
     ready: VecDeque<K>,
     dirty: BTreeSet<K>,
     processing: BTreeSet<K>,
     is_shut: bool,
     alloc: Global,
+}
+
+impl<K: Named> Drop for KeyedQueue<K> {
+    // Called where one is dropped; a derived drop is proved anew at each such place.
+    fn drop(self) {
+        let KeyedQueue {
+            ready: _ready,
+            dirty: _dirty,
+            processing: _processing,
+            is_shut: _is_shut,
+            alloc: _alloc,
+        } = self;
+    }
 }
 
 impl<K: Named> Model for KeyedQueue<K> {

@@ -36,7 +36,7 @@ pub enum Fate {
 }
 
 /// Why an object is not deleted.
-#[derive(Debug, Drop)]
+#[derive(Drop)]
 pub enum DeleteFault {
     /// A precondition is not met.
     Mismatch(Mismatch),

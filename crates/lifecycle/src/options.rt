@@ -15,7 +15,6 @@ use spec_api::schemas::{Schema, Shape};
 use std::alloc::{AllocError, Global};
 
 /// What a delete asks for beside its object (Kubernetes API reference, DeleteOptions).
-#[derive(Debug, Drop)]
 pub struct DeleteOptions {
     /// The uid that the object has to have.
     pub uid: Option<String>,
@@ -23,6 +22,17 @@ pub struct DeleteOptions {
     pub version: Option<String>,
     /// What becomes of the object's dependents; with none, its finalizers stay as they are.
     pub policy: Option<Policy>,
+}
+
+impl Drop for DeleteOptions {
+    // Called where one is dropped; a derived drop is proved anew at each such place.
+    fn drop(self) {
+        let DeleteOptions {
+            uid: _uid,
+            version: _version,
+            policy: _policy,
+        } = self;
+    }
 }
 
 impl DeleteOptions {

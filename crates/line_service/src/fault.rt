@@ -1,7 +1,7 @@
 //! Why a run ends before its input does.
 
 /// Why a run ended before the end of its input.
-#[derive(Debug, Clone, Copy, PartialEq, Eq)]
+#[derive(Clone, Copy, PartialEq, Eq)]
 pub enum RunFault {
     /// A line could not be read: the reader failed, and its flag is up.
     Read,

@@ -11,10 +11,19 @@ use std::alloc::{AllocError, Global};
 use std::marker::Model;
 
 /// A session, and the journal of all that has happened at it.
-#[derive(Drop)]
 pub struct RecordedSession {
     session: Session,
     journal: Vec<JournalEntry>,
+}
+
+impl Drop for RecordedSession {
+    // Called where one is dropped; a derived drop is proved anew at each such place.
+    fn drop(self) {
+        let RecordedSession {
+            session: _session,
+            journal: _journal,
+        } = self;
+    }
 }
 
 impl Model for RecordedSession {

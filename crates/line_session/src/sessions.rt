@@ -26,11 +26,21 @@ use std::alloc::{AllocError, Global};
 use std::marker::Model;
 
 /// A server and the moment that it is, over which lines are answered.
-#[derive(Drop)]
 pub struct Session {
     server: Server,
     moment: Moment,
     routes: Routes,
+}
+
+impl Drop for Session {
+    // Called where one is dropped; a derived drop is proved anew at each such place.
+    fn drop(self) {
+        let Session {
+            server: _server,
+            moment: _moment,
+            routes: _routes,
+        } = self;
+    }
 }
 
 impl Model for Session {

@@ -12,7 +12,7 @@ const LONGEST_PAUSE: u64 = 30_000;
 const COUNTED_MILLISECONDS: u64 = 120_000;
 
 /// How many tries failed in a row, and when the last of them did, in milliseconds.
-#[derive(Debug, Clone, Copy, PartialEq, Eq)]
+#[derive(Clone, Copy)]
 pub struct Pauses {
     pub failures: u32,
     pub last: u64,

@@ -25,7 +25,7 @@ const TOO_MANY_REQUESTS: u16 = 429;
 const NOT_YET: u16 = 504;
 
 /// What a server's answer says of whether it is the one that was followed.
-#[derive(Debug, Clone, Copy, PartialEq, Eq)]
+#[derive(Clone, Copy)]
 pub enum Recognized {
     /// It is.
     Same,

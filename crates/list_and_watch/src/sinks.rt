@@ -9,7 +9,7 @@ use indexer::{Indexed, Shift};
 use std::alloc::AllocError;
 
 /// Whether a follower goes on.
-#[derive(Debug, Clone, Copy, PartialEq, Eq)]
+#[derive(Clone, Copy)]
 pub enum Onward {
     /// It goes on.
     GoOn,

@@ -8,7 +8,7 @@ use spec_client_go::reflectors::End;
 const SHORT_MILLISECONDS: u64 = 1_000;
 
 /// What came of a list or a watch.
-#[derive(Debug, Clone, Copy, PartialEq, Eq)]
+#[derive(Clone, Copy)]
 pub enum Tried {
     /// It gave something: the next is tried at once.
     Done,
@@ -19,7 +19,7 @@ pub enum Tried {
 }
 
 /// What came of a piece of a watch.
-#[derive(Debug, Clone, Copy, PartialEq, Eq)]
+#[derive(Clone, Copy)]
 pub enum Piece {
     /// It was taken in, and the watch goes on.
     GoesOn,
@@ -45,7 +45,7 @@ impl Piece {
 }
 
 /// Why a watch that was open is left.
-#[derive(Debug, Clone, Copy, PartialEq, Eq)]
+#[derive(Clone, Copy)]
 pub enum Left {
     /// The server ended it, and it gave something or not.
     Ended(bool),

@@ -26,10 +26,19 @@ use std::marker::Model;
 const GREATEST_GENERATION: u64 = 9_007_199_254_740_991;
 
 /// An object of a kind: a JSON object in which each number is a whole number.
-#[derive(Drop)]
 pub struct Object {
     kind: Kind,
     value: Value,
+}
+
+impl Drop for Object {
+    // Called where one is dropped; a derived drop is proved anew at each such place.
+    fn drop(self) {
+        let Object {
+            kind: _kind,
+            value: _value,
+        } = self;
+    }
 }
 
 impl Model for Object {
@@ -110,7 +119,7 @@ impl Object {
         ensures no_float { has_float (view result) ≡ false }
         ensures object { is_some (as_object (view result)) ≡ true }
     {
-        let Object { value, .. } = self;
+        let Object { kind: _, value } = self;
         value
     }
 

@@ -19,11 +19,21 @@ use std::marker::Model;
 
 /// An object whose metadata is being written: its metadata stands apart, so that setting a member of it copies nothing
 /// else of the object.
-#[derive(Drop)]
 pub struct Draft {
     kind: Kind,
     rest: Map<String, Value>,
     metadata: Map<String, Value>,
+}
+
+impl Drop for Draft {
+    // Called where one is dropped; a derived drop is proved anew at each such place.
+    fn drop(self) {
+        let Draft {
+            kind: _kind,
+            rest: _rest,
+            metadata: _metadata,
+        } = self;
+    }
 }
 
 impl Model for Draft {

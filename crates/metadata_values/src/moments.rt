@@ -12,7 +12,7 @@ use std::marker::Model;
 const FORM: [u8; 20] = *b"0000-00-00T00:00:00Z";
 
 /// A second of a day of the calendar, as its text `YYYY-MM-DDTHH:MM:SSZ`.
-#[derive(Clone, Copy, Debug, PartialEq, Eq)]
+#[derive(Clone, Copy)]
 pub struct Moment {
     bytes: [u8; 20],
 }

@@ -7,7 +7,7 @@ ghost use Rattle.metadata_values.specs.Stopwatches.{going};
 use std::time::{Duration, Instant};
 
 /// How long a clock went on, as it was seen now and then. Where it was seen to fall back nothing has passed, and it counts on from there.
-#[derive(Debug, Clone, Copy, PartialEq, Eq)]
+#[derive(Clone, Copy)]
 pub struct Stopwatch {
     seen: Option<Instant>,
     passed: Duration,

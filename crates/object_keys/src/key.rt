@@ -7,11 +7,22 @@ use std::alloc::AllocError;
 
 /// What one object at a time is called: its kind, its namespace and its name. Keys go by kind, then namespace, then
 /// name, the texts in byte order.
-#[derive(Debug, PartialEq, Eq, PartialOrd, Ord, Hash, Drop)]
+#[derive(Debug, PartialEq, Eq, PartialOrd, Ord, Hash)]
 pub struct Key {
     pub kind: Kind,
     pub namespace: String,
     pub name: String,
+}
+
+impl Drop for Key {
+    // Called where one is dropped; a derived drop is proved anew at each such place.
+    fn drop(self) {
+        let Key {
+            kind: _kind,
+            namespace: _namespace,
+            name: _name,
+        } = self;
+    }
 }
 
 impl Key {
@@ -24,5 +35,17 @@ impl Key {
             namespace: self.namespace.clone()?,
             name: self.name.clone()?,
         })
+    }
+
+    /// Gives up the namespace and the name.
+    pub fn into_texts(self) -> (String, String)
+        ensures { result ≡ (self.namespace, self.name) }
+    {
+        let Key {
+            kind: _,
+            namespace,
+            name,
+        } = self;
+        (namespace, name)
     }
 }

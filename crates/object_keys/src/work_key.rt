@@ -7,7 +7,7 @@ use spec_client_go::controller::Controller;
 use std::alloc::AllocError;
 
 /// A work key: the controller that is to look, and the object that it is to look at. They are ordered by controller, then key.
-#[derive(Debug, PartialEq, Eq, PartialOrd, Ord, Drop)]
+#[derive(PartialEq, Eq, PartialOrd, Ord, Drop)]
 pub struct WorkKey {
     pub controller: Controller,
     pub key: Key,

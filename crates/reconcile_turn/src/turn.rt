@@ -20,7 +20,6 @@ use work_board::{Observation, Owner};
 
 /// A worker's turn: the key in its hands, what it has seen and read live, and what it has issued of its plan. It is seen as the
 /// turn of the definitions. The plan is made once, as soon as the last sight or live read is in.
-#[derive(Drop)]
 pub struct Turn {
     work_key: WorkKey,
     sights: Vec<Sight>,
@@ -30,6 +29,22 @@ pub struct Turn {
     answers: Vec<Arc<CommandAnswer, Global>>,
     is_accepted: bool,
     alloc: Global,
+}
+
+impl Drop for Turn {
+    // Called where one is dropped; a derived drop is proved anew at each such place.
+    fn drop(self) {
+        let Turn {
+            work_key: _work_key,
+            sights: _sights,
+            reads: _reads,
+            stage: _stage,
+            has_expected: _has_expected,
+            answers: _answers,
+            is_accepted: _is_accepted,
+            alloc: _alloc,
+        } = self;
+    }
 }
 
 impl Model for Turn {

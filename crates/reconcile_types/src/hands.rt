@@ -8,20 +8,40 @@ use meta::Object;
 use object_keys::{Key, PerKind};
 
 /// A live read, and what it found.
-#[derive(Drop)]
 pub struct Read {
     pub key: Key,
     pub found: Option<Object>,
 }
 
+impl Drop for Read {
+    // Called where one is dropped; a derived drop is proved anew at each such place.
+    fn drop(self) {
+        let Read {
+            key: _key,
+            found: _found,
+        } = self;
+    }
+}
+
 /// What a plan is made of: the key of the turn, the looks that were taken, whether all pods that were expected have been
 /// seen, and the live reads.
-#[derive(Drop)]
 pub struct Hand<S> {
     pub key: Key,
     pub looks: PerKind<Option<S>>,
     pub is_satisfied: bool,
     pub reads: Vec<Read>,
+}
+
+impl<S: Drop> Drop for Hand<S> {
+    // Called where one is dropped; a derived drop is proved anew at each such place.
+    fn drop(self) {
+        let Hand {
+            key: _key,
+            looks: _looks,
+            is_satisfied: _is_satisfied,
+            reads: _reads,
+        } = self;
+    }
 }
 
 /// Returns what the first live read of a key found. It takes no memory.

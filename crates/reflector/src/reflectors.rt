@@ -16,7 +16,6 @@ use std::marker::Model;
 /// What is known of the objects of one kind, of all or of those that the server is asked for: the revision up to which lists and
 /// watches were taken in, the bytes of a frame that is not whole yet, and the initial events of a stream that are not closed yet. The
 /// objects are with whoever applies the deltas.
-#[derive(Drop)]
 pub struct Reflector {
     kind: Kind,
     revision: u64,
@@ -24,6 +23,20 @@ pub struct Reflector {
     buffered: Vec<u8>,
     is_streaming: bool,
     initial: Initial,
+}
+
+impl Drop for Reflector {
+    // Called where one is dropped; a derived drop is proved anew at each such place.
+    fn drop(self) {
+        let Reflector {
+            kind: _kind,
+            revision: _revision,
+            phase: _phase,
+            buffered: _buffered,
+            is_streaming: _is_streaming,
+            initial: _initial,
+        } = self;
+    }
 }
 
 impl Model for Reflector {

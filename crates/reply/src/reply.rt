@@ -5,7 +5,7 @@ use object_keys::Fault;
 use std::alloc::{AllocError, Global};
 
 /// What a client is sent: an HTTP status code, and a body.
-#[derive(Debug, Drop)]
+#[derive(Drop)]
 pub struct Reply {
     /// The HTTP status code.
     pub code: u16,

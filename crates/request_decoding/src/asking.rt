@@ -101,7 +101,7 @@ fn ask_collection(
     ensures { Asks (asked method (collection kind (option_map now namespace.entry)) (query_seen query) body.now) result }
 {
     match method {
-        Method::Get => read_collection(alloc, kind, namespace, query.collection),
+        Method::Get => read_collection(alloc, kind, namespace, query.into_collection()),
         Method::Post => create(alloc, kind, namespace, body),
         _ => Err(Fault::MethodNotAllowed),
     }

@@ -5,7 +5,7 @@ ghost use Rattle.request_encoding.specs.declared.faults.ScopeFault.TheVariants.{
 use std::alloc::AllocError;
 
 /// Why there is no such scope.
-#[derive(Clone, Copy, Debug, PartialEq, Eq, Drop)]
+#[derive(Clone, Copy, Debug, Drop)]
 pub enum ScopeFault {
     /// No namespace can be called so.
     Namespace,

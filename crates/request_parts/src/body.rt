@@ -20,7 +20,7 @@ pub fn is_too_long(text: &[u8]) -> bool
 }
 
 /// Why a body is not read.
-#[derive(Clone, Copy, Debug, PartialEq, Eq)]
+#[derive(Clone, Copy)]
 pub enum BodyFault {
     /// It is no JSON in UTF-8.
     NotJson,

@@ -16,7 +16,7 @@ use std::alloc::{AllocError, Global};
 use std::borrow::CowStr;
 
 /// Why a request is refused before its query is read, by the first check that it does not pass.
-#[derive(Clone, Copy, Debug, PartialEq, Eq)]
+#[derive(Clone, Copy)]
 pub enum CheckFault {
     /// The path names nothing that is served.
     NoSuchPath,

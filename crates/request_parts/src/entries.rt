@@ -2,7 +2,7 @@
 use spec_api::kinds::Group;
 
 /// How a path goes on below the start of its group's paths.
-#[derive(Clone, Copy, Debug, PartialEq, Eq)]
+#[derive(Clone, Copy)]
 pub enum Layout {
     /// `{resource}`
     All,
@@ -15,7 +15,7 @@ pub enum Layout {
 }
 
 /// Where a route of the table leads.
-#[derive(Clone, Copy, Debug, PartialEq, Eq)]
+#[derive(Clone, Copy)]
 pub struct RouteEntry {
     pub group: Group,
     pub layout: Layout,

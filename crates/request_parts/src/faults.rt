@@ -9,7 +9,7 @@ use spec_api::refusals::Part;
 use std::alloc::AllocError;
 
 /// Why a query is not read.
-#[derive(Clone, Copy, Debug, PartialEq, Eq)]
+#[derive(Clone, Copy)]
 pub enum QueryFault {
     /// It is not understood, or not served so far.
     BadQuery,
@@ -20,7 +20,7 @@ pub enum QueryFault {
 }
 
 /// Why a member of a query, which is no page token, is not read.
-#[derive(Clone, Copy, Debug, PartialEq, Eq)]
+#[derive(Clone, Copy)]
 pub enum MemberFault {
     /// It is not understood.
     BadQuery,

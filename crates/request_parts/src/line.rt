@@ -11,7 +11,7 @@ use metadata_values::revisions::read_revision;
 use spec_api::methods::Method;
 
 /// What a line says.
-#[derive(Clone, Copy, Debug, PartialEq, Eq)]
+#[derive(Clone, Copy)]
 pub enum Line<'l> {
     /// A request: its method, its target, which is not empty, and its body.
     Ask {

@@ -19,12 +19,34 @@ use spec_api::policies::StatedPolicy;
 use std::alloc::{AllocError, Global};
 
 /// What a query adds to a request.
-#[derive(Drop)]
 pub struct Query {
     /// Which objects of a collection are asked for, and what of them.
     pub collection: Collection,
     /// What becomes of the dependents of a deleted object, if the query names it.
     pub policy: StatedPolicy,
+}
+
+impl Drop for Query {
+    // Called where one is dropped; a derived drop is proved anew at each such place.
+    fn drop(self) {
+        let Query {
+            collection: _collection,
+            policy: _policy,
+        } = self;
+    }
+}
+
+impl Query {
+    /// Gives up which objects of a collection are asked for.
+    pub fn into_collection(self) -> Collection
+        ensures { result ≡ self.collection }
+    {
+        let Query {
+            collection,
+            policy: _,
+        } = self;
+        collection
+    }
 }
 
 /// Returns the query of a list or a watch.

@@ -9,7 +9,7 @@ use metadata_values::is_namespace;
 use spec_api::kinds::{Group, Kind};
 
 /// What a path names.
-#[derive(Clone, Copy, Debug, PartialEq, Eq)]
+#[derive(Clone, Copy)]
 pub enum Target<'p> {
     /// The objects of a kind, in one namespace or in all.
     Collection(Kind, Option<&'p str>),

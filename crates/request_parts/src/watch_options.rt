@@ -11,7 +11,7 @@ use spec_api::versions::Start;
 use std::alloc::Global;
 
 /// What a watch is asked to show.
-#[derive(Clone, Copy, Debug, PartialEq, Eq)]
+#[derive(Clone, Copy)]
 pub struct WatchOptions {
     /// How it begins.
     pub start: Start,

@@ -5,7 +5,7 @@ ghost use Rattle.selector.specs.declared.faults.PartFault.TheVariants.{NoMemory}
 use std::alloc::{AllocError, AllocFailed};
 
 /// Why no selector was read.
-#[derive(Clone, Copy, Debug, PartialEq, Eq, Drop)]
+#[derive(Clone, Copy, Drop)]
 pub enum SelectorFault {
     /// A text that is of no form that is read, or a value with a member of a wrong type: a bad request.
     Malformed,
@@ -16,7 +16,7 @@ pub enum SelectorFault {
 }
 
 /// Why a part was not read.
-#[derive(Clone, Copy, Debug, PartialEq, Eq, Drop)]
+#[derive(Clone, Copy, Drop)]
 pub enum PartFault {
     Refused,
     NoMemory,

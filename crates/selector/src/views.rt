@@ -11,7 +11,6 @@ use spec_api::kinds::Kind;
 use std::alloc::{AllocError, Global};
 
 /// What a list or a watch asks for (Kubernetes API Concepts, Resource URIs; Labels and Selectors; Field Selectors).
-#[derive(Drop)]
 pub struct View {
     pub kind: Kind,
     /// The namespace that is asked for; with none, all are.
@@ -20,6 +19,18 @@ pub struct View {
     pub labels: Selector,
     /// What the objects' fields have to meet.
     pub fields: Fields,
+}
+
+impl Drop for View {
+    // Called where one is dropped; a derived drop is proved anew at each such place.
+    fn drop(self) {
+        let View {
+            kind: _kind,
+            namespace: _namespace,
+            labels: _labels,
+            fields: _fields,
+        } = self;
+    }
 }
 
 fn copied(text: Option<&String>) -> Result<Option<String>, AllocError>

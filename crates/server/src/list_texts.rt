@@ -9,7 +9,6 @@ use std::marker::Model;
 use store::ViewSnapshot;
 
 /// The text of a page of a list, of which a beginning may be made already. It has the objects until the last of their items is made.
-#[derive(Drop)]
 pub struct ListText {
     kind: Kind,
     /// What comes before the items.
@@ -24,6 +23,21 @@ pub struct ListText {
     closing: String,
     /// How long all of this is.
     len: usize,
+}
+
+impl Drop for ListText {
+    // Called where one is dropped; a derived drop is proved anew at each such place.
+    fn drop(self) {
+        let ListText {
+            kind: _kind,
+            before: _before,
+            objects: _objects,
+            left: _left,
+            later: _later,
+            closing: _closing,
+            len: _len,
+        } = self;
+    }
 }
 
 impl Model for ListText {

@@ -10,10 +10,19 @@ use watch_cache::{Cache, Caches, Change};
 
 /// What is there, with one revision over all kinds, and the last changes of each kind, from which watches and lists of
 /// earlier revisions are served. A change that is no longer recorded is answered as expired.
-#[derive(Drop)]
 pub struct Server {
     pub(crate) store: Store,
     pub(crate) caches: Caches,
+}
+
+impl Drop for Server {
+    // Called where one is dropped; a derived drop is proved anew at each such place.
+    fn drop(self) {
+        let Server {
+            store: _store,
+            caches: _caches,
+        } = self;
+    }
 }
 
 impl Model for Server {

@@ -14,11 +14,21 @@ pub type BoardPass<K> = crossbeam_queue::Pass<
 >;
 
 /// A board that threads share: one call at a time has it.
-#[derive(Drop)]
 pub struct SharedKeyedBoard<K: Named> {
     pub(crate) baton: Baton<KeyedBoard<K>, BoardLaw<K>>,
     /// Rings when a key may wait, and at the shut-down.
     pub(crate) keys: Bell,
     /// Rings when a key was delayed, and at the shut-down.
     pub(crate) delays: Bell,
+}
+
+impl<K: Named> Drop for SharedKeyedBoard<K> {
+    // Called where one is dropped; a derived drop is proved anew at each such place.
+    fn drop(self) {
+        let SharedKeyedBoard {
+            baton: _baton,
+            keys: _keys,
+            delays: _delays,
+        } = self;
+    }
 }

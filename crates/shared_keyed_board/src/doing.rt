@@ -2,7 +2,7 @@
 use keyed_board::Outcome;
 
 /// What a call does to the board that its pass holds.
-#[derive(Debug, Clone, Copy, PartialEq, Eq)]
+#[derive(Clone, Copy)]
 pub(crate) enum Doing {
     Nothing,
     Adds,
@@ -11,7 +11,7 @@ pub(crate) enum Doing {
 }
 
 /// What a call does to the board with one key.
-#[derive(Debug, Clone, Copy, PartialEq, Eq)]
+#[derive(Clone, Copy)]
 pub(crate) enum KeyDoing {
     Adds,
     AddsAfter(u64),

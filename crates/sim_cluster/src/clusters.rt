@@ -21,7 +21,7 @@ pub struct Cluster {
 }
 
 impl Drop for Cluster {
-    // A derived drop is proved anew at each place where a cluster is dropped; this one is called there.
+    // Called where one is dropped; a derived drop is proved anew at each such place.
     fn drop(self) {
         let Cluster {
             recorded: _recorded,

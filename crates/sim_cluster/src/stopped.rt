@@ -1,7 +1,7 @@
 //! Runs that did not come to their end.
 
 /// Why not all steps were taken: after so many the next one ran out of memory.
-#[derive(Debug, Clone, Copy, PartialEq, Eq)]
+#[derive(Clone, Copy)]
 pub struct Stopped {
     /// How many steps were taken.
     pub taken: usize,

@@ -24,7 +24,6 @@ use std::marker::Model;
 
 /// A link, where a watch is open; a reflector; what is published, and the deltas that wait to be; the published changes that are
 /// still to be handled, the oldest first; and whether the first list was published.
-#[derive(Drop)]
 pub struct SimulatedFollower {
     kind: Kind,
     link: Option<Link>,
@@ -33,6 +32,21 @@ pub struct SimulatedFollower {
     pending: Vec<Delta>,
     unhandled: VecDeque<Notification>,
     has_listed: bool,
+}
+
+impl Drop for SimulatedFollower {
+    // Called where one is dropped; a derived drop is proved anew at each such place.
+    fn drop(self) {
+        let SimulatedFollower {
+            kind: _kind,
+            link: _link,
+            reflector: _reflector,
+            published: _published,
+            pending: _pending,
+            unhandled: _unhandled,
+            has_listed: _has_listed,
+        } = self;
+    }
 }
 
 impl Model for SimulatedFollower {

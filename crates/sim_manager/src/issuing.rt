@@ -83,10 +83,13 @@ fn deliver(
                 write: answered.write,
             })
         }
-        Delivery::Dropped => Ok(Answered {
-            answer: CommandAnswer::Lost,
-            write: None,
-        }),
+        Delivery::Dropped => {
+            drop(request);
+            Ok(Answered {
+                answer: CommandAnswer::Lost,
+                write: None,
+            })
+        }
     }
 }
 

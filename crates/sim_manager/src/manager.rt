@@ -16,7 +16,7 @@ pub struct Manager {
 }
 
 impl Drop for Manager {
-    // A derived drop is proved anew at each place where a manager is dropped; this one is called there.
+    // Called where one is dropped; a derived drop is proved anew at each such place.
     fn drop(self) {
         let Manager {
             board: _board,

@@ -17,7 +17,7 @@ pub struct ToldOutcome {
 }
 
 impl Drop for ToldOutcome {
-    // A derived drop is proved anew, for each kind of outcome, at each place where one is dropped; this one is called there.
+    // Called where one is dropped; a derived drop is proved anew at each such place.
     fn drop(self) {
         let ToldOutcome {
             outcome: _outcome,

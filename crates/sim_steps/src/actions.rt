@@ -7,7 +7,7 @@ use crate::words::{is, kind};
 use spec_api::kinds::Kind;
 
 /// Whether a command reaches the server and its answer the worker.
-#[derive(Debug, Clone, Copy, PartialEq, Eq)]
+#[derive(Clone, Copy)]
 pub enum Delivery {
     /// Both do.
     Delivered,
@@ -18,7 +18,7 @@ pub enum Delivery {
 }
 
 /// What a worker does next.
-#[derive(Debug, Clone, Copy, PartialEq, Eq)]
+#[derive(Clone, Copy)]
 pub enum Action {
     /// Takes a key, and begins a turn.
     Take,

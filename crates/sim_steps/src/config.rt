@@ -13,7 +13,7 @@ const GREATEST_WINDOW: u64 = 65_536;
 const MOST_WORKERS: u64 = 64;
 
 /// The sizes of a simulation, and how its followers begin.
-#[derive(Debug, Clone, Copy, PartialEq, Eq)]
+#[derive(Clone, Copy)]
 pub struct Config {
     /// How many changes of each kind the server records.
     pub window: usize,

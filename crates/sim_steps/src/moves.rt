@@ -4,7 +4,7 @@ ghost use Rattle.std.specs.Prelude.{◌≡◌, option_map};
 use crate::words::{is, number};
 
 /// What a follower and its link do in one step.
-#[derive(Debug, Clone, Copy, PartialEq, Eq)]
+#[derive(Clone, Copy)]
 pub enum Move {
     /// The present list is answered and taken in.
     List,

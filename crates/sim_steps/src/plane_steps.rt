@@ -7,7 +7,7 @@ use crate::words::{Words, is, kind, number};
 use spec_api::kinds::Kind;
 
 /// One atomic step of one actor, controllers among them.
-#[derive(Debug, Clone, Copy)]
+#[derive(Clone, Copy)]
 pub enum PlaneStep<'t> {
     /// A step of the cluster.
     InCluster(Step<'t>),

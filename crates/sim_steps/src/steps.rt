@@ -10,7 +10,7 @@ use metadata_values::revisions::read_revision;
 use spec_api::kinds::Kind;
 
 /// One atomic step of one actor.
-#[derive(Debug, Clone, Copy)]
+#[derive(Clone, Copy)]
 pub enum Step<'t> {
     /// The server reads a line, which asks or sets the moment.
     Request(&'t [u8]),

@@ -1,7 +1,7 @@
 //! The kinds that are served, and the API groups that they belong to.
 
 /// A group of kinds, whose paths begin alike (Kubernetes API Overview, API groups).
-#[derive(Clone, Copy, Debug, PartialEq, Eq)]
+#[derive(Clone, Copy)]
 pub enum Group {
     /// The group without a name, under `/api/v1`.
     Core,

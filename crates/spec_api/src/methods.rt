@@ -1,7 +1,7 @@
 //! Methods of requests.
 
 /// A method that the API uses (Kubernetes API Concepts, API verbs).
-#[derive(Clone, Copy, Debug, PartialEq, Eq)]
+#[derive(Clone, Copy)]
 pub enum Method {
     Get,
     Post,

@@ -2,7 +2,7 @@
 
 /// What becomes of an object's dependents, by the finalizer that its deletion waits for (Kubernetes, Garbage
 /// Collection, Cascading deletion).
-#[derive(Clone, Copy, Debug)]
+#[derive(Clone, Copy)]
 pub enum Policy {
     /// They are left, without the reference to their owner: `orphan`.
     Orphan,

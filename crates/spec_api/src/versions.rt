@@ -21,7 +21,7 @@ pub enum Match {
 }
 
 /// How a watch begins (Kubernetes API Concepts, Semantics for watch; Streaming lists).
-#[derive(Clone, Copy, Debug, PartialEq, Eq)]
+#[derive(Clone, Copy)]
 pub enum Start {
     /// After this revision.
     After(u64),

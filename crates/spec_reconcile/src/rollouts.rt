@@ -1,7 +1,7 @@
 //! The numbers of a rollout.
 
 /// How far a rolling update goes (Kubernetes API reference, RollingUpdateDeployment).
-#[derive(Clone, Copy, Debug, PartialEq, Eq)]
+#[derive(Clone, Copy)]
 pub struct Pace {
     /// How many pods are wanted.
     pub wanted: u64,
@@ -12,7 +12,7 @@ pub struct Pace {
 }
 
 /// The pods of a ReplicaSet, by its own numbers.
-#[derive(Clone, Copy, Debug, PartialEq, Eq)]
+#[derive(Clone, Copy)]
 pub struct Tally {
     /// How many it is to have.
     pub replicas: u64,
@@ -21,7 +21,7 @@ pub struct Tally {
 }
 
 /// What the status of a Deployment says (Kubernetes API reference, DeploymentStatus).
-#[derive(Clone, Copy, Debug, PartialEq, Eq)]
+#[derive(Clone, Copy)]
 pub struct Summary {
     /// The pods of all its sets.
     pub replicas: u128,

@@ -1,7 +1,7 @@
 //! How the owners of objects stand.
 
 /// How an owner stands, as it is read live.
-#[derive(Clone, Copy, Debug, PartialEq, Eq)]
+#[derive(Clone, Copy)]
 pub enum Standing {
     /// It is there, or of a kind that is not served.
     Solid,

@@ -1,7 +1,7 @@
 //! How what follows a server begins.
 
 /// How a follower takes in at first all that is there.
-#[derive(Clone, Copy, Debug, PartialEq, Eq)]
+#[derive(Clone, Copy)]
 pub enum InitialSync {
     /// By a list.
     List,

@@ -11,12 +11,22 @@ use std::marker::Model;
 
 /// What a view shows after a place at a moment, whatever is written after it: it shares the objects with the store. It is seen as the view and
 /// the members after that place, in the order of keys.
-#[derive(Drop)]
 pub struct PageSnapshot {
     pub(crate) objects: SharedMap<Key, StoredObject>,
     pub(crate) view: View,
     /// A key of the place.
     pub(crate) after: Option<Key>,
+}
+
+impl Drop for PageSnapshot {
+    // Called where one is dropped; a derived drop is proved anew at each such place.
+    fn drop(self) {
+        let PageSnapshot {
+            objects: _objects,
+            view: _view,
+            after: _after,
+        } = self;
+    }
 }
 
 impl Model for PageSnapshot {

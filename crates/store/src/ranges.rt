@@ -51,11 +51,11 @@ fn start_of(alloc: Global, view: &View, after: Option<Key>) -> Result<Key, Alloc
 fn first_after(kind: Kind, after: Key) -> Result<Key, AllocError>
     ensures { IfOk result (λ key. key_of key ≡ first_after kind (place_of (key_of after))) }
 {
-    let mut name = after.name;
+    let (namespace, mut name) = after.into_texts();
     name.push_str("\0")?;
     Ok(Key {
         kind,
-        namespace: after.namespace,
+        namespace,
         name,
     })
 }

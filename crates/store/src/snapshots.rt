@@ -16,12 +16,22 @@ use std::marker::Model;
 
 /// What a view shows at a moment, whatever is written after it: it shares the objects with the store. It is seen as its members, in the
 /// order of keys, of which the first may have been gone past.
-#[derive(Drop)]
 pub struct ViewSnapshot {
     pub(crate) objects: SharedMap<Key, StoredObject>,
     pub(crate) view: View,
     /// The last key that was gone past.
     pub(crate) after: Option<Key>,
+}
+
+impl Drop for ViewSnapshot {
+    // Called where one is dropped; a derived drop is proved anew at each such place.
+    fn drop(self) {
+        let ViewSnapshot {
+            objects: _objects,
+            view: _view,
+            after: _after,
+        } = self;
+    }
 }
 
 impl Model for ViewSnapshot {

@@ -21,13 +21,25 @@ const LAST_MOMENT: u64 = 9_007_199_254_740_991;
 
 /// The keys that wait and those in workers' hands, the keys with a delay, the failures in a row, what is expected, and the
 /// time in milliseconds.
-#[derive(Drop)]
 pub struct Board {
     queue: Queue,
     delayed: Delayed,
     backoff: Backoff,
     expectations: Table,
     time: u64,
+}
+
+impl Drop for Board {
+    // Called where one is dropped; a derived drop is proved anew at each such place.
+    fn drop(self) {
+        let Board {
+            queue: _queue,
+            delayed: _delayed,
+            backoff: _backoff,
+            expectations: _expectations,
+            time: _time,
+        } = self;
+    }
 }
 
 impl Model for Board {

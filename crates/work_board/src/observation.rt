@@ -2,10 +2,19 @@
 use object_keys::Key;
 
 /// One ReplicaSet: its key and its uid.
-#[derive(Drop)]
 pub struct Owner {
     pub key: Key,
     pub uid: String,
+}
+
+impl Drop for Owner {
+    // Called where one is dropped; a derived drop is proved anew at each such place.
+    fn drop(self) {
+        let Owner {
+            key: _key,
+            uid: _uid,
+        } = self;
+    }
 }
 
 /// A pod that a ReplicaSet expects no longer: it was seen created or deleted, or the request was refused or not sent.

@@ -17,7 +17,7 @@ pub struct World {
 }
 
 impl Drop for World {
-    // A derived drop is proved anew at each place where a world is dropped; this one is called there.
+    // Called where one is dropped; a derived drop is proved anew at each such place.
     fn drop(self) {
         let World {
             stored: _stored,
