@@ -3,10 +3,19 @@ use meta::Write;
 use std::marker::Model;
 
 /// A write, or without one a compaction to a revision.
-#[derive(Drop)]
 pub struct StoreEntry {
     write: Option<Write>,
     revision: u64,
+}
+
+impl Drop for StoreEntry {
+    // Called where one is dropped; a derived drop is proved anew at each such place.
+    fn drop(self) {
+        let StoreEntry {
+            write: _write,
+            revision: _revision,
+        } = self;
+    }
 }
 
 impl Model for StoreEntry {

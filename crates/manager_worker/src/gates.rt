@@ -11,7 +11,7 @@ pub trait Gate {
 }
 
 /// A gate that lets everybody pass.
-#[derive(Debug, Clone, Copy, Drop)]
+#[derive(Clone, Copy, Drop)]
 pub struct Open;
 
 impl Gate for Open {

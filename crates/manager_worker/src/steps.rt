@@ -29,7 +29,7 @@ use std::sync::Wait;
 use std::time::Clock;
 
 /// What came of a step.
-#[derive(Debug, Clone, Copy, PartialEq, Eq)]
+#[derive(Clone, Copy)]
 pub enum Progress {
     /// It was taken.
     Went,
@@ -124,6 +124,7 @@ impl<R: Wait + Clock, L: Looking + Drop, A: Api + Drop, G> Tools<'_, R, L, A, G>
         }
         let request = Request::Get(key.try_copy()?);
         let answer = self.api.call(self.alloc, &request);
+        drop(request);
         found_in(self.alloc, key, &answer)
     }
 
@@ -201,6 +202,23 @@ impl<R: Wait + Clock, L: Looking + Drop, A: Api + Drop, G> Tools<'_, R, L, A, G>
         learnt_of(self.api.call(self.alloc, request))
     }
 
+    /// Notes what was learnt of the command that is issued next, unless it is to be issued again.
+    fn heed(&self, turn: &mut Turn, learnt: Learnt) -> Progress
+        requires { is_some (command_issued (next turn.old)) ≡ true }
+        ensures { Issues (next turn.old) turn.old turn.new result }
+    {
+        match learnt {
+            Learnt::Known(answer) => {
+                if self.note(turn, answer) {
+                    Progress::Went
+                } else {
+                    Progress::Again
+                }
+            }
+            Learnt::Again => Progress::Again,
+        }
+    }
+
     /// Issues the next command of the plan. One that was not sent, or for which the server had no memory, is to be issued again.
     fn issue(&mut self, turn: &mut Turn) -> Result<Progress, AllocError>
         requires { is_some (command_issued (next turn.old)) ≡ true }
@@ -210,16 +228,9 @@ impl<R: Wait + Clock, L: Looking + Drop, A: Api + Drop, G> Tools<'_, R, L, A, G>
         let Some(request) = turn.request(self.alloc)? else {
             unreachable!()
         };
-        match self.ask(&request) {
-            Learnt::Known(answer) => {
-                if self.note(turn, answer) {
-                    Ok(Progress::Went)
-                } else {
-                    Ok(Progress::Again)
-                }
-            }
-            Learnt::Again => Ok(Progress::Again),
-        }
+        let learnt = self.ask(&request);
+        drop(request);
+        Ok(self.heed(turn, learnt))
     }
 
     /// Takes the next step of a turn, but its end.

@@ -15,9 +15,15 @@ use std::sync::Arc;
 
 /// An object as it is stored: its text as an item of a list, and what gives its whole text by that; both are made once, and copies share them. It
 /// is read back only to be changed or compared.
-#[derive(Drop)]
 pub struct StoredObject {
     kept: Arc<StoredTexts, Global>,
+}
+
+impl Drop for StoredObject {
+    // Called where one is dropped; a derived drop is proved anew at each such place.
+    fn drop(self) {
+        let StoredObject { kept: _kept } = self;
+    }
 }
 
 impl Model for StoredObject {

@@ -7,10 +7,20 @@ use spec_client_go::controller::Controller;
 use std::alloc::AllocError;
 
 /// A work key: the controller that is to look, and the object that it is to look at. They are ordered by controller, then key.
-#[derive(PartialEq, Eq, PartialOrd, Ord, Drop)]
+#[derive(PartialEq, Eq, PartialOrd, Ord)]
 pub struct WorkKey {
     pub controller: Controller,
     pub key: Key,
+}
+
+impl Drop for WorkKey {
+    // Called where one is dropped; a derived drop is proved anew at each such place.
+    fn drop(self) {
+        let WorkKey {
+            controller: _controller,
+            key: _key,
+        } = self;
+    }
 }
 
 impl WorkKey {

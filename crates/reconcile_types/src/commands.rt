@@ -14,7 +14,6 @@ pub enum Version {
 }
 
 /// What a controller asks of the server.
-#[derive(Drop)]
 pub enum Command {
     /// Creates an object in a namespace.
     Create {
@@ -39,6 +38,32 @@ pub enum Command {
         version: Option<Version>,
         policy: Option<Policy>,
     },
+}
+
+impl Drop for Command {
+    // Called where one is dropped; a derived drop is proved anew at each such place.
+    fn drop(self) {
+        match self {
+            Command::Create {
+                namespace: _namespace,
+                object: _object,
+            } => {}
+            Command::Update {
+                key: _key,
+                object: _object,
+            }
+            | Command::UpdateStatus {
+                key: _key,
+                object: _object,
+            } => {}
+            Command::Delete {
+                key: _key,
+                uid: _uid,
+                version: _version,
+                policy: _policy,
+            } => {}
+        }
+    }
 }
 
 /// The commands of a turn, which are issued one after another.

@@ -14,11 +14,21 @@ use std::alloc::{AllocError, Global};
 use std::marker::Model;
 
 /// A requirement of a field. A value can be any bytes, so it is stored as they are.
-#[derive(Drop)]
 struct FieldRequirement {
     field: SelectableField,
     wanted: bool,
     value: Vec<u8>,
+}
+
+impl Drop for FieldRequirement {
+    // Called where one is dropped; a derived drop is proved anew at each such place.
+    fn drop(self) {
+        let FieldRequirement {
+            field: _field,
+            wanted: _wanted,
+            value: _value,
+        } = self;
+    }
 }
 
 /// Requirements of fields, all of which must hold (Kubernetes, Field Selectors).

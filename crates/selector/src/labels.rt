@@ -9,12 +9,22 @@ use spec_api::selectors::Operator;
 use std::alloc::{AllocError, Global};
 
 /// What a selector says of the label under a key (Kubernetes, Labels and Selectors).
-#[derive(Drop)]
 pub struct Requirement {
     pub key: String,
     pub operator: Operator,
     /// What the label's value is compared with; none for `Exists` and `DoesNotExist`.
     pub values: Vec<String>,
+}
+
+impl Drop for Requirement {
+    // Called where one is dropped; a derived drop is proved anew at each such place.
+    fn drop(self) {
+        let Requirement {
+            key: _key,
+            operator: _operator,
+            values: _values,
+        } = self;
+    }
 }
 
 fn is_among(values: &Vec<String>, text: &str) -> bool

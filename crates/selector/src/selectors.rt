@@ -17,9 +17,17 @@ use std::alloc::{AllocError, Global};
 use std::marker::Model;
 
 /// Requirements of labels, all of which must hold (Kubernetes, Labels and Selectors).
-#[derive(Drop)]
 pub struct Selector {
     requirements: Vec<Requirement>,
+}
+
+impl Drop for Selector {
+    // Called where one is dropped; a derived drop is proved anew at each such place.
+    fn drop(self) {
+        let Selector {
+            requirements: _requirements,
+        } = self;
+    }
 }
 
 impl Model for Selector {

@@ -33,10 +33,29 @@ use std::alloc::{AllocError, Global};
 use std::sync::Arc;
 
 /// What a worker learns of its command, and what the server is to write.
-#[derive(Drop)]
 struct Answered {
     answer: CommandAnswer,
     write: Option<Write>,
+}
+
+impl Drop for Answered {
+    // Called where one is dropped; a derived drop is proved anew at each such place.
+    fn drop(self) {
+        let Answered {
+            answer: _answer,
+            write: _write,
+        } = self;
+    }
+}
+
+impl Answered {
+    /// Gives up what is learnt, and what is to be written.
+    fn into_parts(self) -> (CommandAnswer, Option<Write>)
+        ensures { result ≡ (self.answer, self.write) }
+    {
+        let Answered { answer, write } = self;
+        (answer, write)
+    }
 }
 
 /// Returns what the server answers to a request. The error is running out of memory.
@@ -77,10 +96,10 @@ fn deliver(
     match delivery {
         Delivery::Delivered => ask(alloc, cluster, request),
         Delivery::AnswerLost => {
-            let answered = ask(alloc, cluster, request)?;
+            let (_, write) = ask(alloc, cluster, request)?.into_parts();
             Ok(Answered {
                 answer: CommandAnswer::Lost,
-                write: answered.write,
+                write,
             })
         }
         Delivery::Dropped => {
@@ -141,11 +160,12 @@ fn next_issue(
             issued: Arc::try_clone(&issued)?,
         },
     )?;
+    let (answer, write) = answered.into_parts();
     Ok(Some(Issuing {
         told,
-        turn: answered_turn(turn, answered.answer)?,
+        turn: answered_turn(turn, answer)?,
         issued,
-        write: answered.write,
+        write,
     }))
 }
 

@@ -16,11 +16,21 @@ use std::alloc::{AllocError, Global};
 use std::marker::Model;
 
 /// The last changes of a kind, and the floor: the least revision from which they are served.
-#[derive(Drop)]
 pub struct Cache {
     kind: Kind,
     changes: HeapCircularBuffer<Change>,
     floor: u64,
+}
+
+impl Drop for Cache {
+    // Called where one is dropped; a derived drop is proved anew at each such place.
+    fn drop(self) {
+        let Cache {
+            kind: _kind,
+            changes: _changes,
+            floor: _floor,
+        } = self;
+    }
 }
 
 impl Model for Cache {
