@@ -5,13 +5,8 @@ ghost use Rattle.api_notes.specs.News.{first_news, is_over, list_news, refusal, 
 use crate::trouble::Trouble;
 use api_client::Opened;
 use http_client::Answer;
+use http_client::statuses::{GONE, OK};
 use list_and_watch::{is_refusal, is_refusal_of_streams};
-
-/// The status code of a reply that says that what was asked for is there (RFC 9110, 200 OK).
-const OK: u16 = 200;
-
-/// The status code of what is no longer known (RFC 9110, 410 Gone).
-const GONE: u16 = 410;
 
 /// What an answer, or who reads it, says.
 #[derive(Clone, Copy)]

@@ -8,18 +8,10 @@ use crate::news::{News, is_over};
 use crate::notes::Notes;
 use crate::trouble::Trouble;
 use http_client::Answer;
+use http_client::statuses::{CONFLICT, FIRST_REDIRECTION, NOT_FOUND};
 use request_parts::Request;
 use spec_api::kinds::Kind;
 use wakeups::Stop;
-
-/// The first status code above those of success (RFC 9110, Redirection 3xx).
-const FIRST_REDIRECTION: u16 = 300;
-
-/// The status code of what is not there (RFC 9110, 404 Not Found).
-const NOT_FOUND: u16 = 404;
-
-/// The status code of a write that does not fit what is there (RFC 9110, 409 Conflict).
-const CONFLICT: u16 = 409;
 
 /// Returns whether a request is to make an object.
 fn is_create(request: &Request) -> bool

@@ -7,6 +7,7 @@ ghost use Rattle.controller_runtime.specs.Asked.{is_delete, is_done, outcome_of,
 
 use api_client::Api;
 use http_client::Answer;
+use http_client::statuses::{FIRST_REDIRECTION, NOT_FOUND, OK};
 use keyed_board::Outcome;
 use lifecycle::DeleteOptions;
 use meta::Object;
@@ -14,15 +15,6 @@ use object_keys::Key;
 use request_parts::Request;
 use spec_api::kinds::Kind;
 use std::alloc::{AllocError, Global};
-
-/// From this a reply's code says that what was asked was done (RFC 9110, Successful 2xx).
-const DONE_FROM: u16 = 200;
-
-/// Below this it does (RFC 9110, Redirection 3xx).
-const DONE_BELOW: u16 = 300;
-
-/// The code of a reply that there is no such object.
-const NOT_FOUND: u16 = 404;
 
 /// Returns the key of the object of a kind that is called as another. The error is running out of memory.
 pub fn namesake(key: &Key, kind: Kind) -> Result<Key, AllocError>
@@ -60,7 +52,7 @@ fn is_delete(request: &Request) -> bool
 fn is_done(request: &Request, code: u16) -> bool
     ensures { result ≡ is_done (request_of request.now) code }
 {
-    (DONE_FROM..DONE_BELOW).contains(&code) || (code == NOT_FOUND && is_delete(request))
+    (OK..FIRST_REDIRECTION).contains(&code) || (code == NOT_FOUND && is_delete(request))
 }
 
 /// Returns how it went with a key, by what became of the request for it.

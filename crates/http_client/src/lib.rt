@@ -16,6 +16,7 @@ pub mod outgoing;
 pub mod reading;
 pub mod reply;
 pub mod reply_head;
+pub mod statuses;
 pub mod whole;
 
 pub use answer::Answer;

@@ -10,6 +10,7 @@ use crate::fault::ReplyFault;
 use crate::framing::Framing;
 use crate::limit::LARGEST_BODY;
 use crate::reply_head::read_head;
+use crate::statuses::{GONE, OK};
 use chunked::Watched;
 use std::alloc::Global;
 use std::io::Read;
@@ -24,12 +25,6 @@ pub enum WatchAnswer {
     /// It is refused with this status code.
     Refused(u16),
 }
-
-/// The status code of an opened watch (RFC 9110, 200 OK).
-const OK: u16 = 200;
-
-/// The status code of what is no longer known (RFC 9110, 410 Gone).
-const GONE: u16 = 410;
 
 /// Reads what a server says to who asks for a watch, by the head of its answer alone, and nothing beyond that: whatever body follows a refusal,
 /// and however its end is known, it is a refusal. An answer with the status 200 whose body does not come in chunks is one too.

@@ -3,10 +3,8 @@ ghost use Rattle.std.specs.Prelude.{◌≡◌, ◌==◌, IfOk, count_by};
 ghost use Rattle.kcp_lines.specs.Replies.{line_text, is_of_lines, watch_text, reply_text};
 
 use http_client::HttpReply;
+use http_client::statuses::OK;
 use std::alloc::{AllocError, Global};
-
-/// The status code of what is there, and of a watch (RFC 9110, 200 OK).
-const OK: u16 = 200;
 
 /// Returns a code, a space, a text and the end of the line.
 fn line(alloc: Global, code: u16, text: &[u8]) -> Result<Vec<u8>, AllocError>

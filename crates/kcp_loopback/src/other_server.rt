@@ -5,14 +5,12 @@ use crate::connecting::LoopbackConnector;
 use crate::refusals::refuses_stream;
 use crate::trouble::Trouble;
 use api_client::{Api, Opened};
+use http_client::statuses::OK;
 use http_client::{Answer, More};
 use request_parts::Request;
 use spec_api::kinds::Kind;
 use std::alloc::Global;
 use std::net::{Net, TcpStream};
-
-/// The status code of a watch that is open (RFC 9110, 200 OK).
-const OK: u16 = 200;
 
 /// A server of another process. Where an answer or a watch breaks off, it is looked at once whether the server is still there: one that is
 /// started in its place has an empty store, and is not to be taken for one that goes on, though its first revisions are the same.

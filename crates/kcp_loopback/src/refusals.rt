@@ -2,26 +2,12 @@
 ghost use Rattle.std.specs.Prelude.{◌≡◌};
 ghost use Rattle.kcp_loopback.specs.Refusals.{refuses_list, refuses_stream};
 
+use http_client::statuses::{
+    BAD_REQUEST, FIRST_SERVER_ERROR, GONE, OK, TOO_MANY_REQUESTS, UNPROCESSABLE_CONTENT,
+};
 use object_keys::PerKind;
 use spec_api::kinds::Kind;
 use std::sync::atomic::{AtomicU64, Ordering};
-
-/// The status code of a list (RFC 9110, 200 OK).
-const OK: u16 = 200;
-
-/// The status codes by which a server refuses streams, and may answer lists (RFC 9110, 400 Bad Request and 422 Unprocessable Content).
-const BAD_REQUEST: u16 = 400;
-
-const UNPROCESSABLE: u16 = 422;
-
-/// The status code of what is no longer known (RFC 9110, 410 Gone).
-const GONE: u16 = 410;
-
-/// The status code by which a server asks for patience (RFC 6585, 429 Too Many Requests).
-const TOO_MANY_REQUESTS: u16 = 429;
-
-/// The first status code by which a server says that it has failed (RFC 9110, Server Error 5xx).
-pub(crate) const FIRST_FAILURE: u16 = 500;
 
 /// What stands for a kind of which no list is refused.
 const NONE: u64 = 0;
@@ -30,14 +16,14 @@ const NONE: u64 = 0;
 pub(crate) fn refuses_list(code: u16) -> bool
     ensures { result ≡ refuses_list code }
 {
-    code < FIRST_FAILURE && code != OK && code != GONE && code != TOO_MANY_REQUESTS
+    code < FIRST_SERVER_ERROR && code != OK && code != GONE && code != TOO_MANY_REQUESTS
 }
 
 /// Returns whether a status code refuses a stream of initial events, and no list is asked for in its place.
 pub(crate) fn refuses_stream(code: u16) -> bool
     ensures { result ≡ refuses_stream code }
 {
-    refuses_list(code) && code != BAD_REQUEST && code != UNPROCESSABLE
+    refuses_list(code) && code != BAD_REQUEST && code != UNPROCESSABLE_CONTENT
 }
 
 /// The status code by which a list of each kind was refused last, until one is answered.

@@ -1,19 +1,11 @@
 //! What is said of a server on standard error.
 use crate::escaped::escaped;
 use crate::reach::Reach;
-use crate::refusals::{FIRST_FAILURE, refuses_list};
+use crate::refusals::refuses_list;
 use crate::trouble::Trouble;
+use http_client::statuses::{CONFLICT, FIRST_REDIRECTION, FIRST_SERVER_ERROR, OK};
 use spec_api::kinds::Kind;
 use std::alloc::{AllocError, Global};
-
-/// The status code of a list (RFC 9110, 200 OK).
-const OK: u16 = 200;
-
-/// The status code of a write that does not fit what is there (RFC 9110, 409 Conflict).
-const CONFLICT: u16 = 409;
-
-/// The first status code above those of success (RFC 9110, Redirection 3xx).
-const FIRST_REDIRECTION: u16 = 300;
 
 /// How many bytes are shown of what is not understood.
 const MOST_SHOWN: usize = 100;
@@ -104,7 +96,7 @@ impl<R: Eprint> Teller<'_, R> {
 
     /// Notes a status code that the server answered with: from 500 on it says that the server has failed (RFC 9110, Server Error 5xx).
     pub(crate) fn note_answered(&self, code: u16) {
-        if code >= FIRST_FAILURE {
+        if code >= FIRST_SERVER_ERROR {
             self.note(Trouble::Fails(code));
         } else if self.reach.answers_again() {
             self.say("answers again");

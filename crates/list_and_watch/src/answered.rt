@@ -7,27 +7,17 @@ use crate::follower::Follower;
 use crate::recognizing::is_refusal;
 use crate::tries::Piece;
 use api_client::Opened;
+use http_client::statuses::{BAD_REQUEST, OK, TOO_MANY_REQUESTS, UNPROCESSABLE_CONTENT};
 use http_client::{Answer, More};
 use plain_informer::Publishing;
 use reflector::ListFault;
 use std::alloc::Global;
 
-/// The status code of a list (RFC 9110, 200 OK).
-const OK: u16 = 200;
-
-/// The status code by which a server asks for patience (RFC 6585, 429 Too Many Requests).
-const TOO_MANY_REQUESTS: u16 = 429;
-
-/// The status codes by which a server refuses streams of initial events (RFC 9110, 400 Bad Request and 422 Unprocessable Content).
-const BAD_REQUEST: u16 = 400;
-
-const UNPROCESSABLE: u16 = 422;
-
 /// Returns whether a server refuses streams of initial events by a status code, so that a list is asked for in their place.
 pub fn is_refusal_of_streams(code: u16) -> bool
     ensures { result ≡ is_refusal_of_streams code }
 {
-    code == BAD_REQUEST || code == UNPROCESSABLE
+    code == BAD_REQUEST || code == UNPROCESSABLE_CONTENT
 }
 
 /// Returns the bytes that came, at the front of the buffer, if some did.

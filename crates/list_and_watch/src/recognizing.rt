@@ -7,6 +7,7 @@ ghost use Rattle.list_and_watch.specs.Recognized.{agrees, by_code, has, by_list,
 
 use crate::sameness::is_same_write;
 use framing::Want;
+use http_client::statuses::{GATEWAY_TIMEOUT, OK, TOO_MANY_REQUESTS};
 use http_client::{Answer, HttpReply};
 use indexer::Indexed;
 use meta::Object;
@@ -14,15 +15,6 @@ use reflector::identities::key_of;
 use reflector::{Delta, ListFault, Reflector, SharedObject};
 use spec_api::kinds::Kind;
 use std::alloc::{AllocError, Global};
-
-/// The status code of a list (RFC 9110, 200 OK).
-const OK: u16 = 200;
-
-/// The status code by which a server asks for patience (RFC 6585, 429 Too Many Requests).
-const TOO_MANY_REQUESTS: u16 = 429;
-
-/// The status code that is answered to who asks for a revision that has not come yet (Kubernetes API Concepts, Resource versions).
-const NOT_YET: u16 = 504;
 
 /// What a server's answer says of whether it is the one that was followed.
 #[derive(Clone, Copy)]
@@ -109,7 +101,7 @@ fn by_list(
 pub fn is_refusal(code: u16) -> bool
     ensures { result ≡ is_refusal code }
 {
-    (400..500).contains(&code) && code != TOO_MANY_REQUESTS || code == NOT_YET
+    (400..500).contains(&code) && code != TOO_MANY_REQUESTS || code == GATEWAY_TIMEOUT
 }
 
 /// Returns what a status code other than 200 says of who answered with it.

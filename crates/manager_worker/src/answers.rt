@@ -2,11 +2,8 @@
 ghost use Rattle.manager_worker.specs.Learning.{IsAccepted, Learns, LearnsOf};
 
 use http_client::HttpReply;
+use http_client::statuses::{FIRST_REDIRECTION, OK, SERVICE_UNAVAILABLE};
 use reconcile_turn::CommandAnswer;
-
-/// The status code by which a server says that it has no memory for a request, which then changed nothing (RFC 9110, 503 Service
-/// Unavailable).
-const NO_MEMORY: u16 = 503;
 
 /// What a worker learns of its command.
 #[derive(Drop)]
@@ -32,10 +29,10 @@ fn accepted(reply: HttpReply) -> CommandAnswer
 fn learnt_of_reply(reply: HttpReply) -> Learnt
     ensures { Learns reply.code reply.body.items result }
 {
-    if reply.code == NO_MEMORY {
+    if reply.code == SERVICE_UNAVAILABLE {
         return Learnt::Again;
     }
-    if 200 <= reply.code && reply.code < 300 {
+    if (OK..FIRST_REDIRECTION).contains(&reply.code) {
         return Learnt::Known(accepted(reply));
     }
     Learnt::Known(CommandAnswer::Refused { code: reply.code })

@@ -4,18 +4,13 @@ ghost use Rattle.spec_api.specs.Metadata.{differs};
 ghost use Rattle.object_keys.specs.Keys.{key_of};
 ghost use Rattle.manager_worker.specs.Finding.{Finds, FindsOf, can_be, has_key};
 
+use http_client::statuses::{NOT_FOUND, OK};
 use http_client::{Answer, HttpReply};
 use meta::Object;
 use metadata_values::{is_namespace, is_subdomain};
 use object_keys::{Fault, Key};
 use serde_json::Value;
 use std::alloc::{AllocError, Global};
-
-/// The status code of an object that is there (RFC 9110, 200 OK).
-const OK: u16 = 200;
-
-/// The status code where no object is there (RFC 9110, 404 Not Found).
-const NOT_FOUND: u16 = 404;
 
 /// What is known of an object that was asked for.
 #[derive(Drop)]

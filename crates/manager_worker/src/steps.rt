@@ -19,6 +19,7 @@ use crate::looking::Looking;
 use crate::tools::Tools;
 use api_client::Api;
 use control_desk::{ControlDesk, WorkPass};
+use http_client::statuses::BAD_REQUEST;
 use object_keys::Key;
 use reconcile_turn::{CommandAnswer, Expected, NextStep, Sight, Turn};
 use request_encoding::can_be_told;
@@ -40,9 +41,6 @@ pub enum Progress {
     /// It is the end of the turn.
     AtEnd,
 }
-
-/// The status code of a request that cannot be read (RFC 9110, 400 Bad Request).
-const BAD_REQUEST: u16 = 400;
 
 /// How many milliseconds a worker that lacks memory waits before it notes an answer.
 const PAUSE_MILLISECONDS: u64 = 10;

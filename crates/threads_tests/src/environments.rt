@@ -5,14 +5,12 @@ ghost use Rattle.desk.specs.Desks.{IsNewAt};
 use crate::scenes::Scene;
 use desk::{Anything, Desk, StorePass};
 use http_client::Answer;
+use http_client::statuses::CONFLICT;
 use manager::Signals;
 use request_parts::Request;
 use std::alloc::{AllocError, Global};
 use std::sync::atomic::{AtomicU64, Ordering};
 use wakeups::Bell;
-
-/// The status code of the refusal of a request that names a version of an object which is not its present one (RFC 9110, 409 Conflict).
-const CONFLICT: u16 = 409;
 
 /// How many of the last changes of each kind the server keeps for its watches.
 const WINDOW: usize = 1024;
