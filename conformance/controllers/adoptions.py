@@ -9,6 +9,8 @@ from waiting import Limit, check, until
 
 SET = "web"
 REPLICAS = 3
+# Several times as many bytes as a body may have.
+LONG_BODY = 5_000_000
 EMPTY_LIST = b'200 {"apiVersion":"v1","items":[],"kind":"ConfigMapList","metadata":{"resourceVersion":"1"}}\n'
 
 
@@ -64,6 +66,11 @@ def answers_lines(program):
         for line in ["AT 2026-01-01T00:00:00Z", "COMPACT 1", "no request"]:
             code, _ = started.answered(line)
             check(code == 400, f"the line {line!r} was answered {code}")
+        # A server refuses such a body by its head, and may close the connection while it is written.
+        long_body = json.dumps({"metadata": {"name": "long"}, "data": {"text": "x" * LONG_BODY}})
+        for wanted, target in [(413, path("configmaps")), (404, path("configmaps") + "/a/b/c")]:
+            code, _ = started.answered(f"POST {target} {long_body}")
+            check(code == wanted, f"a line with a body of {len(long_body):,} bytes was answered {code}")
         code, _ = started.answered(f"DELETE {path('replicasets', SET)}")
         check(code == 200, f"a delete of a line was answered {code}")
         until(lambda: not client.present("pods"), "its pods were not collected")

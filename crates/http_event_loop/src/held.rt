@@ -27,11 +27,11 @@ const MOST_AHEAD: usize = 262_144;
 /// that sees nothing lasts fifteen seconds at least, however much is written that it does not ask for.
 const MOST_HURRIED: u64 = 512;
 
-/// How many bytes are read away of what a peer sends unread.
-const MOST_READ_AWAY: usize = 65_536;
+/// How many bytes are read away of what a peer sends unread: bodies that are much too long, as most peers write theirs before they read.
+const MOST_READ_AWAY: usize = 16_777_216;
 
 /// How many are read away at once.
-const PIECE: usize = 4096;
+const PIECE: usize = 65_536;
 
 /// A connection that a loop holds.
 #[derive(Drop)]
@@ -321,7 +321,7 @@ impl Held {
     }
 
     /// Returns whether the connection goes on. Where one is over whose peer may still be sending, ends the sending half and reads away what
-    /// still comes, up to 64 KiB: a stream that is closed before its bytes are read is reset, and its peer may lose the reply.
+    /// still comes, up to 16 MiB: a stream that is closed before its bytes are read is reset, and its peer may lose the reply.
     pub(crate) fn goes_on(&mut self, now: Instant) -> bool {
         match &self.phase {
             ConnectionPhase::Closing(Served::Asked) => false,

@@ -12,7 +12,10 @@ use line_service::RunFault;
 use line_service::lines::refusal_line;
 use line_service::run_loop::{make_ready, send, unread, without_newline};
 use object_keys::Fault;
+use request_decoding::read_request;
+use request_parts::body::is_too_long;
 use request_parts::line::{Line, read_line};
+use request_parts::table::Routes;
 use spec_api::methods::Method;
 use spec_api::refusals::Part;
 use std::alloc::{AllocError, Global};
@@ -59,6 +62,19 @@ fn ask<C: Connect>(
     }
 }
 
+/// Returns the line by which a request is refused whose body is too long, as a replay refuses it. A server refuses it by its head, and may close the
+/// connection before all of the body was written, so that its reply would be lost.
+fn too_long(alloc: Global, method: Method, target: &str, body: &[u8]) -> Result<Vec<u8>, RelayFault>
+    ensures { IfErr result (λ fault. fault ≡ RelayFault.Run RunFault.Want) }
+{
+    let routes = Routes::new(alloc).map_err(want)?;
+    let fault = match read_request(alloc, &routes, method, target.as_bytes(), body) {
+        Ok(_) => Fault::TooLarge,
+        Err(fault) => fault,
+    };
+    refusal_line(alloc, &fault).map_err(want)
+}
+
 /// Returns the line by which a line is refused that is no request, as a head is that cannot be read.
 fn unreadable(alloc: Global) -> Result<Vec<u8>, RelayFault>
     ensures { IfErr result (λ fault. fault ≡ RelayFault.Run RunFault.Want) }
@@ -83,6 +99,7 @@ fn reply_to<C: Connect>(
             target,
             body,
         } => match str::from_utf8(target) {
+            Ok(target) if is_too_long(body) => too_long(alloc, method, target, body),
             Ok(target) => ask(alloc, connector, method, target, body),
             Err(_) => unreadable(alloc),
         },
