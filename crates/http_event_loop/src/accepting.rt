@@ -1,5 +1,5 @@
 //! Connections that are accepted.
-ghost use Rattle.std.specs.Prelude.{◌≡◌, ◌≢◌, ◌<◌, ◌≤◌, ◌+◌, is_some};
+ghost use Rattle.std.specs.Prelude.{◌≡◌, ◌≢◌, ◌<◌, ◌≤◌, ◌+◌, ◌-◌, is_some};
 
 use crate::given::Given;
 use crate::loops::Loops;
@@ -43,6 +43,18 @@ pub(crate) struct Accepting {
     is_held_up: bool,
     /// Whether the last one that was tried came, so that another may wait, of which no event will tell either.
     has_more: bool,
+}
+
+/// Returns how many loops of so many, from the first on, are another than the own one.
+fn others(own: usize, count: usize) -> usize
+    ensures among { own < count → result ≡ count - 1 }
+    ensures beyond { count ≤ own → result ≡ count }
+{
+    if own < count {
+        count.saturating_sub(1)
+    } else {
+        count
+    }
 }
 
 /// Returns the number after this one, of so many; after the last it is the first.
@@ -163,7 +175,7 @@ impl Accepting {
             return number;
         }
         if self.others_left == 0 {
-            self.others_left = count.saturating_sub(1).saturating_mul(SHARE_OF_OTHERS);
+            self.others_left = others(own, count).saturating_mul(SHARE_OF_OTHERS);
             return own;
         }
         self.others_left -= 1;

@@ -3,13 +3,13 @@ ghost use Rattle.std.specs.Prelude.{◌≡◌, ◌≤◌, ◌<◌, ◌-◌, ◌/
 
 use std::thread::{Threads, available_parallelism};
 
-/// How many of some loops, from the first on, are given connections by one that accepts, itself among them: no more than there are processors
-/// but one, since more would only take these from one another.
+/// How many of some loops, from the first on, are given connections by the one that accepts, which is the last of them: no more than there are
+/// processors but one, since more would only take these from one another.
 #[derive(Clone, Copy)]
 pub(crate) struct AtWork {
     /// How many are given those that ask for what takes long.
     pub long: usize,
-    /// How many are given those of which nothing was read. Most ask for little: two loops answer these sooner than all, which would take processors
+    /// How many are given those of which nothing was read. Most ask for little: few loops answer these sooner than all, which would take processors
     /// from who asks.
     pub unread: usize,
 }
