@@ -9,127 +9,24 @@ import argparse
 import concurrent.futures
 import contextlib
 import json
-import os
 import pathlib
-import re
 import resource
 import select
-import socket
 import statistics
-import subprocess
 import sys
 import threading
 import time
 
 sys.dont_write_bytecode = True
-HERE = pathlib.Path(__file__).resolve().parent
-sys.path.insert(0, str(HERE.parent / "controllers"))
+import deadlines
+from peers import GET, MAPS, PODS, Times, connected, created, got, limited, open_files, opened_watch, read_to_end, serving, used_by, within
 from programs import AllInOne, Listener
-from waiting import Limit, Wrong, check, until
+from waiting import Limit, check, until
 
-MAPS = "/api/v1/namespaces/default/configmaps"
-PODS = "/api/v1/namespaces/default/pods"
-GET = f"GET {MAPS}?limit=1 HTTP/1.1\r\nHost: localhost\r\n\r\n".encode()
-WATCH = f"GET {MAPS}?watch=true&resourceVersion=1 HTTP/1.1\r\nHost: localhost\r\n\r\n".encode()
-# What is meant is multiplied by this where other work is done beside.
-LOOSE = 10
-# How many seconds after its deadline a connection may be left.
-LATE_SECONDS = 3
 # For how long a watch is told nothing. It looks by itself, too, every 30 ms.
 IDLE_SECONDS = 0.05
 # How many descriptors are left to a server that has few.
 FEW = 6
-STRICT = False
-
-
-def within(seconds, most, what):
-    """Checks that something took no longer than is meant, and returns what is told of it."""
-    check(seconds <= most * (1 if STRICT else LOOSE), f"{what} took {seconds:.3f} s, and {most:g} s are meant")
-    return f"{what} {seconds * 1000:.1f} ms"
-
-
-def late_seconds():
-    """Returns how many seconds after its deadline a connection may be left here."""
-    return LATE_SECONDS * (1 if STRICT else LOOSE)
-
-
-def connected(port, buffer=None):
-    """Returns a connection, with so many bytes of room for what comes, if that is said."""
-    connection = socket.socket()
-    connection.settimeout(Limit.seconds)
-    if buffer:
-        connection.setsockopt(socket.SOL_SOCKET, socket.SO_RCVBUF, buffer)
-    connection.connect(("127.0.0.1", port))
-    return connection
-
-
-def read_to_end(connection):
-    """Returns all that comes until the peer closes."""
-    came = b""
-    while some := connection.recv(65536):
-        came += some
-    return came
-
-
-def got(port):
-    """Asks for a list, and returns after how many seconds the reply was whole."""
-    began = time.monotonic()
-    with connected(port) as connection:
-        connection.sendall(GET)
-        came = read_to_end(connection)
-    check(came.startswith(b"HTTP/1.1 200 OK\r\n"), f"a list was answered {came[:200]!r}")
-    return time.monotonic() - began
-
-
-def created(port, name, text=""):
-    """Creates a ConfigMap, with a text if there is one."""
-    body = json.dumps({"metadata": {"name": name}} | ({"data": {"text": text}} if text else {})).encode()
-    with connected(port) as connection:
-        connection.sendall(f"POST {MAPS} HTTP/1.1\r\nHost: localhost\r\nContent-Type: application/json\r\nContent-Length: {len(body)}\r\n\r\n".encode() + body)
-        came = read_to_end(connection)
-    check(came.startswith(b"HTTP/1.1 201 Created\r\n"), f"a create was answered {came[:200]!r}")
-
-
-def opened_watch(port, buffer=None, path=MAPS):
-    """Returns a connection over which a watch has begun, of the maps if nothing else is said."""
-    connection = connected(port, buffer)
-    connection.sendall(WATCH.replace(MAPS.encode(), path.encode()))
-    head = b""
-    while b"\r\n\r\n" not in head:
-        some = connection.recv(4096)
-        check(some, f"a watch was closed after {head!r}")
-        head += some
-    check(head.startswith(b"HTTP/1.1 200 OK\r\n"), f"a watch was answered {head[:200]!r}")
-    return connection
-
-
-@contextlib.contextmanager
-def serving(program, *words):
-    server = Listener([program, "serve", "--port", "0", *words])
-    try:
-        yield server
-        server.check_running()
-    finally:
-        server.kill()
-
-
-def used_by(server):
-    """Returns the processor seconds and the resident bytes of a server."""
-    fields = pathlib.Path(f"/proc/{server.started.pid}/stat").read_text().rpartition(")")[2].split()
-    resident = int(re.search(r"VmRSS:\s+(\d+) kB", pathlib.Path(f"/proc/{server.started.pid}/status").read_text())[1]) * 1024
-    return (int(fields[11]) + int(fields[12])) / os.sysconf("SC_CLK_TCK"), resident
-
-
-def open_files(server):
-    return len(os.listdir(f"/proc/{server.started.pid}/fd"))
-
-
-def limited(server, most):
-    """Lets a server open no descriptor from this number on."""
-    resource.prlimit(server.started.pid, resource.RLIMIT_NOFILE, (most, resource.getrlimit(resource.RLIMIT_NOFILE)[1]))
-
-
-# ---- scenarios
 
 
 def beside_slow_peers(program, asked):
@@ -176,8 +73,8 @@ def idle_watches(program, asked):
         time.sleep(5)
         more, resident = used_by(server)
         part = (more - used) / (time.monotonic() - began)
-        check(part <= 0.02 * (1 if STRICT else LOOSE), f"{asked.watches} idle watches take {part:.1%} of a processor")
-        check(resident <= 60e6 * (1 if STRICT else 2), f"{asked.watches} idle watches take {resident / 1e6:.0f} MB")
+        check(part <= 0.02 * Times.loose, f"{asked.watches} idle watches take {part:.1%} of a processor")
+        check(resident <= 60e6 * min(Times.loose, 2), f"{asked.watches} idle watches take {resident / 1e6:.0f} MB")
         began = time.monotonic()
         created(server.port, "a")
         for connection in connections:
@@ -209,47 +106,6 @@ def one_thread(program, asked):
         for _ in range(100):
             held.enter_context(opened_watch(server.port))
         return within(statistics.median(got(server.port) for _ in range(100)), 0.01, "a list beside 100 watches, at the median,")
-
-
-def heads_in_time(program, asked):
-    """A head that is not whole after ten seconds, and a request that is not after thirty, are left without a reply."""
-    with serving(program) as server, connected(server.port) as head, connected(server.port) as body:
-        began = time.monotonic()
-        head.sendall(GET[:20])
-        body.sendall(f"POST {MAPS} HTTP/1.1\r\nHost: localhost\r\nContent-Type: application/json\r\nContent-Length: 100\r\n\r\n{{".encode())
-        check(read_to_end(head) == b"", "half a head was replied to")
-        of_head = time.monotonic() - began
-        check(9 < of_head < 10 + late_seconds(), f"half a head was left after {of_head:.1f} s")
-        check(read_to_end(body) == b"", "half a request was replied to")
-        of_body = time.monotonic() - began
-        check(29 < of_body < 30 + late_seconds(), f"half a request was left after {of_body:.1f} s")
-        return f"left after {of_head:.1f} s and {of_body:.1f} s"
-
-
-def peers_that_never_read(program, asked):
-    """A watcher that reads nothing, of an object that changes until what is unwritten of it is far too much, is left; others see each event."""
-    with serving(program, "--window", "65536") as server, opened_watch(server.port) as idle, opened_watch(server.port) as reading:
-        idle.setsockopt(socket.SOL_SOCKET, socket.SO_RCVBUF, 4096)
-        before, seen, is_over = open_files(server), [0], threading.Event()
-
-        def read():
-            while not is_over.is_set() and (some := reading.recv(1 << 20)):
-                seen[0] += some.count(b'"type":"ADDED"')
-
-        reader = threading.Thread(target=read, daemon=True)
-        reader.start()
-        text = "x" * 200_000
-        for number in range(80):
-            body = json.dumps({"metadata": {"name": f"map-{number}"}, "data": {"k": text}}).encode()
-            with connected(server.port) as connection:
-                connection.sendall(f"POST {MAPS} HTTP/1.1\r\nHost: localhost\r\nContent-Type: application/json\r\nContent-Length: {len(body)}\r\n\r\n".encode() + body)
-                read_to_end(connection)
-        until(lambda: open_files(server) < before, "a watcher that reads nothing is held", more=40)
-        until(lambda: seen[0] == 80, lambda: f"the other watcher saw {seen[0]} of 80 events")
-        is_over.set()
-        reading.shutdown(socket.SHUT_RDWR)
-        reader.join()
-        return "left, and the other saw 80 events"
 
 
 def beside_a_silent_peer(program, asked):
@@ -301,6 +157,19 @@ def long_lists(program, asked):
         return within(slowest, 0.1, f"six lists of {len(body):,} bytes, and another's slowest")
 
 
+def long_bodies(program, asked):
+    """Peers that write a body which is much too long, before they read anything: each gets its refusal."""
+    body = json.dumps({"metadata": {"name": "a"}, "data": {"text": "x" * 8_000_000}}).encode()
+    head = f"POST {MAPS} HTTP/1.1\r\nHost: localhost\r\nContent-Type: application/json\r\nContent-Length: {len(body)}\r\n\r\n".encode()
+    with serving(program) as server:
+        for _ in range(20):
+            with connected(server.port) as connection:
+                connection.sendall(head + body)
+                came = read_to_end(connection)
+                check(came.startswith(b"HTTP/1.1 413 "), f"a body of {len(body):,} bytes was answered {came[:200]!r}")
+    return f"20 bodies of {len(body):,} bytes refused"
+
+
 def lists_pause(program, asked):
     """One loop, and two peers that take long lists as fast as these come: others are answered between the pieces, and each list comes to its end."""
     over = threading.Event()
@@ -332,16 +201,6 @@ def lists_pause(program, asked):
             lists = [it for reader in reading for it in reader.result()]
         within(statistics.median(lists), 0.5, "a list of 16 MB, at the median,")
         return within(statistics.median(others), 0.1, "beside two that take lists of 16 MB, another's short list, at the median,")
-
-
-def idle_watches_end(program, asked):
-    """A watch that is told nothing ends by itself."""
-    with serving(program) as server, opened_watch(server.port) as watch:
-        began = time.monotonic()
-        check(read_to_end(watch) == b"0\r\n\r\n", "a watch did not end with its last chunk")
-        took = time.monotonic() - began
-        check(9 < took < 60, f"an idle watch ended after {took:.1f} s")
-        return f"an idle watch ended after {took:.1f} s"
 
 
 def writes_wake_watches(program, asked):
@@ -460,14 +319,16 @@ SCENARIOS = {
     "idle-watches": idle_watches,
     "events-to-watchers": events_to_watchers,
     "one-thread": one_thread,
-    "heads-in-time": heads_in_time,
-    "peers-that-never-read": peers_that_never_read,
+    "heads-in-time": deadlines.heads_in_time,
+    "replies-never-read": deadlines.replies_never_read,
+    "peers-that-never-read": deadlines.peers_that_never_read,
     "beside-a-silent-peer": beside_a_silent_peer,
     "beside-an-idle-watch": beside_an_idle_watch,
     "handed-on": handed_on,
     "long-lists": long_lists,
+    "long-bodies": long_bodies,
     "lists-pause": lists_pause,
-    "idle-watches-end": idle_watches_end,
+    "idle-watches-end": deadlines.idle_watches_end,
     "writes-wake-watches": writes_wake_watches,
     "large-changes": large_changes,
     "out-of-descriptors": out_of_descriptors,
@@ -476,7 +337,7 @@ SCENARIOS = {
     "cut-at-a-stop": cut_at_a_stop,
 }
 # These wait for what comes after a long time.
-LONG = {"heads-in-time", "idle-watches-end", "peers-that-never-read"}
+LONG = {"heads-in-time", "idle-watches-end", "peers-that-never-read", "replies-never-read"}
 
 
 def run(name, scenario, program, asked):
@@ -492,7 +353,6 @@ def run(name, scenario, program, asked):
 
 
 def main():
-    global STRICT
     parser = argparse.ArgumentParser(description=__doc__.splitlines()[0])
     parser.add_argument("--program", required=True)
     parser.add_argument("--strict", action="store_true")
@@ -500,7 +360,7 @@ def main():
     parser.add_argument("--limit", type=float, default=60)
     parser.add_argument("word", nargs="?", default="")
     asked = parser.parse_args()
-    STRICT, Limit.seconds = asked.strict, asked.limit
+    Times.loose, Limit.seconds = 1 if asked.strict else Times.loose, asked.limit
     _, most = resource.getrlimit(resource.RLIMIT_NOFILE)
     resource.setrlimit(resource.RLIMIT_NOFILE, (most, most))
     # Each watch takes a descriptor here and one there.
