@@ -2,6 +2,7 @@
 """Tries the negative tests: the wrong code in crates/NAME/must-fail and crates/NAME/wrong-code, which the prover has to refuse.
 
     wrong_code.py [--jobs N] [NAME..]    tries the pieces of these crates, or of all that have changed since, and keeps in tried.txt what was refused
+    wrong_code.py NAME/PIECE..           tries these pieces, and keeps nothing
     wrong_code.py --within SECONDS       what the gate does: tries all of must-fail, and within that time those of crates that have changed, then one
                                          piece of each other crate, by turns; says what was not tried, and keeps nothing
                   --at-most SECONDS      fails where not all of must-fail were tried after so many seconds
@@ -144,15 +145,29 @@ def main():
     parser.add_argument("--within", type=float, metavar="SECONDS", help="try what the gate tries, within this time")
     parser.add_argument("--at-most", type=float, metavar="SECONDS", help="with --within: fail where not all of must-fail were tried after this time")
     parser.add_argument("--jobs", type=int, default=len(os.sched_getaffinity(0)), help="how many crates to try side by side")
-    parser.add_argument("names", nargs="*", metavar="NAME", help="only these crates")
+    parser.add_argument("names", nargs="*", metavar="NAME", help="only these crates, or pieces as NAME/PIECE")
     asked = parser.parse_args()
     if asked.check or asked.plan:
         sys.exit(0 if (check() if asked.check else plan()) else 1)
     known = libraries()
+    if any("/" in name for name in asked.names):
+        sys.exit(0 if tell(named(asked, parser)) else 1)
     unknown = [name for name in asked.names if name not in known]
     if unknown:
         parser.error(f"crates.txt names no {', '.join(unknown)}")
     sys.exit(0 if tell(within(asked) if asked.within is not None else kept(asked, known)) else 1)
+
+
+def named(asked, parser):
+    """Tries the pieces that are named, and returns what became of each."""
+    found = {str(it): it for name in with_pieces(libraries()) for it in pieces.pieces(name)}
+    unknown = [name for name in asked.names if name not in found]
+    if unknown:
+        parser.error(f"there is no piece {', '.join(unknown)}")
+    work = collections.defaultdict(list)
+    for name in asked.names:
+        work[found[name].crate].append(found[name])
+    return try_all(list(work.items()), set(), asked.jobs, None, False)
 
 
 def within(asked):

@@ -8,7 +8,7 @@ use api_notes::StandardError;
 use controller_runtime::{StartFault, Watch, check_watches, run_at, stop_at_end_of_input};
 use mirror::Mirror;
 use spec_api::kinds::Kind;
-use std::alloc::{AllocError, Global};
+use std::alloc::Global;
 use std::process::ExitCode;
 use std::sync::Arc;
 use std::{env, io, thread};
@@ -64,9 +64,8 @@ fn main(rt: HostRuntime) -> io::Result<ExitCode> {
         Err(fault) => return refuse(&rt, fault),
     };
     // It is not joined: where the program ends before its input does, so does this thread.
-    let reading = thread::spawn(&rt, move || stop_at_end_of_input(&rt, &same));
-    if reading.is_err() {
-        return refuse(&rt, StartFault::from(AllocError));
+    if let Err(refused) = thread::spawn(&rt, move || stop_at_end_of_input(&rt, &same)) {
+        return refuse(&rt, StartFault::from(refused));
     }
     let notes = StandardError::new(&rt, "controller_example");
     match run_at(

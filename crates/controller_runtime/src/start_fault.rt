@@ -6,6 +6,7 @@ ghost use Rattle.controller_runtime.specs.declared.start_fault.StartFault.TheVar
 use request_encoding::ScopeFault;
 use spec_api::kinds::Kind;
 use std::alloc::{AllocError, AllocFailed};
+use std::thread::SpawnError;
 use thiserror::Error;
 
 /// Why a controller is not started. Its text is for who gave the watches.
@@ -48,6 +49,15 @@ impl<T: Drop> From<AllocFailed<T>> for StartFault {
     ghost from_gives = { λ _ e. e ≡ faults.Scope NoMemory };
 
     fn from(_: AllocFailed<T>) -> StartFault {
+        StartFault::Scope(ScopeFault::NoMemory)
+    }
+}
+
+// The system refuses a thread where it has no room for one.
+impl<F: Drop> From<SpawnError<F>> for StartFault {
+    ghost from_gives = { λ _ e. e ≡ faults.Scope NoMemory };
+
+    fn from(_: SpawnError<F>) -> StartFault {
         StartFault::Scope(ScopeFault::NoMemory)
     }
 }
