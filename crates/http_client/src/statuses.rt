@@ -27,8 +27,18 @@ pub const TOO_MANY_REQUESTS: u16 = 429;
 /// The first of those by which a server says that it has failed (RFC 9110, Server Error 5xx).
 pub const FIRST_SERVER_ERROR: u16 = 500;
 
+/// The server has failed (RFC 9110, 500 Internal Server Error).
+pub const INTERNAL_SERVER_ERROR: u16 = 500;
+
+/// The server cannot do what is asked (RFC 9110, 501 Not Implemented).
+pub const NOT_IMPLEMENTED: u16 = 501;
+
+/// A gateway got no reply that it could pass on (RFC 9110, 502 Bad Gateway).
+pub const BAD_GATEWAY: u16 = 502;
+
 /// The server has no memory for the request, which then changed nothing (RFC 9110, 503 Service Unavailable).
 pub const SERVICE_UNAVAILABLE: u16 = 503;
 
-/// The revision that is asked for has not come yet (RFC 9110, 504 Gateway Timeout; Kubernetes API Concepts, Resource versions).
+/// A gateway got no reply in time, or an API server's own time for the request was over (RFC 9110, 504 Gateway Timeout); of a read, the revision that
+/// is asked for has not come yet (Kubernetes API Concepts, Resource versions).
 pub const GATEWAY_TIMEOUT: u16 = 504;

@@ -1,5 +1,6 @@
 -- What a worker learns of its command (RFC 9110, Status Codes).
-use Rattle.std.specs.Prelude.{◌≡◌, ◌≤◌, ◌<◌, ℕ, List}
+use Rattle.std.specs.Prelude.{◌≡◌, ◌≤◌, ◌<◌, ◌&&◌, ◌||◌, ℕ, List, Bool, not, nat_eq, codes, if◌then◌else◌}
+use Rattle.std.specs.List.{starts_with}
 use Rattle.std.specs.Str.{IsUtf8}
 use Rattle.http_client.specs.declared.answer.Answer as client
 use Rattle.http_client.specs.declared.answer.Answer.TheVariants as outcome
@@ -19,10 +20,18 @@ pub record IsAccepted (code : ℕ) (body : List ℕ) (a : CommandAnswer) : Type 
   pub text : IsUtf8 body → answer_of a ≡ turns.accepted code (data_of body)
   pub none : ¬ (IsUtf8 body) → answer_of a ≡ turns.lost
 
--- what became of a command that a server replied to, and had memory for
+-- a body that begins as a JSON object does
+abbrev pub begins_as_object : List ℕ → Bool
+begins_as_object body = starts_with nat_eq body (codes "{")
+
+-- a reply that leaves it open whether a command was carried out: a gateway's (502, 504), and a failure (500) that is told by no object
+abbrev pub leaves_open : ℕ → List ℕ → Bool
+leaves_open code body = nat_eq code 502 || nat_eq code 504 || (nat_eq code 500 && not (begins_as_object body))
+
+-- what became of a command that a server replied to, and had memory for: one that is not accepted is lost where that is left open, else refused
 pub record IsAnswer (code : ℕ) (body : List ℕ) (a : CommandAnswer) : Type 0 where
   pub accepted : Accepts code → IsAccepted code body a
-  pub refused : ¬ (Accepts code) → answer_of a ≡ turns.refused code
+  pub other : ¬ (Accepts code) → answer_of a ≡ (if leaves_open code body then turns.lost else turns.refused code)
 
 -- where the server had no memory nothing was done
 abbrev pub Learns : ℕ → List ℕ → Learnt → Type 0

@@ -1,8 +1,11 @@
 //! What a worker learns of its command.
-ghost use Rattle.manager_worker.specs.Learning.{IsAccepted, Learns, LearnsOf};
+ghost use Rattle.std.specs.Prelude.{◌≡◌};
+ghost use Rattle.manager_worker.specs.Learning.{IsAccepted, Learns, LearnsOf, begins_as_object, leaves_open};
 
 use http_client::HttpReply;
-use http_client::statuses::{FIRST_REDIRECTION, OK, SERVICE_UNAVAILABLE};
+use http_client::statuses::{
+    BAD_GATEWAY, FIRST_REDIRECTION, GATEWAY_TIMEOUT, INTERNAL_SERVER_ERROR, OK, SERVICE_UNAVAILABLE,
+};
 use reconcile_turn::CommandAnswer;
 
 /// What a worker learns of its command.
@@ -25,6 +28,23 @@ fn accepted(reply: HttpReply) -> CommandAnswer
     }
 }
 
+/// Returns whether a body begins as a JSON object does.
+fn begins_as_object(body: &[u8]) -> bool
+    ensures { result ≡ begins_as_object body.now }
+{
+    body.starts_with(b"{")
+}
+
+/// Returns whether a reply leaves it open whether a command was carried out. A gateway may have passed it on before the connection behind it
+/// broke, and some say so by a 500 with a plain text. An API server tells what it refuses by a Status, which is an object.
+fn leaves_open(reply: &HttpReply) -> bool
+    ensures { result ≡ leaves_open reply.now.code reply.now.body.items }
+{
+    reply.code == BAD_GATEWAY
+        || reply.code == GATEWAY_TIMEOUT
+        || (reply.code == INTERNAL_SERVER_ERROR && !begins_as_object(reply.body.as_slice()))
+}
+
 /// Returns what a worker learns of a reply (RFC 9110, Status Codes).
 fn learnt_of_reply(reply: HttpReply) -> Learnt
     ensures { Learns reply.code reply.body.items result }
@@ -34,6 +54,9 @@ fn learnt_of_reply(reply: HttpReply) -> Learnt
     }
     if (OK..FIRST_REDIRECTION).contains(&reply.code) {
         return Learnt::Known(accepted(reply));
+    }
+    if leaves_open(&reply) {
+        return Learnt::Known(CommandAnswer::Lost);
     }
     Learnt::Known(CommandAnswer::Refused { code: reply.code })
 }
