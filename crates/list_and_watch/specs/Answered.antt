@@ -1,5 +1,5 @@
 -- What a follower makes of what a server answers (client-go, tools/cache, Reflector).
-use Rattle.std.specs.Prelude.{◌≡◌, ◌⊎◌, ◌||◌, ℕ, List, length, take, nat_eq, nat_lt, nat_le, if◌then◌else◌, Bool, true, false, not, Option, Some, None, option_and_then}
+use Rattle.std.specs.Prelude.{◌≡◌, ◌⊎◌, ◌&&◌, ◌||◌, ℕ, List, length, take, nat_eq, nat_lt, nat_le, if◌then◌else◌, Bool, true, false, not, Option, Some, None, option_and_then}
 use Rattle.spec_api.specs.declared.kinds.Kind.{Kind}
 use Rattle.spec_client_go.specs.Reflectors.{Listed, list_of, fed}
 use Rattle.spec_client_go.specs.declared.reflectors.Ask.{Ask}
@@ -45,14 +45,20 @@ after_opened opened.Expired f = after_expiry f
 after_opened (opened.Refused code) f = if nat_eq code 429 then f else after_expiry f
 after_opened opened.Lost f = f
 
--- where a server does not know such streams, or refuses what is asked with them, a list is asked for until one is taken in; else as a watch
+-- with these a server that does not know streams of initial events refuses them, or what is asked with them
 abbrev pub is_refusal_of_streams : ℕ → Bool
 is_refusal_of_streams code = nat_eq code 400 || nat_eq code 422
 
+-- what refuses a stream may last, as where lists are allowed and watches are not. It is for now where the server asks for patience by 429, or says
+-- by a code from 500 on that it has failed, but not by 501, that it cannot do what is asked (RFC 9110, Status Codes)
+abbrev pub leads_to_list : ℕ → Bool
+leads_to_list code = (nat_lt code 500 && not (nat_eq code 429)) || nat_eq code 501
+
+-- where a stream is refused, and not for now alone, a list is asked for until one is taken in; else as a watch
 abbrev pub after_stream_opened : Opened → Follower → Follower
 after_stream_opened opened.Open f = f
 after_stream_opened opened.Expired f = after_expiry f
-after_stream_opened (opened.Refused code) f = if is_refusal_of_streams code then after_refusal f else after_opened (opened.Refused code) f
+after_stream_opened (opened.Refused code) f = if leads_to_list code then after_refusal f else after_opened (opened.Refused code) f
 after_stream_opened opened.Lost f = f
 
 -- the bytes that came, at the front of a buffer

@@ -1,23 +1,34 @@
 //! What a follower makes of what a server answers.
 ghost use Rattle.std.specs.Prelude.{◌≡◌, OnOk, OnErr, IfErr, IsSome, option_map};
 ghost use Rattle.list_and_watch.specs.Followers.{after_list};
-ghost use Rattle.list_and_watch.specs.Answered.{body_in, is_left_open, listed_in, RefusesAnswer, after_opened, is_refusal_of_streams, after_stream_opened, piece_in, IsPieceTaken};
+ghost use Rattle.list_and_watch.specs.Answered.{body_in, is_left_open, listed_in, RefusesAnswer, after_opened, is_refusal_of_streams, leads_to_list, after_stream_opened, piece_in, IsPieceTaken};
 
 use crate::follower::Follower;
 use crate::recognizing::is_refusal;
 use crate::tries::Piece;
 use api_client::Opened;
-use http_client::statuses::{BAD_REQUEST, OK, TOO_MANY_REQUESTS, UNPROCESSABLE_CONTENT};
+use http_client::statuses::{
+    BAD_REQUEST, FIRST_SERVER_ERROR, NOT_IMPLEMENTED, OK, TOO_MANY_REQUESTS, UNPROCESSABLE_CONTENT,
+};
 use http_client::{Answer, More};
 use plain_informer::Publishing;
 use reflector::ListFault;
 use std::alloc::Global;
 
-/// Returns whether a server refuses streams of initial events by a status code, so that a list is asked for in their place.
+/// Returns whether a status code is one by which servers refuse streams of initial events that they do not know: a list is asked for in their place,
+/// and nothing is wrong.
 pub fn is_refusal_of_streams(code: u16) -> bool
     ensures { result ≡ is_refusal_of_streams code }
 {
     code == BAD_REQUEST || code == UNPROCESSABLE_CONTENT
+}
+
+/// Returns whether a status code refuses a stream of initial events, and not for now alone, so that a list is asked for next: a stream that is asked
+/// for again could be refused for ever.
+fn leads_to_list(code: u16) -> bool
+    ensures { result ≡ leads_to_list code }
+{
+    code < FIRST_SERVER_ERROR && code != TOO_MANY_REQUESTS || code == NOT_IMPLEMENTED
 }
 
 /// Returns the bytes that came, at the front of the buffer, if some did.
@@ -87,13 +98,13 @@ impl<I: Publishing> Follower<I> {
         }
     }
 
-    /// Takes in what became of the request for a stream of initial events. Where the server refuses such streams, a list is asked for next; else as
-    /// for a watch.
+    /// Takes in what became of the request for a stream of initial events. Where it is refused, and not for now alone, a list is asked
+    /// for next; else as for a watch.
     pub(crate) fn on_stream_opened(&mut self, opened: Opened)
         ensures { self.new ≡ after_stream_opened opened self.old }
     {
         match opened {
-            Opened::Refused(code) if is_refusal_of_streams(code) => self.on_refused(),
+            Opened::Refused(code) if leads_to_list(code) => self.on_refused(),
             _ => self.on_opened(opened),
         }
     }

@@ -45,7 +45,8 @@ fn read_on<I: Publishing, A: Api, T: Timer, S: Sink>(
     }
 }
 
-/// Asks for what the follower is to ask next, and takes in what comes. A list follows at once where streams of initial events are refused.
+/// Asks for what the follower is to ask next, and takes in what comes. A list follows without a pause where a stream of initial events is refused, and
+/// not for now alone.
 fn ask<I: Publishing, A: Api, T: Timer, S: Sink>(
     alloc: Global,
     kind: Kind,
@@ -67,7 +68,7 @@ fn ask<I: Publishing, A: Api, T: Timer, S: Sink>(
             let opened = api.open_stream(alloc, kind);
             follower.on_stream_opened(opened);
             match follower.next() {
-                Ask::List => (Tried::Done, false),
+                Ask::List => (Tried::Done, is_left_open(opened)),
                 Ask::Stream | Ask::Watch(_) => {
                     read_on(alloc, opened, follower, owed, api, timer, sink)
                 }
