@@ -1,5 +1,5 @@
 //! Controllers as programs: at a server over TCP, until standard input ends.
-ghost use Rattle.std.specs.Prelude.{◌≡◌, ◌<◌, ◌^◌, None, OnOk, IfErr, All};
+ghost use Rattle.std.specs.Prelude.{◌≡◌, ◌<◌, ◌^◌, None, OnOk, IfErr, All, length};
 ghost use Rattle.controller_runtime.specs.Watched.{kind_watched_twice, IsScoped, RefusesScopes, RefusesWatches};
 
 use crate::followed::Followed;
@@ -56,18 +56,19 @@ impl<'a, R: Net<Stream = TcpStream> + Clock> Connect for Connector<'a, R> {
 /// How a server is asked over TCP, until a stop, and told of.
 type Asked<'a, R, N> = Told<'a, Remote<Connector<'a, R>>, N>;
 
-/// Where a server is, who is told of it, and what stops who asks it in a run: its end.
+/// Where a server is, who is told of it, by those who follow kinds and by each worker, and what stops who asks it in a run: its end.
 #[derive(Drop)]
 struct Server<'a, R, N> {
     rt: &'a R,
     alloc: Global,
     address: &'a str,
-    notes: &'a N,
+    following: &'a N,
+    working: &'a [N],
     over: &'a Stop,
 }
 
 impl<'a, R: Net<Stream = TcpStream> + Clock, N: Notes> Server<'a, R, N> {
-    ghost use Rattle.std.specs.Prelude.{◌≡◌, IfOk, IfErr, vec_len};
+    ghost use Rattle.std.specs.Prelude.{◌≡◌, IfOk, IfErr, length, vec_len};
     ghost use Rattle.request_encoding.specs.Given.{Refuses};
     ghost use Rattle.request_encoding.specs.Seen.{scope_of};
     ghost use Rattle.api_client.specs.Asked.{scope_at};
@@ -87,15 +88,11 @@ impl<'a, R: Net<Stream = TcpStream> + Clock, N: Notes> Server<'a, R, N> {
         }
     }
 
-    /// Returns how it is asked for the objects of a scope.
-    fn api(&self, scope: Scope) -> Asked<'a, R, N>
+    /// Returns how it is asked for the objects of a scope by who tells notes of it.
+    fn api(&self, scope: Scope, notes: &'a N) -> Asked<'a, R, N>
         ensures { scope_at (api_of result) ≡ scope_of scope }
     {
-        Told::new(
-            Remote::within(self.connector(), scope),
-            self.notes,
-            self.over,
-        )
+        Told::new(Remote::within(self.connector(), scope), notes, self.over)
     }
 
     /// Returns how it is asked for the objects of a watch.
@@ -107,7 +104,7 @@ impl<'a, R: Net<Stream = TcpStream> + Clock, N: Notes> Server<'a, R, N> {
         let scope = Scope::new(self.alloc, watch.namespace, watch.selector)?;
         Ok(Followed {
             kind: watch.kind,
-            api: self.api(scope),
+            api: self.api(scope, self.following),
         })
     }
 
@@ -126,13 +123,13 @@ impl<'a, R: Net<Stream = TcpStream> + Clock, N: Notes> Server<'a, R, N> {
         Ok(made)
     }
 
-    /// Returns so many ways to ask it, one for each worker.
-    fn ways(&self, workers: usize) -> Result<Vec<Asked<'a, R, N>>, AllocError>
-        ensures { IfOk result (λ made. vec_len made ≡ workers) }
+    /// Returns the ways to ask it, one for each worker.
+    fn ways(&self) -> Result<Vec<Asked<'a, R, N>>, AllocError>
+        ensures { IfOk result (λ made. vec_len made ≡ length self.now.working.now) }
     {
-        let mut made = Vec::with_capacity(self.alloc, workers)?;
-        while made.len() < workers {
-            made.push(self.api(Scope::everything()))?;
+        let mut made = Vec::with_capacity(self.alloc, self.working.len())?;
+        for notes in self.working {
+            made.push(self.api(Scope::everything(), notes))?;
         }
         Ok(made)
     }
@@ -145,8 +142,8 @@ fn run_once<R, K, C, N>(
     address: &str,
     controller: &C,
     watches: &[Watch<'_>],
-    workers: usize,
-    notes: &N,
+    following: &N,
+    working: &[N],
     stop: &Stop,
 ) -> Result<Ended, ScopeFault>
 where
@@ -154,7 +151,7 @@ where
     K: Named + Send,
     C: Reconciler<K> + Sync,
     N: Notes + Sync,
-    requires { workers < 2 ^ 16 }
+    requires { length working.now < 2 ^ 16 }
     ensures { IfErr result (RefusesScopes watches.now) }
 {
     let over = Stop::new();
@@ -162,12 +159,13 @@ where
         rt,
         alloc,
         address,
-        notes,
+        following,
+        working,
         over: &over,
     };
     let followed = server.all_followed(watches)?;
-    let asking = server.ways(workers)?;
-    let (board, passes) = SharedKeyedBoard::open(alloc, workers + OTHER_THREADS)?;
+    let asking = server.ways()?;
+    let (board, passes) = SharedKeyedBoard::open(alloc, working.len() + OTHER_THREADS)?;
     let (ended, _passes) = run_until_over(
         rt, alloc, controller, followed, asking, stop, &over, &board, passes,
     )?;
@@ -207,11 +205,18 @@ where
 {
     check_watches(alloc, watches)?;
     let workers = workers.clamp(1, MOST_WORKERS);
-    let told = RunNotes::new(rt, notes);
+    let told = RunNotes::new(rt, alloc, notes, workers)?;
     let mut pauses = RunPauses::new(rt, stop);
     for _ in rt.forever() {
         let ended = run_once(
-            rt, alloc, address, controller, watches, workers, &told, stop,
+            rt,
+            alloc,
+            address,
+            controller,
+            watches,
+            &told.following,
+            told.working.as_slice(),
+            stop,
         )?;
         if ended == Ended::Stopped || stop.is_stopped() {
             return Ok(());

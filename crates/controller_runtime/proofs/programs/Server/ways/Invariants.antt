@@ -1,8 +1,7 @@
-use Rattle.std.proofs.Common.{◌-◌, ◌≤◌, length}
+use Rattle.std.proofs.Common.{◌≡◌}
+use Rattle.std.specs.Vec.{vec_len}
 use Rattle.controller_runtime.proofs.programs.Server.ways.Given as goal
 
-abbrev pub invariant-loop-made : goal.invariant-loop-made
-invariant-loop-made g l = length l.made.items ≤ l.workers
-
-abbrev pub decreases-loop-made : goal.decreases-loop-made
-decreases-loop-made g l = l.workers - length l.made.items
+-- a way for each worker so far
+abbrev pub invariant-loop-notes : goal.invariant-loop-notes
+invariant-loop-notes g l = vec_len l.made ≡ l.notes-index
