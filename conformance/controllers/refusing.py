@@ -1,8 +1,9 @@
-"""A server that refuses the first commands of the controllers, for want of memory or as conflicts, or to say what is there under one name: each is
-tried again, and what was declared is there all the same."""
+"""A server that refuses the first commands of the controllers, for want of memory or as conflicts, fails at them, or refuses to say what is there under
+one name: each is tried again, and what was declared is there all the same."""
 import contextlib
 import itertools
 import socket
+import threading
 import time
 
 from clients import Client
@@ -10,18 +11,20 @@ from losing import LosingProxy, asks, await_all, whole_request
 from objects import controller, owners, pod, replica_set, staying, uid
 from programs import Ending, control, server
 from restarting import settle
-from understanding import reply
+from understanding import ALL_ANSWERED_SECONDS, check_silent, check_told, reply
 from waiting import check, until
 
 REFUSED, REPLICAS, WORKERS = 12, 5, 4
 NO_MEMORY = reply("503 Service Unavailable", b'{"kind":"Status","apiVersion":"v1","status":"Failure","code":503}')
 CONFLICTS, SETS = 60, 20
 CONFLICT = reply("409 Conflict", b'{"kind":"Status","apiVersion":"v1","status":"Failure","reason":"Conflict","code":409}')
+FAILED = reply("500 Internal Server Error", b'{"kind":"Status","apiVersion":"v1","status":"Failure","code":500}')
+FAILURES = 120
 AGAIN_AND_AGAIN = "refuses writes as conflicts again and again, as where another controller manager works"
 # What says neither what is there nor that nothing is: a refusal, a failure, a body that is no object, and an object that has not the name.
 UNSAID = [
     reply("403 Forbidden", b'{"kind":"Status","apiVersion":"v1","status":"Failure","reason":"Forbidden","code":403}'),
-    reply("500 Internal Server Error", b'{"kind":"Status","apiVersion":"v1","status":"Failure","code":500}'),
+    FAILED,
     reply("200 OK", b"no object"),
     reply("200 OK", b"{}"),
 ]
@@ -60,6 +63,30 @@ class CommandsRefused(RefusingProxy):
             is_refused = self.refusals > 0 and not request.startswith(b"GET ")
             self.refusals -= is_refused
             return self.answer_first if is_refused else None
+
+
+class CreatesFailed(RefusingProxy):
+    """Answers each create by itself that the server has failed, as where an admission webhook does not answer, until it is told not to."""
+
+    def __init__(self, port):
+        self.fails, self.failed, self.relays = True, 0, threading.Event()
+        super().__init__(port)
+
+    def refusal(self, request):
+        if not request.startswith(b"POST "):
+            return None
+        with self.lock:
+            self.failed += self.fails
+            if self.fails:
+                return FAILED
+        self.relays.wait()
+        return None
+
+    def mend(self):
+        """Relays creates from now on, the first once those that failed are heard of."""
+        self.fails = False
+        time.sleep(ALL_ANSWERED_SECONDS)
+        self.relays.set()
 
 
 class ReadsRefused(RefusingProxy):
@@ -127,3 +154,22 @@ def conflicts(program):
         check(controlling.errors.waiting.empty(), f"standard error says more: {controlling.errors.last!r}")
         proxy.close()
         return f"{CONFLICTS} conflicts told once, and all sets have their pods"
+
+
+def creates_fail(program):
+    """The creates for many sets are answered 500, again and again, and all else as ever: that is told of once, and once more when they are answered."""
+    serving = server(program)
+    proxy = CreatesFailed(serving.port)
+    with Ending(serving, control(program, proxy.port, WORKERS)) as running:
+        client, controlling = Client(serving.port), running.programs[1]
+        for number in range(SETS):
+            client.create("replicasets", replica_set(f"web-{number}", 1))
+        until(lambda: proxy.failed >= FAILURES, lambda: f"{proxy.failed} creates have failed, not {FAILURES}")
+        check_told(controlling, proxy.port, ["answers 500"])
+        check_silent(controlling)
+        proxy.mend()
+        until(lambda: len(staying(client.present("pods"))) == SETS, "a set has not got its pod")
+        check_told(controlling, proxy.port, ["answers again"])
+        check_silent(controlling)
+        proxy.close()
+        return f"{proxy.failed} creates failed, told once, and once that all sets have their pods"

@@ -4,10 +4,10 @@
 A Deployment is made, rolled, scaled and deleted by each policy, where the script marks pods ready, as a kubelet does; a ReplicaSet adopts
 and releases pods; 20 ReplicaSets are declared at once, undisturbed, while the server is killed and started again, and while a proxy cuts
 connections, and no list of pods ever shows a pod too many of a set; each kind of command is lost once on its way, or its reply; a server is
-started anew behind a proxy, and known as another one; what is not understood is told of, and lists that are refused; the controllers end
-after so many turns; workers are woken though the clock stands still; commands are answered 503 for a while, and as conflicts, which is told
-of; live reads of a set are refused; a reply and a watch drip; streams of initial events are given, and refused; a stand-in for a Kubernetes
-API server takes each request of a rollout; and watches fall silent. Each scenario begins with nothing.
+started anew behind a proxy, and known as another one; what is not understood is told of, lists that are refused, and a port that wants TLS;
+the controllers end after so many turns; workers are woken though the clock stands still; commands are answered 503 for a while, creates 500
+and others as conflicts, which is told of; live reads of a set are refused; a reply and a watch drip; streams of initial events are given, and
+refused; a stand-in for a Kubernetes API server takes each request of a rollout; and watches fall silent. Each scenario begins with nothing.
 
 Nothing has to happen within a certain time but that of `--limit`, which is long. In short, answers and watches are cut, but no requests:
 a controller that cannot know whether a create has arrived waits 300 seconds for the pod.
@@ -61,12 +61,14 @@ def scenarios(asked):
         "restarted-behind-a-proxy": lambda: restarting.restarted(program, [0, 1000] if few else [0, 1, 1000]),
         "not-understood": lambda: understanding.not_understood(program),
         "lists-refused": lambda: understanding.lists_refused(program, ["404 Not Found", "401 Unauthorized", "302 Found"]),
+        "no-whole-reply": lambda: understanding.no_whole_reply(program),
         "ends-after-turns": lambda: turns.ended_after(program),
         "workers-are-woken": lambda: waking.woken(program),
         "refused-for-now": lambda: refusing.refused_for_now(program),
         "reads-refused": lambda: refusing.reads_refused(program),
         "drops-are-left": lambda: dripping.drops_are_left(program),
         "conflicts-are-told": lambda: refusing.conflicts(program),
+        "failures-are-told": lambda: refusing.creates_fail(program),
         "streams-given": lambda: streaming.streamed(program),
         "streams-refused": lambda: streaming.streams_refused(program, [400, 422]),
         "at-a-cluster": lambda: cluster_rollouts.at_a_cluster(program),

@@ -1,4 +1,4 @@
-"""A server of which nothing is understood, which fails or refuses lists, and what standard error says of it, once each."""
+"""A server of which nothing is understood, which fails, refuses lists or gives no whole reply, and what standard error says of it, once each."""
 import contextlib
 import json
 import socket
@@ -18,6 +18,9 @@ ASKED_AGAIN_SECONDS = 4
 GARBAGE = b"\x00\x1b[31mno reply\xff\r\n"
 NODES = json.dumps({"kind": "NodeList", "apiVersion": "v1", "metadata": {"resourceVersion": "7", "continue": "x" * 100}, "items": []}).encode() + b"\n"
 SHOWN = 100
+# What an API server answers to HTTP at its port for TLS: no length is said, and the end is that of the connection.
+WANTS_TLS = b"HTTP/1.0 400 Bad Request\r\n\r\nClient sent an HTTP request to an HTTPS server.\n"
+NO_WHOLE_REPLY = "gives no whole reply, as where its port wants TLS"
 
 
 def reply(status, body):
@@ -57,11 +60,17 @@ def check_told(controlling, port, texts):
     check(lines == expected, f"standard error has {lines!r}, not {expected!r}")
 
 
-def check_works(client, controlling):
-    """Checks that the controllers work, and that standard error says nothing more."""
+def check_silent(controlling):
+    """Checks that standard error says nothing more."""
+    check(controlling.errors.waiting.empty(), f"standard error says more: {controlling.errors.last!r}")
+
+
+def check_works(client, controlling, texts=()):
+    """Checks that the controllers work, and that standard error says no more than this of the server meanwhile."""
     client.create("replicasets", replica_set("web", REPLICAS))
     until(lambda: len(staying(client.present("pods"))) == REPLICAS, "the set has not got its pods")
-    check(controlling.errors.waiting.empty(), f"standard error says more: {controlling.errors.last!r}")
+    check_told(controlling, client.port, texts)
+    check_silent(controlling)
 
 
 def lists_refused(program, statuses):
@@ -74,12 +83,29 @@ def lists_refused(program, statuses):
             controlling = running.programs[1]
             check_told(controlling, pretender.port, [f"answers {status.split()[0]}"])
             time.sleep(ASKED_AGAIN_SECONDS)
-            check(controlling.errors.waiting.empty(), f"standard error says more: {controlling.errors.last!r}")
+            check_silent(controlling)
             pretender.answer_all = None
             check_told(controlling, pretender.port, ["answers again"])
             check_works(Client(serving.port), controlling)
             pretender.close()
     return f"{', '.join(it.split()[0] for it in statuses)} are told of once each, and that lists are answered again"
+
+
+def no_whole_reply(program):
+    """What listens answers as an API server at its port for TLS: that is told of once, and once more when whole replies come, as those to commands."""
+    serving = server(program)
+    pretender = Pretender(serving.port)
+    pretender.answer_all = WANTS_TLS
+    with Ending(serving, control(program, pretender.port)) as running:
+        controlling, began = running.programs[1], time.monotonic()
+        check_told(controlling, pretender.port, [NO_WHOLE_REPLY])
+        told = time.monotonic() - began
+        time.sleep(ASKED_AGAIN_SECONDS)
+        check_silent(controlling)
+        pretender.answer_all = None
+        check_works(Client(pretender.port), controlling, ["answers again"])
+        pretender.close()
+        return f"told of once, after {told:.1f} s, and that whole replies come"
 
 
 def not_understood(program):

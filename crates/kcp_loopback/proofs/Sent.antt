@@ -126,5 +126,8 @@ module _ (a : NamedLft) (R : RattleType) (r : IsSync R) where
     api : IsSend (as_row (Field.row_field A))
     api = search (s, sendable)
 
+    flag : IsSend (as_row Field.bool-field)
+    flag = search (sendable)
+
     pub other_server : IsSend (OtherServer.the_row a R A)
-    other_server = declared_send (OtherServer.the_type a R A) (connector, (api, tt))
+    other_server = declared_send (OtherServer.the_type a R A) (connector, (api, (flag, tt)))

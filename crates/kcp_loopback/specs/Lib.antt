@@ -8,3 +8,6 @@ pub mod Heard
 pub mod Others
 pub mod Refusals
 pub mod Strife
+pub mod Spells
+pub mod Errands
+pub mod Losses

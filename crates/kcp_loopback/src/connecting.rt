@@ -102,11 +102,9 @@ impl<'a, R: Net<Stream = TcpStream> + Eprint> LoopbackConnector<'a, R> {
         Teller::new(self.rt, self.alloc, self.port, self.reach)
     }
 
-    /// Looks whether the server is still there, unless all is to stop.
-    pub(crate) fn look(&self) {
-        if !self.stop.is_stopped() {
-            let _ = self.reach();
-        }
+    /// Looks whether the server is still there, unless all is to stop, and returns whether it is.
+    pub(crate) fn look(&self) -> bool {
+        !self.stop.is_stopped() && self.reach().is_ok()
     }
 }
 

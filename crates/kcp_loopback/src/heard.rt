@@ -2,7 +2,7 @@
 ghost use Rattle.std.specs.Prelude.{◌≡◌};
 ghost use Rattle.std.specs.Io.{ReadsAtMost};
 ghost use Rattle.std.specs.Io.KnownBytes.{ReadConsumes};
-ghost use Rattle.kcp_loopback.specs.Heard.{may_begin, stream_of};
+ghost use Rattle.kcp_loopback.specs.Heard.{may_begin, may_want_tls, stream_of};
 
 use crate::telling::Teller;
 use crate::trouble::Trouble;
@@ -11,6 +11,11 @@ use std::io::Read;
 
 /// How each reply begins (RFC 9112, Status Line).
 const START: &[u8] = b"HTTP/1.";
+
+/// How that begins which a server of TLS sends to who asks in clear: a reply of HTTP/1.0, or an alert (RFC 8446, Record Layer).
+const OLDER_START: &[u8] = b"HTTP/1.0";
+
+const ALERT_START: &[u8] = b"\x15\x03";
 
 /// Reads a stream, whose bytes it passes on as they are, and notes where the first of them are not how a reply begins.
 #[derive(Drop)]
@@ -27,6 +32,13 @@ fn may_begin(text: &[u8], bytes: &[u8]) -> bool
 {
     let len = text.len().min(bytes.len());
     text.split_at(len).0 == bytes.split_at(len).0
+}
+
+/// Returns whether the first bytes that came are such as a port sends that wants TLS.
+pub(crate) fn may_want_tls(bytes: &[u8]) -> bool
+    ensures { result ≡ may_want_tls bytes.now }
+{
+    bytes.starts_with(OLDER_START) || bytes.starts_with(ALERT_START)
 }
 
 impl<'a, R, S: Drop> Heard<'a, R, S> {
@@ -47,6 +59,9 @@ impl<R: Eprint, S: Read + Drop> Heard<'_, R, S> {
     fn hear(&mut self, bytes: &[u8])
         ensures { stream_of self.new ≡ stream_of self.old }
     {
+        if self.wanted.len() == START.len() {
+            self.teller.note_begun(may_want_tls(bytes));
+        }
         if may_begin(self.wanted, bytes) {
             self.wanted = self.wanted.get(bytes.len()..).unwrap_or(b"");
         } else {

@@ -3,13 +3,17 @@
 
 pub mod answering;
 pub mod connecting;
+pub(crate) mod errand;
 pub mod escaped;
+pub(crate) mod failures;
 pub mod heard;
+pub(crate) mod losses;
 pub mod other_server;
 pub mod own_server;
 pub mod reach;
 pub(crate) mod refusals;
 pub mod ringing;
+pub(crate) mod spell;
 pub(crate) mod strife;
 pub mod telling;
 pub mod trouble;

@@ -2,6 +2,7 @@
 ghost use Rattle.kcp_loopback.specs.Others.{api_of};
 
 use crate::connecting::LoopbackConnector;
+use crate::errand::Errand;
 use crate::refusals::refuses_stream;
 use crate::trouble::Trouble;
 use api_client::{Api, Opened};
@@ -18,6 +19,8 @@ use std::net::{Net, TcpStream};
 pub struct OtherServer<'a, R, A: Api + Drop> {
     connector: LoopbackConnector<'a, R>,
     api: A,
+    /// Whether what came last was not understood.
+    is_puzzled: bool,
 }
 
 /// Returns whether a request is to change something.
@@ -28,16 +31,27 @@ fn is_write(request: &Request) -> bool {
 impl<'a, R, A: Api + Drop> OtherServer<'a, R, A> {
     /// Returns the server that an API asks and to which this connects.
     pub fn new(connector: LoopbackConnector<'a, R>, api: A) -> OtherServer<'a, R, A> {
-        OtherServer { connector, api }
+        OtherServer {
+            connector,
+            api,
+            is_puzzled: false,
+        }
     }
 }
 
 impl<R: Net<Stream = TcpStream> + Eprint, A: Api + Drop> OtherServer<'_, R, A> {
-    /// Returns the code that was answered, if one was, after a look at the server where the answer broke off.
+    /// Notes that no whole answer came, after a look at the server: where that is gone, nothing could come.
+    fn note_lost(&self) {
+        if self.connector.look() {
+            self.connector.teller().note_lost();
+        }
+    }
+
+    /// Returns the code that was answered, if one was.
     fn code_of(&self, answer: &Answer) -> Option<u16> {
         match answer {
             Answer::Lost => {
-                self.connector.look();
+                self.note_lost();
                 None
             }
             Answer::Replied(reply) => Some(reply.code),
@@ -52,40 +66,62 @@ impl<R: Net<Stream = TcpStream> + Eprint, A: Api + Drop> OtherServer<'_, R, A> {
             if is_write(request) {
                 teller.note_written(code);
             }
-            teller.note_answered(code);
+            teller.note_answered(Errand::of(request), code);
+            teller.note_whole();
         }
     }
 
     /// Notes what was answered in the place of a list of a kind, or of its first object.
     fn note_list(&self, kind: Kind, answer: &Answer) {
         if let Some(code) = self.code_of(answer) {
-            self.connector.teller().note_listed(kind, code);
+            let teller = self.connector.teller();
+            teller.note_listed(kind, code);
+            teller.note_whole();
         }
     }
 
-    /// Looks at the server where a watch was asked for and nothing was answered, and notes the code that it was answered with. A reply of success
-    /// that is no watch is not understood.
-    fn look_after(&self, opened: Opened) {
+    /// Notes that what came last was not understood, until something is.
+    fn note_puzzled(&mut self) {
+        if !self.is_puzzled {
+            self.is_puzzled = true;
+            self.connector.teller().note_puzzled();
+        }
+    }
+
+    /// Notes a reply of success that is no watch.
+    fn note_no_watch(&mut self) {
+        self.note_puzzled();
+        self.connector.teller().note(Trouble::Unreadable);
+    }
+
+    /// Notes a status code that a watch of a kind was answered with. Of its reply no more than the head was read.
+    fn note_opened(&self, kind: Kind, code: u16) {
+        self.connector
+            .teller()
+            .note_answered(Errand::follow(kind), code);
+    }
+
+    /// Looks at the server where a watch of a kind was asked for and nothing was answered, and notes the code that it was answered with. A reply of
+    /// success that is no watch is not understood.
+    fn look_after(&mut self, kind: Kind, opened: Opened) {
         match opened {
-            Opened::Lost => self.connector.look(),
-            Opened::Refused(code) if code == OK => {
-                self.connector.teller().note(Trouble::Unreadable)
-            }
-            Opened::Refused(code) => self.connector.teller().note_answered(code),
+            Opened::Lost => self.note_lost(),
+            Opened::Refused(code) if code == OK => self.note_no_watch(),
+            Opened::Refused(code) => self.note_opened(kind, code),
             Opened::Expired => {}
-            Opened::Open => self.connector.teller().note_answered(OK),
+            Opened::Open => self.note_opened(kind, OK),
         }
     }
 
     /// Looks at the server as after a watch where a stream of a kind was asked for, which stands for a list. Where streams alone are refused, the
     /// list that is asked for next tells whether it is answered.
-    fn look_after_stream(&self, kind: Kind, opened: Opened) {
+    fn look_after_stream(&mut self, kind: Kind, opened: Opened) {
         match opened {
             Opened::Open => self.connector.teller().note_listed(kind, OK),
             Opened::Refused(code) if refuses_stream(code) => {
                 self.connector.teller().note_listed(kind, code)
             }
-            _ => self.look_after(opened),
+            _ => self.look_after(kind, opened),
         }
     }
 }
@@ -115,7 +151,7 @@ impl<R: Net<Stream = TcpStream> + Eprint, A: Api + Drop> Api for OtherServer<'_,
 
     fn open_watch(&mut self, alloc: Global, kind: Kind, revision: u64) -> Opened {
         let opened = self.api.open_watch(alloc, kind, revision);
-        self.look_after(opened);
+        self.look_after(kind, opened);
         opened
     }
 
@@ -134,10 +170,13 @@ impl<R: Net<Stream = TcpStream> + Eprint, A: Api + Drop> Api for OtherServer<'_,
     }
 
     fn note_understood(&mut self) {
-        self.connector.teller().note_understood();
+        let was_puzzled = self.is_puzzled;
+        self.is_puzzled = false;
+        self.connector.teller().note_understood(was_puzzled);
     }
 
     fn note_not_understood(&mut self, bytes: &[u8]) {
+        self.note_puzzled();
         self.connector
             .teller()
             .note_not_understood(Trouble::Unreadable, b"", bytes);

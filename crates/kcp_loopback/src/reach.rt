@@ -1,8 +1,9 @@
-//! Whether a server is there.
+//! Whether a server is there, and what was said of it.
+use crate::failures::Failures;
+use crate::losses::Losses;
 use crate::refusals::Refusals;
 use crate::strife::Strife;
-use crate::trouble::{NO_REPLY, REFUSED, Trouble, UNREADABLE};
-use spec_api::kinds::Kind;
+use crate::trouble::Trouble;
 use std::sync::atomic::{AtomicU64, Ordering};
 
 /// No connection was made yet.
@@ -19,13 +20,25 @@ const WELL: u64 = 0;
 
 /// Whether a server is there, as all who connect to it have found. Once it was reached and then refuses a connection it has ended: what comes
 /// after it is another server, even where it comes at once, and knows nothing of what this one was asked.
+///
+/// What was said of it is kept for each sort of trouble alone, so that none is said to be over by the end of another.
 pub struct Reach {
     /// `UNREACHED`, `REACHED` or `GONE`.
     found: AtomicU64,
-    /// The number of the trouble that was said last, until it was said that it is over.
-    said: AtomicU64,
+    /// The number of the trouble with connections that was said last, until it was said that it is over.
+    unreachable: AtomicU64,
+    /// The number of the trouble with what comes that was said last, until it was said that it is over.
+    unreadable: AtomicU64,
+    /// How many of those who ask have not understood what came last.
+    puzzled: AtomicU64,
+    /// 1 if the last that it sent began as where TLS is wanted.
+    wants_tls: AtomicU64,
     /// Which lists it refuses.
-    refusals: Refusals,
+    pub(crate) refusals: Refusals,
+    /// What it fails at.
+    pub(crate) failures: Failures,
+    /// Whether it gives no whole reply.
+    pub(crate) losses: Losses,
     /// Whether it refuses writes as conflicts again and again.
     pub(crate) strife: Strife,
 }
@@ -35,8 +48,13 @@ impl Drop for Reach {
     fn drop(self) {
         let Reach {
             found: _found,
-            said: _said,
+            unreachable: _unreachable,
+            unreadable: _unreadable,
+            puzzled: _puzzled,
+            wants_tls: _wants_tls,
             refusals: _refusals,
+            failures: _failures,
+            losses: _losses,
             strife: _strife,
         } = self;
     }
@@ -47,15 +65,21 @@ impl Reach {
     pub const fn new() -> Reach {
         Reach {
             found: AtomicU64::new(UNREACHED),
-            said: AtomicU64::new(WELL),
+            unreachable: AtomicU64::new(WELL),
+            unreadable: AtomicU64::new(WELL),
+            puzzled: AtomicU64::new(0),
+            wants_tls: AtomicU64::new(0),
             refusals: Refusals::new(),
+            failures: Failures::new(),
+            losses: Losses::new(),
             strife: Strife::new(),
         }
     }
 
-    /// Begins anew, with a server that nobody has reached. What was said of it stays said.
+    /// Begins anew, with a server that nobody has reached, and others who ask it. What was said of it stays said.
     pub fn begin(&self) {
         self.found.store(UNREACHED, Ordering::SeqCst);
+        self.puzzled.store(0, Ordering::SeqCst);
     }
 
     /// Notes that a connection was made.
@@ -77,52 +101,57 @@ impl Reach {
         self.found.load(Ordering::SeqCst) == GONE
     }
 
-    /// Notes a trouble with the server, and returns whether it is news: another one was said last, or none.
+    /// Notes a trouble with the server, and returns whether it is news: of its sort another one was said last, or none.
     pub(crate) fn is_news(&self, trouble: Trouble) -> bool {
         let number = trouble.number();
-        self.said.swap(number, Ordering::SeqCst) != number
+        let said = if trouble.is_of_connections() {
+            &self.unreachable
+        } else {
+            &self.unreadable
+        };
+        said.swap(number, Ordering::SeqCst) != number
     }
 
     /// Notes that the server can be reached, and returns whether it is news: it was said last why it could not.
     pub(crate) fn is_there_again(&self) -> bool {
-        let said = self.said.load(Ordering::SeqCst);
-        said < UNREADABLE && self.is_over(said)
+        self.unreachable.swap(WELL, Ordering::SeqCst) != WELL
     }
 
-    /// Notes that what the server sends is understood, and returns whether it is news: it was said last that it is not.
-    pub(crate) fn is_understood_again(&self) -> bool {
-        let said = self.said.load(Ordering::SeqCst);
-        said == UNREADABLE && self.is_over(said)
+    /// Returns whether it was said last that what comes is no reply.
+    pub(crate) fn sends_no_reply(&self) -> bool {
+        self.unreadable.load(Ordering::SeqCst) == Trouble::NoReply.number()
     }
 
-    /// Notes that the server answers, and returns whether it is news: it was said last that it fails, or that it sends no reply.
-    pub(crate) fn answers_again(&self) -> bool {
-        let said = self.said.load(Ordering::SeqCst);
-        said >= NO_REPLY && said < REFUSED && self.is_over(said)
+    /// Notes one more of those who ask that has not understood what came last.
+    pub(crate) fn note_puzzled(&self) {
+        self.puzzled.fetch_add(1, Ordering::SeqCst);
     }
 
-    /// Notes that the server refuses a list of a kind with a status code, and returns whether it is news: it was said last that no list is refused,
-    /// or else this code neither, and the last list of the kind was not refused so.
-    pub(crate) fn refuses(&self, kind: Kind, code: u16) -> bool {
-        let is_other = self.refusals.note_refused(kind, code);
-        let is_said = self.said.load(Ordering::SeqCst) >= REFUSED;
-        (is_other || !is_said) && self.is_news(Trouble::Refuses(code))
+    /// Notes that who asks understands what came, and returns whether it is news: it was said last that somebody does not, and all do now.
+    pub(crate) fn is_understood_again(&self, was_puzzled: bool) -> bool {
+        let puzzled = if was_puzzled {
+            self.puzzled
+                .fetch_sub(1, Ordering::SeqCst)
+                .saturating_sub(1)
+        } else {
+            self.puzzled.load(Ordering::SeqCst)
+        };
+        puzzled == 0 && self.unreadable.swap(WELL, Ordering::SeqCst) != WELL
     }
 
-    /// Notes that the server answers a list of a kind, and returns whether it is news: it was said last that lists are refused, and none is any more.
-    pub(crate) fn lists_again(&self, kind: Kind) -> bool {
-        let is_any_refused = !self.refusals.note_listed(kind);
-        let said = self.said.load(Ordering::SeqCst);
-        !is_any_refused && said >= REFUSED && self.is_over(said)
+    /// Notes whether what the server sends begins as where TLS is wanted.
+    pub(crate) fn note_begun(&self, wants_tls: bool) {
+        self.wants_tls.store(u64::from(wants_tls), Ordering::SeqCst);
     }
 
-    /// Notes that a trouble that was said is over, and returns whether one was said, and nobody has noted it before.
-    fn is_over(&self, said: u64) -> bool {
-        said != WELL
-            && self
-                .said
-                .compare_exchange(said, WELL, Ordering::SeqCst, Ordering::SeqCst)
-                .is_ok()
+    /// Returns whether the last that the server sent began so.
+    pub(crate) fn wants_tls(&self) -> bool {
+        self.wants_tls.load(Ordering::SeqCst) != 0
+    }
+
+    /// Returns whether nothing is said to be wrong with what the server answers, or that is over.
+    pub(crate) fn answers_well(&self) -> bool {
+        !self.refusals.is_said() && !self.failures.spell.is_said() && !self.losses.spell.is_said()
     }
 }
 

@@ -26,10 +26,11 @@ pub(crate) fn refuses_stream(code: u16) -> bool
     refuses_list(code) && code != BAD_REQUEST && code != UNPROCESSABLE_CONTENT
 }
 
-/// The status code by which a list of each kind was refused last, until one is answered.
+/// The status code by which a list of each kind was refused last, until one is answered, and which was said last, until it was said that none is.
 #[derive(Drop)]
 pub(crate) struct Refusals {
     codes: PerKind<AtomicU64>,
+    said: AtomicU64,
 }
 
 impl Refusals {
@@ -42,18 +43,31 @@ impl Refusals {
                 replica_sets: AtomicU64::new(NONE),
                 deployments: AtomicU64::new(NONE),
             },
+            said: AtomicU64::new(NONE),
         }
     }
 
-    /// Notes that a list of a kind is refused, and returns whether the last one was not, or by another code.
-    pub(crate) fn note_refused(&self, kind: Kind, code: u16) -> bool {
-        let code = u64::from(code);
-        self.codes.get(kind).swap(code, Ordering::SeqCst) != code
+    /// Returns whether it was said that lists are refused, and not that none is any more.
+    pub(crate) fn is_said(&self) -> bool {
+        self.said.load(Ordering::SeqCst) != NONE
     }
 
-    /// Notes that a list of a kind is answered, and returns whether no list of any kind is refused.
+    /// Notes that a list of a kind is refused, and returns whether that is to be said: nothing of it is, or else this code is not, and the last list
+    /// of the kind was not refused so.
+    pub(crate) fn note_refused(&self, kind: Kind, code: u16) -> bool {
+        let code = u64::from(code);
+        let is_other = self.codes.get(kind).swap(code, Ordering::SeqCst) != code;
+        (is_other || !self.is_said()) && self.said.swap(code, Ordering::SeqCst) != code
+    }
+
+    /// Returns whether no list of any kind is refused.
+    fn is_none(&self) -> bool {
+        Kind::ALL.iter().all(|kind| self.codes.get(*kind).load(Ordering::SeqCst) == NONE)
+    }
+
+    /// Notes that a list of a kind is answered, and returns whether it is to be said that none is refused any more.
     pub(crate) fn note_listed(&self, kind: Kind) -> bool {
         self.codes.get(kind).store(NONE, Ordering::SeqCst);
-        Kind::ALL.iter().all(|kind| self.codes.get(*kind).load(Ordering::SeqCst) == NONE)
+        self.is_none() && self.said.swap(NONE, Ordering::SeqCst) != NONE
     }
 }

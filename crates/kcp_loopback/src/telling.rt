@@ -1,5 +1,7 @@
 //! What is said of a server on standard error.
+use crate::errand::Errand;
 use crate::escaped::escaped;
+use crate::heard::may_want_tls;
 use crate::reach::Reach;
 use crate::refusals::refuses_list;
 use crate::trouble::Trouble;
@@ -29,6 +31,15 @@ fn first_shown(alloc: Global, begun: &[u8], bytes: &[u8]) -> Result<String, Allo
     Ok(text)
 }
 
+/// Returns what is said beside a trouble that TLS may be the reason of.
+fn tls_hint(wants_tls: bool) -> &'static str {
+    if wants_tls {
+        ", as where its port wants TLS"
+    } else {
+        ""
+    }
+}
+
 impl<'a, R> Teller<'a, R> {
     /// Returns what speaks of the server of a port.
     pub(crate) fn new(rt: &'a R, alloc: Global, port: u16, reach: &'a Reach) -> Teller<'a, R> {
@@ -47,6 +58,20 @@ impl<R: Eprint> Teller<'_, R> {
         let _ = eprintln!(self.rt; "kcp: the server at 127.0.0.1:{} {words}", self.port);
     }
 
+    /// Says a status code that the server answers with.
+    fn say_code(&self, code: u16) {
+        let _ = eprintln!(self.rt; "kcp: the server at 127.0.0.1:{} answers {code}", self.port);
+    }
+
+    /// Says that what was wrong with its answers is over: by these words, where something else is still wrong with them.
+    fn say_over(&self, words: &str) {
+        if self.reach.answers_well() {
+            self.say("answers again");
+        } else {
+            self.say(words);
+        }
+    }
+
     /// Notes a trouble with the server, and says it if it is news.
     pub(crate) fn note(&self, trouble: Trouble) {
         if self.reach.is_news(trouble) {
@@ -63,12 +88,6 @@ impl<R: Eprint> Teller<'_, R> {
             }
             Trouble::NoMemory => self.say("cannot be reached, as this program has no memory left"),
             Trouble::Unreadable | Trouble::NoReply => self.say("is not understood"),
-            Trouble::Fails(code) | Trouble::Refuses(code) => {
-                let _ = eprintln!(self.rt;
-                    "kcp: the server at 127.0.0.1:{} answers {code}",
-                    self.port
-                );
-            }
         }
     }
 
@@ -78,8 +97,9 @@ impl<R: Eprint> Teller<'_, R> {
             Ok(text) => {
                 if self.reach.is_news(trouble) {
                     let _ = eprintln!(self.rt;
-                        "kcp: the server at 127.0.0.1:{} is not understood: {text}",
-                        self.port
+                        "kcp: the server at 127.0.0.1:{} is not understood{}: {text}",
+                        self.port,
+                        tls_hint(may_want_tls(bytes))
                     );
                 }
             }
@@ -94,25 +114,49 @@ impl<R: Eprint> Teller<'_, R> {
         }
     }
 
-    /// Notes a status code that the server answered with: from 500 on it says that the server has failed (RFC 9110, Server Error 5xx).
-    pub(crate) fn note_answered(&self, code: u16) {
+    /// Notes a status code that an errand was answered with: from 500 on it says that the server has failed (RFC 9110, Server Error 5xx).
+    pub(crate) fn note_answered(&self, errand: Errand, code: u16) {
         if code >= FIRST_SERVER_ERROR {
-            self.note(Trouble::Fails(code));
-        } else if self.reach.answers_again() {
-            self.say("answers again");
+            if self.reach.failures.note_failed(errand) {
+                self.say_code(code);
+            }
+        } else if self.reach.failures.note_answered(errand) {
+            self.say_over("fails no longer");
         }
     }
 
     /// Notes a status code that a list of a kind was answered with, or a stream that stands for one.
     pub(crate) fn note_listed(&self, kind: Kind, code: u16) {
         if refuses_list(code) {
-            if self.reach.refuses(kind, code) {
-                self.tell(Trouble::Refuses(code));
+            if self.reach.refusals.note_refused(kind, code) {
+                self.say_code(code);
             }
-        } else if code == OK && self.reach.lists_again(kind) {
-            self.say("answers again");
-        } else {
-            self.note_answered(code);
+        } else if code == OK && self.reach.refusals.note_listed(kind) {
+            self.say_over("refuses no list any more");
+        }
+        self.note_answered(Errand::follow(kind), code);
+    }
+
+    /// Notes an answer that was lost, though the server is there. Where what comes is no reply, that was said already.
+    pub(crate) fn note_lost(&self) {
+        if !self.reach.sends_no_reply() && self.reach.losses.note_lost() {
+            let _ = eprintln!(self.rt;
+                "kcp: the server at 127.0.0.1:{} gives no whole reply{}",
+                self.port,
+                tls_hint(self.reach.wants_tls())
+            );
+        }
+    }
+
+    /// Notes whether what the server sends begins as where TLS is wanted.
+    pub(crate) fn note_begun(&self, wants_tls: bool) {
+        self.reach.note_begun(wants_tls);
+    }
+
+    /// Notes that a whole reply came.
+    pub(crate) fn note_whole(&self) {
+        if self.reach.losses.note_whole() {
+            self.say_over("gives whole replies again");
         }
     }
 
@@ -129,9 +173,14 @@ impl<R: Eprint> Teller<'_, R> {
         }
     }
 
-    /// Notes that what the server sent was read as what it is to be.
-    pub(crate) fn note_understood(&self) {
-        if self.reach.is_understood_again() {
+    /// Notes that who asks has not understood what came, and had understood what came before.
+    pub(crate) fn note_puzzled(&self) {
+        self.reach.note_puzzled();
+    }
+
+    /// Notes that what the server sent was read as what it is to be, by one that may not have understood what came before.
+    pub(crate) fn note_understood(&self, was_puzzled: bool) {
+        if self.reach.is_understood_again(was_puzzled) {
             self.say("is understood again");
         }
     }

@@ -1,7 +1,7 @@
 //! What keeps a server from answering.
 ghost use Rattle.std.specs.Prelude.{◌≡◌, ◌≢◌, true};
 ghost use Rattle.std.specs.IoError.{error_kind, raw_os_error};
-ghost use Rattle.kcp_loopback.specs.Troubles.{LacksDescriptor};
+ghost use Rattle.kcp_loopback.specs.Troubles.{LacksDescriptor, is_of_connections};
 
 use std::io;
 use std::io::ErrorKind;
@@ -25,10 +25,6 @@ pub enum Trouble {
     Unreadable,
     /// What comes is no reply of HTTP.
     NoReply,
-    /// The server answers that it has failed, with this status code.
-    Fails(u16),
-    /// The server refuses a list with this status code.
-    Refuses(u16),
 }
 
 impl Trouble {
@@ -54,22 +50,21 @@ impl Trouble {
             Trouble::Unreachable => 1,
             Trouble::NoDescriptor => 2,
             Trouble::NoMemory => 3,
-            Trouble::Unreadable => UNREADABLE,
-            Trouble::NoReply => NO_REPLY,
-            Trouble::Fails(code) => NO_REPLY + 1 + u64::from(code),
-            Trouble::Refuses(code) => REFUSED + u64::from(code),
+            Trouble::Unreadable => 4,
+            Trouble::NoReply => 5,
+        }
+    }
+
+    /// Returns whether it keeps connections from being made: it is over once one is. Else it is over once what comes is understood.
+    pub(crate) fn is_of_connections(self) -> bool
+        ensures { result ≡ is_of_connections self }
+    {
+        match self {
+            Trouble::Unreachable | Trouble::NoDescriptor | Trouble::NoMemory => true,
+            Trouble::Unreadable | Trouble::NoReply => false,
         }
     }
 }
-
-/// The number of what cannot be read: those below are of connections that are not made.
-pub(crate) const UNREADABLE: u64 = 4;
-
-/// The number of what is no reply: it and those above, up to `REFUSED`, are over at the next answer.
-pub(crate) const NO_REPLY: u64 = 5;
-
-/// From which number on lists are refused: that is over once none is.
-pub(crate) const REFUSED: u64 = 1 << 17;
 
 /// Returns whether an error says that no descriptor is left.
 fn is_without_descriptor(error: &io::Error) -> bool
