@@ -35,7 +35,7 @@ watch_news opened.Expired = news.Replied
 watch_news (opened.Refused code) = news.Troubled (refusal code)
 watch_news opened.Lost = news.Troubled trouble.NoReply
 
--- nor while streams of initial events are asked for again: only where the server does not know them a list is asked for
+-- nor while streams of initial events are, which are watches, but where the server does not know them: a list stands for them then
 abbrev pub stream_news : Opened → News
 stream_news opened.Open = news.WatchGiven
 stream_news opened.Expired = news.Troubled (trouble.WatchesRefused 410)

@@ -79,8 +79,8 @@ pub(crate) fn watch_news(opened: Opened) -> News
     }
 }
 
-/// Returns what it says that a stream of initial events was asked for. A list follows where the server refuses such streams; else a stream is asked
-/// for again.
+/// Returns what it says that a stream of initial events was asked for. Nothing is wrong where the server does not know such streams: a list follows.
+/// After another refusal one may follow too, but streams are watches, and these are then refused as a rule.
 pub(crate) fn stream_news(opened: Opened) -> News
     ensures { result ≡ stream_news opened }
 {

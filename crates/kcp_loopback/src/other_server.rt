@@ -3,7 +3,6 @@ ghost use Rattle.kcp_loopback.specs.Others.{api_of};
 
 use crate::connecting::LoopbackConnector;
 use crate::errand::Errand;
-use crate::refusals::refuses_stream;
 use crate::trouble::Trouble;
 use api_client::{Api, Opened};
 use http_client::statuses::OK;
@@ -113,14 +112,12 @@ impl<R: Net<Stream = TcpStream> + Eprint, A: Api + Drop> OtherServer<'_, R, A> {
         }
     }
 
-    /// Looks at the server as after a watch where a stream of a kind was asked for, which stands for a list. Where streams alone are refused, the
-    /// list that is asked for next tells whether it is answered.
+    /// Looks at the server as after a watch where a stream of a kind was asked for, which stands for a list. Where it is refused, and not for now
+    /// alone, a list is asked for next, and that tells.
     fn look_after_stream(&mut self, kind: Kind, opened: Opened) {
         match opened {
             Opened::Open => self.connector.teller().note_listed(kind, OK),
-            Opened::Refused(code) if refuses_stream(code) => {
-                self.connector.teller().note_listed(kind, code)
-            }
+            Opened::Refused(code) => self.note_opened(kind, code),
             _ => self.look_after(kind, opened),
         }
     }

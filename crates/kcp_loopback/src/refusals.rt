@@ -1,10 +1,8 @@
 //! Which kinds a server refuses to list.
 ghost use Rattle.std.specs.Prelude.{◌≡◌};
-ghost use Rattle.kcp_loopback.specs.Refusals.{refuses_list, refuses_stream};
+ghost use Rattle.kcp_loopback.specs.Refusals.{refuses_list};
 
-use http_client::statuses::{
-    BAD_REQUEST, FIRST_SERVER_ERROR, GONE, OK, TOO_MANY_REQUESTS, UNPROCESSABLE_CONTENT,
-};
+use http_client::statuses::{FIRST_SERVER_ERROR, GONE, OK, TOO_MANY_REQUESTS};
 use object_keys::PerKind;
 use spec_api::kinds::Kind;
 use std::sync::atomic::{AtomicU64, Ordering};
@@ -17,13 +15,6 @@ pub(crate) fn refuses_list(code: u16) -> bool
     ensures { result ≡ refuses_list code }
 {
     code < FIRST_SERVER_ERROR && code != OK && code != GONE && code != TOO_MANY_REQUESTS
-}
-
-/// Returns whether a status code refuses a stream of initial events, and no list is asked for in its place.
-pub(crate) fn refuses_stream(code: u16) -> bool
-    ensures { result ≡ refuses_stream code }
-{
-    refuses_list(code) && code != BAD_REQUEST && code != UNPROCESSABLE_CONTENT
 }
 
 /// The status code by which a list of each kind was refused last, until one is answered, and which was said last, until it was said that none is.
