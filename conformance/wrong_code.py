@@ -7,14 +7,15 @@
                                          piece of each other crate, by turns; says what was not tried, and keeps nothing
                   --at-most SECONDS      fails where not all of must-fail were tried after so many seconds
     wrong_code.py --check                tries nothing, and says in a few seconds what has changed since it was tried
+    wrong_code.py --compile [NAME..]     tries nothing, and says in some minutes which pieces the compiler does not take
     wrong_code.py --plan                 says how many pieces can be tried beside others
 
 The crates below have to be built: by `rt all check`, `python3 build.py` or `rt ci`. negative/pieces.py says what a piece is,
 negative/trials.py how they are tried, and negative/tried.py what tried.txt has. `rt must-fail` of the toolchain tries those in must-fail
 too, each alone. A crate that is named is tried even where its line of tried.txt still stands.
 
-The status is 1 where a piece was not refused, or, with --check, no longer applies to the text, or, with --at-most, there was no time for one of
-must-fail, and nowhere else.
+The status is 1 where a piece was not refused, or, with --check, no longer applies to the text, or, with --compile, is not taken by the compiler, or,
+with --at-most, there was no time for one of must-fail, and nowhere else.
 """
 import argparse
 import collections
@@ -141,6 +142,7 @@ def tell(verdicts):
 def main():
     parser = argparse.ArgumentParser(description=__doc__.splitlines()[0])
     parser.add_argument("--check", action="store_true", help="try nothing, and say what has changed")
+    parser.add_argument("--compile", action="store_true", help="try nothing, and say which pieces the compiler does not take")
     parser.add_argument("--plan", action="store_true", help="try nothing, and say how many checks it takes")
     parser.add_argument("--within", type=float, metavar="SECONDS", help="try what the gate tries, within this time")
     parser.add_argument("--at-most", type=float, metavar="SECONDS", help="with --within: fail where not all of must-fail were tried after this time")
@@ -155,7 +157,24 @@ def main():
     unknown = [name for name in asked.names if name not in known]
     if unknown:
         parser.error(f"crates.txt names no {', '.join(unknown)}")
+    if asked.compile:
+        sys.exit(0 if compile_all(asked.names or with_pieces(known), asked.jobs) else 1)
     sys.exit(0 if tell(within(asked) if asked.within is not None else kept(asked, known)) else 1)
+
+
+def compile_all(names, jobs):
+    """Says which pieces of these crates the compiler does not take, and returns whether it takes all."""
+    from negative import compiling
+    from negative.prover import Prover
+
+    prover = Prover()
+    with concurrent.futures.ThreadPoolExecutor(jobs) as pool:
+        wrong = [it for found in pool.map(lambda name: compiling.not_taken(prover, name, pieces.pieces(name)), names) for it in found]
+    for it, why in wrong:
+        print(f"{it} is not taken by the compiler: {why}")
+    count = sum(len(pieces.pieces(name)) for name in names)
+    print(f"{count - len(wrong)} of {count} pieces are taken by the compiler")
+    return not wrong
 
 
 def named(asked, parser):
