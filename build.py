@@ -27,20 +27,43 @@ SECONDS_OF_A_CRATE = 60
 
 
 class Progress:
-    """Says which crates are proved, and how long the others will take if they go on at the rate of those."""
+    """Says which crates are proved, and how long the others will take: all of them at the rate of those, or the longest chain of them, one of
+    which waits for the other, each as many times slower than it was once as those were; whatever is longer."""
 
-    def __init__(self, crates):
+    def __init__(self, crates, program):
         known = figures.known_seconds()
         self.seconds = {it.name: known.get(it.name, (SECONDS_OF_A_CRATE, 0))[0] for it in crates}
+        self.below = {it.name: [below.name for below in it.below()] for it in crates}
+        self.last = known.get(program.name, (SECONDS_OF_A_CRATE, 0))[0]
         self.left, self.began, self.printing = set(self.seconds), time.monotonic(), threading.Lock()
-        self.worked = 0
+        self.worked = self.took = 0
+
+    def longest_chain(self):
+        """Returns the seconds of the longest chain of crates that are left, and of the program, which waits for all."""
+        longest = {}
+
+        def until(name):
+            if name not in longest:
+                below = [until(it) for it in self.below[name] if it in self.left]
+                longest[name] = self.seconds[name] + max(below, default=0)
+            return longest[name]
+
+        return max(map(until, self.left), default=0) + self.last
+
+    def seconds_left(self):
+        """Returns how many seconds all that is left will most likely take; none before anything was proved."""
+        if not self.worked:
+            return 0
+        rest = sum(self.seconds[name] for name in self.left) + self.last
+        return max((time.monotonic() - self.began) * rest, self.took * self.longest_chain()) / self.worked
 
     def ended(self, crate, what, seconds):
         with self.printing:
             self.left.discard(crate.name)
             self.worked += self.seconds[crate.name] if seconds else 0
-            passed, rest = time.monotonic() - self.began, sum(self.seconds[name] for name in self.left)
-            soon = f"; about {passed * rest / self.worked / 60:.0f} minutes left" if rest and self.worked else ""
+            self.took += seconds
+            left = self.seconds_left()
+            soon = f"; about {left / 60:.0f} minutes left" if left else ""
             count = len(self.seconds) - len(self.left)
             print(f"[{count}/{len(self.seconds)}] {crate.name} {what}{f' in {seconds:.0f} s' if seconds else ''}{soon}", flush=True)
 
@@ -93,7 +116,7 @@ def main():
     program = next(it for it in rt.rtlib.crates_below(str(ROOT)) if it.name == PROGRAM)
     libraries = program.below()
     held = rt.rtlib.lock([*libraries, program])
-    progress = Progress(libraries)
+    progress = Progress(libraries, program)
     tasks = {it.name: (waits, seconds, rt.need(it), call) for it in libraries for waits, seconds, call in [task(it, progress, wrong)]}
     if asked.jobs:
         rt.processors = lambda: asked.jobs

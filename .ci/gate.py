@@ -36,6 +36,7 @@ RANDOM_HEADS = 5000
 RANDOM_BYTES = 100_000
 RANDOM_SCHEDULES = 200
 RANDOM_TURNS = 100
+RANDOM_RESTS = 100
 # Within what time a controller has to have made what follows from one change: a second where nothing runs beside it.
 SECONDS_FOR_A_CHANGE = "20"
 # What `rt ci` says of a proof, a negative test, a test or a program that is not as it has to be, and the scripts of a case.
@@ -165,7 +166,7 @@ def asked_first(log):
 
 def asked_of_program(log):
     """Runs what asks the program that `rt ci` built: request lines, also while growths of its memory are refused, schedules of a simulated
-    cluster, a rollout and schedules of controllers, and over sockets cases, random heads, many clients at once, real clients where they are
+    cluster, a rollout, schedules of controllers, also to rest, and over sockets cases, random heads, many clients at once, real clients where they are
     installed, a follower through a proxy and over recorded bytes, a controller of one's own, and the controllers at work."""
     words = {
         "conformance": ["run.py"],
@@ -173,13 +174,16 @@ def asked_of_program(log):
         "random bytes": ["random_bytes/run.py", "--bytes", str(RANDOM_BYTES)],
         "schedules": ["simulate/run.py", "--random", str(RANDOM_SCHEDULES)],
         "a rollout": ["simulate/rollout.py"],
-        "schedules of controllers": ["simulate/schedules.py", "--count", str(RANDOM_TURNS)],
+        "schedules of controllers": ["simulate/schedules.py", "--count", str(RANDOM_TURNS), "--oracle"],
+        "schedules that come to rest": ["simulate/at_rest.py", "--count", str(RANDOM_RESTS)],
         "cases over HTTP": ["http/run.py"],
         "random heads": ["http/heads.py", "--count", str(RANDOM_HEADS)],
         "many connections": ["http/many.py"],
         "histories": ["histories/run.py"],
         "histories, 500 watchers": ["histories/run.py", "--threads", "4", "--clients", "4", "--seconds", "3", "--watchers", "500"],
         "clients": ["clients/run.py"],
+        "kubectl": ["clients/kubectl.py"],
+        "fixtures": ["clients/fixtures.py"],
         "following": ["following/run.py", "--follower", FOLLOWER, "--short"],
         "following, cut at each byte": ["following/cuts.py", "--follower", FOLLOWER, "--short"],
         "following, in scopes": ["following/scopes.py", "--follower", FOLLOWER],
@@ -189,6 +193,7 @@ def asked_of_program(log):
         "README": ["readme.py"],
     }
     ran = {name: Run([sys.executable, "-B", f"conformance/{script}", "--program", PROGRAM, *rest], log) for name, (script, *rest) in words.items()}
+    ran["a controller from nothing"] = Run([sys.executable, "-B", "conformance/clients/walk.py"], log)
     ran["pictures"] = Run([sys.executable, "-B", "conformance/simulate/pictures.py"], log)
     ran["benchmarks"] = Run([sys.executable, "-B", "conformance/benchmarks.py", "--program", BENCHMARKS], log)
     ran["recorded bytes"] = Run([sys.executable, "-B", "conformance/recorded/run.py", "--follower", FOLLOWER], log)

@@ -1,9 +1,9 @@
 #!/usr/bin/env python3
 """Asks a built program how it is used, and looks whether it names each command, and of each the options that docs/API.md has in its tables.
 
-Words that ask no command are bad arguments whatever is said of them: standard error and the status say so. They say too which fault ended a
-command: standard input that cannot be read, standard output that cannot be written, a port that another listens on (refusals/run.py has the
-want of memory).
+Words that ask no command are bad arguments whatever is said of them: standard error and the status say so, and standard output names the word
+that is not understood and how the command is used. They say too which fault ended a command: standard input that cannot be read, standard output
+that cannot be written, a port that another listens on, with its cause (refusals/run.py has the want of memory).
 Usage: arguments.py [--program PATH]
 """
 import argparse
@@ -18,16 +18,21 @@ import sys
 ROOT = pathlib.Path(__file__).resolve().parent.parent
 BUILT = "crates/kcp/out/kcp"
 COMMANDS = ("replay", "simulate", "serve", "control", "all")
-# Words, one of them no UTF-8, and whether they are told how the program is used.
+# Words, one of them no UTF-8, what is told how it is used (None: the program), and the word that is not understood.
 TOLD = {
-    "": True,
-    "help": True,
-    "--help": True,
-    "help serve": False,
-    "served --help": False,
-    "serve --port": False,
-    "serve \udcff": False,
-    "replay now": False,
+    "": (None, None),
+    "help": (None, None),
+    "--help": (None, None),
+    "help serve": (None, "help"),
+    "served --help": (None, "served"),
+    "serve --port": ("serve", "--port"),
+    "serve --prot 1": ("serve", "--prot"),
+    "serve --port 1 --port 1": ("serve", "--port"),
+    "serve --port 99999": ("serve", "99999"),
+    "serve \udcff": (None, None),
+    "control --workers 4": ("control", None),
+    "all --workers 4 --requests 1": ("all", "--requests"),
+    "replay now": ("replay", "now"),
 }
 SECONDS = 20
 # What standard input is, and how it is open: of a folder nothing can be read, nor of what is open to be written.
@@ -63,12 +68,13 @@ def options_of(page):
 
 def wrong_of(program, options):
     """Returns what is not as it has to be, a line for each words that were tried."""
-    for words, is_told in {**TOLD, **{f"{it} --help": True for it in COMMANDS}}.items():
+    for words, (about, strange) in {**TOLD, **{f"{it} --help": (it, None) for it in COMMANDS}}.items():
         said, told, status = asked(program, words)
-        named = COMMANDS if words in ("", "help", "--help") else options.get(words.split()[0], ())
-        lacks = [it for it in named if is_told and not re.search(rf"(?m)^  {re.escape(it)} ", said)]
-        more = set(re.findall(r"(?m)^  (--\w+) ", said)) - set(named)
-        is_right = said.startswith("usage: kcp") == is_told and bool(said) == is_told
+        named = COMMANDS if about is None else options.get(about, ())
+        usage = said.removeprefix(f"not understood: {strange}\n\n") if strange else said
+        lacks = [it for it in named if not re.search(rf"(?m)^  {re.escape(it)} ", usage)]
+        more = set(re.findall(r"(?m)^  (--\w+) ", usage)) - set(named)
+        is_right = usage.startswith(f"usage: kcp {about or 'COMMAND'}") and bool(strange) == (usage != said)
         if not is_right or lacks or more or (told, status) != ("kcp: bad arguments\n", 2):
             yield f"kcp {words}: status {status}, lacks {lacks}, has {sorted(more)}: {said!r} {told!r}"
 
@@ -87,13 +93,14 @@ def opened(source):
 
 
 def ended(program, words, source, sink):
-    """Returns the last line of standard error and the status of a program, or what it did in their place."""
+    """Returns the lines of standard error, but those that tell of its running, and the status of a program, or what it did in their place."""
     with opened(source) as given, open(sink, "wb") as written:
         try:
             ran = subprocess.run([program, *words.split()], **given, stdout=written, stderr=subprocess.PIPE, timeout=SECONDS)
         except subprocess.TimeoutExpired:
             return f"still runs after {SECONDS} s"
-    return ran.stderr.decode("utf-8", "replace").splitlines(keepends=True)[-1:], ran.returncode
+    lines = ran.stderr.decode("utf-8", "replace").splitlines(keepends=True)
+    return lines[-2:] if lines[-1:] and lines[-1].startswith("kcp: port ") else lines[-1:], ran.returncode
 
 
 def wrong_of_faults(program):
@@ -102,7 +109,7 @@ def wrong_of_faults(program):
         for words, source, sink, fault in FAULTS:
             words = words.replace("TAKEN", str(taken.getsockname()[1]))
             found = ended(program, words, source, sink)
-            if found != ([f"kcp: {fault}\n"], 1):
+            if found[0][:1] != [f"kcp: {fault}\n"] or found[1] != 1 or len(found[0]) != 1 + (fault == "listen"):
                 yield f"kcp {words}, {source} to {sink}: {found}, not {fault}"
 
 

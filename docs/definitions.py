@@ -29,7 +29,8 @@ BESIDE = {
 }
 
 # The crates of laws, whose words stand in the index of words.
-LAWS = ["spec_laws", "keyed_queues", "informer_laws", "sim_worker_laws", "sim_cluster_laws", "sim_control_plane_laws", "sim_overshoot_laws", "list_and_watch", "spec_http"]
+LAWS = ["spec_laws", "keyed_queues", "informer_laws", "sim_worker_laws", "sim_rest_laws", "sim_rest_command_laws", "reconcile_locality_laws", "sim_rest_deployment_laws", "sim_settled_laws", "sim_cluster_laws", "sim_control_plane_laws", "sim_overshoot_laws",
+        "sim_rest_create_laws", "sim_rest_set_laws", "sim_rest_plane_laws", "list_and_watch", "spec_http"]
 
 HEAD = """# Definitions
 

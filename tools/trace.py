@@ -1,33 +1,23 @@
 #!/usr/bin/env python3
 """Makes a picture of a trace of `kcp simulate` and its outcomes.
 
-    trace.py TRACE OUTCOMES > page.html          a page without outside parts: hovering or focusing a step shows its line and what came of it
+    trace.py TRACE OUTCOMES > page.html          a page without outside parts, 1,280 pixels wide
     trace.py --svg TRACE OUTCOMES > picture.svg  the picture alone
 
-Lanes stand for the client, the server, each kind's link and informer, the work queue and each worker; time goes down. Where somebody acts on
-a revision that the server has passed, as a look or a publish, both are named: `looks at 3 of 5`.
+Lanes stand for the client, the server, each kind's link and informer, the work queue and each worker, as far as they are used; time goes down.
+Where somebody acts on a revision that the server has passed, as a look or a publish, both are named: `looks at 3 of 5`. Steps one after another
+that were not open, or that brought nothing, share a row. Beside it the page has the line that is hovered over or focused, what came of it, why it
+was not open or what of it was not understood, and the objects after it: as the server has them, and as they are published. A key in the field
+above leaves its steps alone.
 """
 import argparse
 import pathlib
 import sys
 
 sys.dont_write_bytecode = True
-from tracing.picture import picture
+from tracing.page import page
+from tracing.picture import rows_of, svg
 from tracing.steps import NotOfTheTrace, read
-
-PAGE = """<!doctype html>
-<html lang="en"><head><meta charset="utf-8"><title>{title}</title><style>
-body {{ margin: 0; font: 13px sans-serif }} main {{ padding-bottom: 9em }}
-#told {{ position: fixed; bottom: 0; left: 0; right: 0; max-height: 8em; overflow: auto; margin: 0; padding: .5em; background: #eef; white-space: pre-wrap }}
-</style></head><body><main>
-{picture}
-</main><pre id="told">Hover over a step, or go through them with the Tab key.</pre><script>
-const told = document.getElementById("told");
-for (const step of document.querySelectorAll("g.step"))
-  for (const event of ["mouseenter", "focus"])
-    step.addEventListener(event, () => {{ told.textContent = step.querySelector("title").textContent; }});
-</script></body></html>"""
-
 
 def main():
     parser = argparse.ArgumentParser(description=__doc__.splitlines()[0])
@@ -39,8 +29,7 @@ def main():
         steps = read(asked.trace.read_text(encoding="utf-8", errors="replace"), asked.outcomes.read_text(encoding="utf-8", errors="replace"))
     except (OSError, NotOfTheTrace) as error:
         sys.exit(f"trace.py: {error}")
-    drawn = picture(steps)
-    print(drawn if asked.svg else PAGE.format(title=asked.trace.stem, picture=drawn))
+    print(svg(rows_of(steps)[0]) if asked.svg else page(asked.trace.stem, steps))
 
 
 if __name__ == "__main__":

@@ -7,7 +7,8 @@ connections, and no list of pods ever shows a pod too many of a set; each kind o
 started anew behind a proxy, and known as another one; what is not understood is told of, lists that are refused, and a port that wants TLS;
 the controllers end after so many turns; workers are woken though the clock stands still; commands are answered 503 for a while, creates 500
 and others as conflicts, which is told of; live reads of a set are refused; a reply and a watch drip; streams of initial events are given, and
-refused; a stand-in for a Kubernetes API server takes each request of a rollout; and watches fall silent. Each scenario begins with nothing.
+refused; a stand-in for a Kubernetes API server takes each request of a rollout; watches fall silent; and what comes and goes unseen between two
+lists is made good. Each scenario begins with nothing.
 
 Nothing has to happen within a certain time but that of `--limit`, which is long. In short, answers and watches are cut, but no requests:
 a controller that cannot know whether a create has arrived waits 300 seconds for the pod.
@@ -37,6 +38,7 @@ import silence
 import streaming
 import turns
 import understanding
+import unseen
 import waking
 from waiting import DEFAULT_SECONDS, Limit
 
@@ -71,6 +73,10 @@ def scenarios(asked):
         "failures-are-told": lambda: refusing.creates_fail(program),
         "streams-given": lambda: streaming.streamed(program),
         "streams-refused": lambda: streaming.streams_refused(program, [400, 422]),
+        "owner-unseen": lambda: unseen.owner_unseen(program),
+        "set-unseen": lambda: unseen.set_unseen(program),
+        "pod-unseen": lambda: unseen.pod_unseen(program),
+        "shown-owners-are-not-read": lambda: unseen.shown_owners_are_not_read(program, asked.objects or (300 if few else 2000)),
         "at-a-cluster": lambda: cluster_rollouts.at_a_cluster(program),
         "commands-lost": lambda: losing.lost_by(program, [1, 4], is_short=few),
         "commands-lost-hurried": lambda: hurried.lost_by_seeds(program, asked.seed, 4 if few else 200),
@@ -102,6 +108,7 @@ def main():
     parser.add_argument("--program", required=True)
     parser.add_argument("--short", action="store_true")
     parser.add_argument("--seed", type=int, default=1)
+    parser.add_argument("--objects", type=int)
     parser.add_argument("--limit", type=float, default=DEFAULT_SECONDS)
     parser.add_argument("word", nargs="?", default="")
     asked = parser.parse_args()

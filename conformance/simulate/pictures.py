@@ -1,7 +1,7 @@
 #!/usr/bin/env python3
 """Makes the page of each case with tools/trace.py, and looks for each of its lines there; and whether the pictures of docs/ are as it makes them.
 
-Where a headless browser is installed (Debian's `chromium`), it opens the pages, and what it shows is looked at.
+Where a headless browser is installed (Debian's `chromium-headless-shell` or `chromium`), it opens the pages, and what it shows is looked at.
 Usage: pictures.py [WORD]      WORD: only cases whose name has it
 """
 import pathlib
@@ -15,6 +15,7 @@ HERE = pathlib.Path(__file__).resolve().parent
 ROOT = HERE.parent.parent
 # How many pages a browser opens: each takes it seconds.
 MOST_OPENED = 3
+BROWSERS = ("chromium-headless-shell", "chromium")
 
 
 def made(case, *options):
@@ -31,8 +32,9 @@ def lines_of(case):
 
 
 def shown(page):
-    """Returns the numbers of the lines that a page shows as steps, in its order."""
-    return re.findall(r'<g class="step[^"]*" tabindex="0" data-line="(\d+)"><title>', page)
+    """Returns the numbers of the lines that a page shows as steps, in its order; some steps share a row."""
+    rows = re.findall(r'<title>line [^<]*', page)
+    return [number for row in rows for number in re.findall(r"(?m)^(?:<title>)?line (\d+): ", row)]
 
 
 def opened(browser, page):
@@ -49,8 +51,8 @@ def main():
     cases = sorted(path.stem for path in (HERE / "cases").glob("*.simulate") if word in path.stem)
     pages, failed = {case: made(case) for case in cases}, []
     failed += [case for case in cases if shown(pages[case]) != lines_of(case)]
-    browser = shutil.which("chromium")
-    print(f"a browser opens the {MOST_OPENED} longest pages" if browser else "chromium is not installed: no page was opened")
+    browser = next(filter(None, map(shutil.which, BROWSERS)), None)
+    print(f"a browser opens the {MOST_OPENED} longest pages" if browser else f"{' and '.join(BROWSERS)} are not installed: no page was opened")
     for case in sorted(cases, key=lambda it: -len(lines_of(it)))[: MOST_OPENED if browser else 0]:
         failed += [] if shown(opened(browser, pages[case])) == lines_of(case) else [f"{case} in the browser"]
     drawn = sorted((ROOT / "docs" / "pictures").glob("*.svg"))

@@ -3,17 +3,20 @@
 
 A Deployment of three pods is created; its ReplicaSet appears, and the pods of that. The script marks pods ready, as a kubelet does. The
 template is changed, and a second ReplicaSet grows as the first shrinks. The Deployment is deleted, and all that it owned is collected.
-At each end it is checked what is there. Change the script to see what comes of another order.
+At each end it is checked what is there; `--page` writes all of it as a page (tools/trace.py). Change the script to see what comes of another order.
 
-Usage: rollout.py --program PATH [--workers N] [--verbose]
+Usage: rollout.py --program PATH [--workers N] [--verbose] [--page FILE]
 """
 import argparse
 import pathlib
 import sys
 
 sys.dont_write_bytecode = True
-sys.path[:0] = [str(pathlib.Path(__file__).resolve().parent)]
+HERE = pathlib.Path(__file__).resolve().parent
+sys.path[:0] = [str(HERE), str(HERE.parent.parent / "tools")]
 import plane
+from tracing.page import page
+from tracing.steps import read
 
 NAME = "web"
 REPLICAS = 3
@@ -119,19 +122,40 @@ def whole_rollout(control):
     print("nothing is left")
 
 
+class Log:
+    """Keeps the lines that are sent and what is written for them, and prints them where that is asked for."""
+
+    def __init__(self, is_verbose):
+        self.is_verbose, self.lines, self.outcomes = is_verbose, [], []
+
+    def told(self, line, reply):
+        self.lines.append(line)
+        self.outcomes.append(reply)
+        if self.is_verbose:
+            print(f"  {line}\n    {reply}")
+
+    def write(self, file):
+        """Writes the page of it all."""
+        file.write_text(page("a rollout", read("\n".join(self.lines), "\n".join(self.outcomes))), encoding="utf-8")
+
+
 def main():
     parser = argparse.ArgumentParser(description=__doc__.splitlines()[0])
     plane.add_program(parser)
     parser.add_argument("--workers", type=int, default=2)
     parser.add_argument("--verbose", action="store_true")
+    parser.add_argument("--page", type=pathlib.Path, metavar="FILE", help="where to write the page of it")
     asked = parser.parse_args()
-    told = (lambda line, reply: print(f"  {line}\n    {reply}")) if asked.verbose else None
+    log = Log(asked.verbose)
     try:
-        with plane.Plane(plane.words_of(asked.program), window=64, workers=asked.workers, told=told) as control:
+        with plane.Plane(plane.words_of(asked.program), window=64, workers=asked.workers, told=log.told) as control:
             whole_rollout(control)
     except (Wrong, plane.Broken) as error:
         print(f"FAILED {error}\n0 passed, 1 failed")
         sys.exit(1)
+    finally:
+        if asked.page:
+            log.write(asked.page)
     print("1 passed, 0 failed")
 
 

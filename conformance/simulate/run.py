@@ -5,7 +5,7 @@ A case is a pair of files in cases/: NAME.simulate has the lines, NAME.expect wh
 of a letter that is cut is run with the cut after each byte of its frame in turn, a stream of initial events with the cut after each of its
 bytes, and 2,000 changes in windows of several sizes, with exact
 lists and watches from below each window to above the present, whose text is the oracle's. With `--random N` come N schedules of a hundred random
-steps each, whose text is the oracle's; `--oracle` runs nothing, and compares the cases without workers with what the oracle says.
+steps each, whose text is the oracle's; `--oracle` runs nothing, and compares the cases with what the oracle says.
 
 The program is built from the sources by `rt try`, which proves nothing; `--program PATH` runs one that is built already.
 Usage: run.py [--program PATH | --oracle] [--random N] [--seed N] [WORD]      WORD: only cases whose name has it
@@ -146,15 +146,8 @@ def window_case(window, chosen):
     return run.Case(f"a-window-of-{window:04}-serves-as-a-plain-list", given, oracle.simulate(given))
 
 
-def has_workers(case):
-    """Returns whether a worker has a part in a case."""
-    return any(line.startswith(b"take ") for line in case.given.split(b"\n"))
-
-
 def by_oracle(asked):
-    """Compares the cases with what the oracle says, which knows nothing of workers."""
-    left, asked = [case for case in asked if has_workers(case)], [case for case in asked if not has_workers(case)]
-    print("".join(f"left out, since workers have a part in it: {case.name}\n" for case in left), end="")
+    """Compares the cases with what the oracle says."""
     failed = [case.name for case in asked if oracle.simulate(case.given) != case.wanted]
     print("".join(f"FAILED {name}\n" for name in failed), end="")
     print(f"{len(asked) - len(failed)} passed, {len(failed)} failed")

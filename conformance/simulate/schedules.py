@@ -13,10 +13,12 @@ each step that may write, the lists of the kind are asked for, so that it is kno
   object that it had looked at or read;
 - a turn is done where all its commands were accepted, and only there.
 
-Usage: schedules.py --program PATH [--count N] [--seed S] [--steps N] [--verbose]
+With `--oracle` each line that is written is also compared with what the oracle says. `at_rest.py` lets the schedules come to rest.
+Usage: schedules.py --program PATH [--count N] [--seed S] [--steps N] [--oracle] [--verbose]
   --count N    how many schedules, 100 if left out
   --seed S     the seed of the first, 1 if left out; the others follow one by one
   --steps N    how many steps each has
+  --oracle     compares each line with what the oracle says
   --verbose    shows each step
 """
 import argparse
@@ -29,6 +31,7 @@ import sys
 
 sys.dont_write_bytecode = True
 sys.path[:0] = [str(pathlib.Path(__file__).resolve().parent)]
+import oracle
 import plane
 from plane import KINDS
 
@@ -240,19 +243,24 @@ def spec_of(name, replicas, image):
 class Schedule:
     """A random schedule, step by step."""
 
-    def __init__(self, seed, told):
+    def __init__(self, seed, told, has_oracle=False):
         self.chosen = random.Random(seed)
         self.workers = self.chosen.randrange(1, 4)
         self.checks = Checks(self.workers)
         self.window = self.chosen.choice((2, 4, 8, 64))
         self.initial = self.chosen.choice(("list", "stream"))
+        self.oracle = oracle.Simulation(self.window, self.workers, self.initial) if has_oracle else None
         self.taken = 0
         self.has_work = False
         self.show = told
 
     def told(self, line, reply):
+        """Checks what is told of a step, and lists what a command may have written."""
         if self.show:
             self.show(line, reply)
+        if self.oracle:
+            wanted = self.oracle.answer(line.encode()).rstrip("\n")
+            check(reply == wanted, f"{line} is answered {reply}, and not {wanted}")
         if not line.startswith("request GET /"):
             self.taken += 1
         self.has_work |= reply.startswith(("handled ", "finished ", "time "))
@@ -260,6 +268,9 @@ class Schedule:
             self.checks.told(line, reply)
         elif not reply[:3].isdigit():
             raise Wrong(f"a request is answered {reply}")
+        if reply.startswith("issued "):
+            self.look_back(reply.split(" ")[3].split("/")[0])
+            self.checks.after_issue(line.split(" ")[1], reply)
 
     def run(self, words, steps):
         """Takes so many steps, after those that create and publish something."""
@@ -267,6 +278,10 @@ class Schedule:
             self.begin()
             while self.taken < steps:
                 self.step()
+            self.end()
+
+    def end(self):
+        """Does what is to be done after the steps."""
 
     def begin(self):
         """Creates one of the owners, and publishes all kinds."""
@@ -294,19 +309,13 @@ class Schedule:
                 self.inform()
         else:
             how = self.chosen.choices((None, "lost", "dropped"), (85, 8, 7))[0]
-            self.after(worker, self.control.advance(worker, how))
+            self.control.advance(worker, how)
 
     def astray(self, worker):
         """Asks for a step that need not be open."""
         to, kind = self.control, self.chosen.choice(KINDS)
         actions = (to.take, to.satisfied, to.read, to.expect, to.issue, to.finish, lambda it: to.look(it, kind))
-        self.after(worker, self.chosen.choice(actions)(worker))
-
-    def after(self, worker, reply):
-        """Lists what a command may have written."""
-        if reply.startswith("issued "):
-            self.look_back(reply.split(" ")[3].split("/")[0])
-            self.checks.after_issue(worker, reply)
+        self.chosen.choice(actions)(worker)
 
     def look_back(self, kind):
         """Notes what there is of a kind."""
@@ -437,36 +446,47 @@ def shown(line, reply):
     print(f"  {line}\n    {reply}", flush=True)
 
 
-def tried(words, seed, steps, told):
-    """Runs the schedule of a seed. Returns what is wrong, or None, and how often each outcome came."""
-    schedule = Schedule(seed, told)
+def tried(schedule, words, steps):
+    """Runs a schedule. Returns what is wrong, or None, and how often each outcome came."""
     try:
         schedule.run(words, steps)
     except (Wrong, plane.Broken, KeyError, ValueError, OSError) as error:
-        return f"FAILED seed {seed}, step {schedule.taken}: {error!r}", schedule.checks.counts
+        return f"step {schedule.taken}: {error!r}", schedule.checks.counts
     return None, schedule.checks.counts
 
 
-def main():
-    parser = argparse.ArgumentParser(description=__doc__.splitlines()[0])
+def read_options(text):
+    """Returns the parser of what schedules are asked for."""
+    parser = argparse.ArgumentParser(description=text.splitlines()[0])
     plane.add_program(parser)
     parser.add_argument("--count", type=int, default=100)
     parser.add_argument("--seed", type=int, default=1)
     parser.add_argument("--steps", type=int, default=STEPS)
     parser.add_argument("--verbose", action="store_true")
-    asked = parser.parse_args()
+    return parser
+
+
+def run_all(make, asked):
+    """Runs the schedule that is made of each seed, says which failed and what came of all, and ends with a status that says so."""
     words, told, failed, counts = plane.words_of(asked.program), shown if asked.verbose else None, 0, collections.Counter()
     side_by_side = 1 if asked.verbose else min(4, os.cpu_count() or 1)
     with concurrent.futures.ThreadPoolExecutor(side_by_side) as pool:
         seeds = range(asked.seed, asked.seed + asked.count)
-        for wrong, came in pool.map(lambda seed: tried(words, seed, asked.steps, told), seeds):
+        for seed, (wrong, came) in zip(seeds, pool.map(lambda seed: tried(make(seed, told), words, asked.steps), seeds)):
             counts += came
             failed += wrong is not None
             if wrong:
-                print(wrong, flush=True)
+                print(f"FAILED seed {seed}, {wrong}", flush=True)
     print(", ".join(f"{name} {count}" for name, count in sorted(counts.items())))
     print(f"{asked.count - failed} passed, {failed} failed")
     sys.exit(1 if failed or not asked.count else 0)
+
+
+def main():
+    parser = read_options(__doc__)
+    parser.add_argument("--oracle", action="store_true")
+    asked = parser.parse_args()
+    run_all(lambda seed, told: Schedule(seed, told, asked.oracle), asked)
 
 
 if __name__ == "__main__":

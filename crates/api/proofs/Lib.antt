@@ -1,3 +1,4 @@
+pub mod Asking
 pub mod Written
 pub mod Done
 pub mod Delivered

@@ -1,3 +1,4 @@
+pub mod Askable
 pub mod Replying
 pub mod ListReplies
 pub mod Responding

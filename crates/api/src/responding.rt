@@ -1,5 +1,6 @@
 //! What is asked, done at a server.
 ghost use Rattle.std.specs.Prelude.{Ok, Some};
+ghost use Rattle.api.specs.Askable.{MayBeAsked, MayBeSaid};
 ghost use Rattle.api.specs.Responding.{IsMade, Responds};
 ghost use Rattle.request_decoding.specs.Asked.{asked_seen};
 ghost use Rattle.spec_api.specs.Targets as targets;
@@ -29,6 +30,7 @@ fn respond_to_request<S: Site>(
     site: &mut S,
     moment: Moment,
 ) -> Response
+    requires asked { S.MayAsk (request_of request) }
     ensures responds { Responds S.Calls S.Lists S.Begins S.Watches moment site.old site.new
         (Some (Ok (targets.request (request_of request)))) result }
     ensures made { IsMade result }
@@ -98,6 +100,7 @@ fn respond_to_watch<S: Site>(
 /// Does what is asked at a server, and returns what is to be written. A reply to what was done never lacks memory: that of a list is made as it
 /// is written, and waits for memory.
 pub fn respond_to<S: Site>(alloc: Global, asked: Asked, site: &mut S, moment: Moment) -> Response
+    requires asked { MayBeAsked S.MayAsk (asked_seen asked) }
     ensures { Responds S.Calls S.Lists S.Begins S.Watches moment site.old site.new
         (Some (Ok (asked_seen asked))) result }
 {
@@ -110,6 +113,7 @@ pub fn respond_to<S: Site>(alloc: Global, asked: Asked, site: &mut S, moment: Mo
 
 /// Does what is asked at a server, and returns what is to be written, which is made.
 fn respond_whole<S: Site>(alloc: Global, asked: Asked, site: &mut S, moment: Moment) -> Response
+    requires asked { MayBeAsked S.MayAsk (asked_seen asked) }
     ensures responds { Responds S.Calls S.Lists S.Begins S.Watches moment site.old site.new
         (Some (Ok (asked_seen asked))) result }
     ensures made { IsMade result }
@@ -126,6 +130,7 @@ fn respond_whole<S: Site>(alloc: Global, asked: Asked, site: &mut S, moment: Mom
 /// Does what was received at a server, and returns what is to be written, which is made. Where nothing was asked nothing is done, nor where
 /// what was asked is refused.
 pub fn respond<S: Site>(alloc: Global, received: Received, site: &mut S, moment: Moment) -> Response
+    requires asked { MayBeSaid S.MayAsk (said received) }
     ensures responds { Responds S.Calls S.Lists S.Begins S.Watches moment site.old site.new (said received) result }
     ensures made { IsMade result }
 {

@@ -2,6 +2,7 @@
 ghost use Rattle.std.specs.Prelude.{◌≡◌};
 ghost use Rattle.api.specs.Serving.{AsksWhole, Reads, ServesOne, has_reader_failed, how_left};
 ghost use Rattle.chunked.specs.Devices.{device_of, has_failed};
+ghost use Rattle.spec_api.specs.ObjectRequests.{Request};
 
 use crate::delivering::deliver;
 use crate::fault::ServeFault;
@@ -21,7 +22,7 @@ use std::io::{Read, Write};
 
 /// Serves one request of a connection: reads it, asks a server at a moment, and writes the reply. Half a request is neither done
 /// nor replied to. A reply to what was done never lacks memory; what is not done because memory ran out is replied to with that,
-/// and so is a refusal for whose reply there is none. Returns whether the server was asked: only then is it sure that the peer
+/// and so is a refusal for whose reply there is none. The server is one that may be asked any request. Returns whether the server was asked: only then is it sure that the peer
 /// sends no more of its request.
 ///
 /// The error says why the connection is left: its reader failed, and nothing was done or written; its writer failed, and a
@@ -35,6 +36,7 @@ pub fn serve_one<S: Site, P: LookPace, R: Read + Drop, W: Write + Drop>(
     moment: Moment,
     pace: &mut P,
 ) -> Result<Served, ServeFault>
+    requires any { (q : Request) → S.MayAsk q }
     ensures serves { ServesOne S.Calls S.Lists S.Begins S.Watches W.contents moment site.old site.new writer.old writer.new
         (R.remaining (device_of reader.old)) (how_left result) }
     ensures asked { AsksWhole (R.remaining (device_of reader.old)) result }

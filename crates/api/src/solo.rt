@@ -74,6 +74,8 @@ impl Site for Solo {
 
     ghost Calls = { CallsAlone };
 
+    ghost MayAsk = { λ q. Unit {0} };
+
     ghost Lists = { ListsAlone };
 
     fn call(&mut self, alloc: Global, request: Request, moment: Moment) -> Result<Reply, Fault> {
@@ -101,4 +103,6 @@ impl Site for Solo {
             Err(fault) => Err(fault),
         }
     }
+
+    ghost readable = { λ q can. tt };
 }

@@ -1,3 +1,4 @@
+mod Again
 mod Named
 mod Made
 mod Owed
@@ -5,6 +6,7 @@ mod Turned
 mod Taken
 mod Runs
 mod Added
+mod BoardTold
 mod LookedBack
 mod Sent
 mod Asked

@@ -101,7 +101,7 @@ module _ (K : RattleType) (n : named.Ghosts K.Denot) (o : ord.Ghosts K.Denot) (q
       controller = search (c, sendable)
 
       handler : IsSend (Handler.the_row a R C K n o q e p)
-      handler = declared_send (Handler.the_type a R C K n o q e p) (runtime, (alloc, (controller, (lent_board, (pass, (lent_under_way, (revision, tt)))))))
+      handler = declared_send (Handler.the_type a R C K n o q e p) (runtime, (alloc, (controller, (lent_board, (pass, (lent_under_way, (listers, (revision, tt))))))))
 
       module _ (A : RattleType) (s : IsSend A) (w : Wait.Ghosts R.Denot) where
         api : IsSend (as_row (Field.row_field A))

@@ -25,9 +25,11 @@ impl<'a, R: Wait + Clock, K: Named, C: Reconciler<K>, A: Api + Drop> KindFollowe
     ghost use Rattle.std.specs.Prelude.{◌≡◌};
     ghost use Rattle.shared_keyed_board.specs.Passes.{key_in_hand, sight};
     ghost use Rattle.controller_runtime.specs.Runs.{OnlyAddsOwed};
+    ghost use Rattle.controller_runtime.specs.Told.{IsToldAll};
 
-    /// Follows the kind until the run is over. Its pass adds keys that changes owe, and does nothing else.
+    /// Follows the kind until the run is over. Its pass adds keys that changes owe, and does nothing else: those of each publish once, in order.
     pub(crate) fn run(&mut self)
+        ensures told { IsToldAll K.order K.says C.owes self.old.follower self.old.handler.revision (sight K.says self.old.handler.pass) self.new.follower (sight K.says self.new.handler.pass) }
         ensures board { self.new.handler.board.now ≡ self.old.handler.board.now }
         ensures key { key_in_hand K.says self.new.handler.pass ≡ key_in_hand K.says self.old.handler.pass }
         ensures adds { OnlyAddsOwed C.owes K.says (sight K.says self.old.handler.pass) (sight K.says self.new.handler.pass) }

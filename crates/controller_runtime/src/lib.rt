@@ -19,6 +19,7 @@ pub(crate) mod stopping;
 pub(crate) mod telling;
 pub(crate) mod ticking;
 pub(crate) mod turning;
+pub(crate) mod unchanged;
 pub(crate) mod under_way;
 pub mod watches;
 pub(crate) mod working;

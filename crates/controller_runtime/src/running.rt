@@ -73,6 +73,7 @@ impl<'a, R: Threads + Wait + Clock + Sync, K: Named, C: Reconciler<K>> Ground<'a
         kind: Kind,
         pass: BoardPass<K>,
         informer: SharedInformer<'a, R>,
+        listers: Listers,
         api: A,
     ) -> RunThread<'a, R, C, K, A>
         requires { IsNewAt self.now.board.now pass }
@@ -85,6 +86,7 @@ impl<'a, R: Threads + Wait + Clock + Sync, K: Named, C: Reconciler<K>> Ground<'a
             self.board,
             pass,
             self.under_way,
+            listers,
         );
         RunThread::Follows(KindFollower {
             alloc: self.alloc,
@@ -151,7 +153,7 @@ impl<'a, R: Threads + Wait + Clock + Sync, K: Named, C: Reconciler<K>> Ground<'a
         threads: &mut Vec<RunThread<'a, R, C, K, A>>,
         passes: &mut Vec<BoardPass<K>>,
         kind: Kind,
-        informer: SharedInformer<'a, R>,
+        followed: (SharedInformer<'a, R>, Listers),
         api: Option<A>,
     ) -> Result<Option<SharedInformer<'a, R>>, AllocError>
         requires ready { All (IsReady C.owes C.ends K.says self.now.board.now) threads.old.items }
@@ -162,10 +164,11 @@ impl<'a, R: Threads + Wait + Clock + Sync, K: Named, C: Reconciler<K>> Ground<'a
         ensures count { OnOk result (vec_len threads.new + vec_len passes.new ≡ vec_len threads.old + vec_len passes.old) }
         ensures left { vec_len passes.old ≤ vec_len passes.new + 1 }
     {
+        let (informer, listers) = followed;
         match api {
             Some(api) => {
                 let pass = self.next_pass(passes);
-                threads.push(self.follows(kind, pass, informer, api))?;
+                threads.push(self.follows(kind, pass, informer, listers, api))?;
                 Ok(None)
             }
             None => Ok(Some(informer)),
@@ -207,7 +210,7 @@ struct Members<'a, R: Wait, C, K: Named, A: Drop> {
 fn with_followers<'a, R: Threads + Wait + Clock + Sync, K: Named, C: Reconciler<K>, A: Api + Drop>(
     ground: &Ground<'a, R, C, K>,
     passes: &mut Vec<BoardPass<K>>,
-    kinds: Vec<(Kind, (SharedInformer<'a, R>, Option<A>))>,
+    kinds: Vec<(Kind, ((SharedInformer<'a, R>, Listers), Option<A>))>,
     made: Vec<RunThread<'a, R, C, K, A>>,
 ) -> Result<Members<'a, R, C, K, A>, AllocError>
     requires passes { All (IsNewAt ground.now.board.now) passes.old.items }
@@ -219,8 +222,8 @@ fn with_followers<'a, R: Threads + Wait + Clock + Sync, K: Named, C: Reconciler<
 {
     let (mut left, mut threads) = (kinds, made);
     let mut empty = Vec::with_capacity(ground.alloc, left.len())?;
-    while let Some((kind, (informer, api))) = left.pop() {
-        if let Some(informer) = ground.add_follower(&mut threads, passes, kind, informer, api)? {
+    while let Some((kind, (followed, api))) = left.pop() {
+        if let Some(informer) = ground.add_follower(&mut threads, passes, kind, followed, api)? {
             empty.push(informer)?;
         }
     }
@@ -266,7 +269,8 @@ fn all_members<'a, R: Threads + Wait + Clock + Sync, K: Named, C: Reconciler<K>,
     let mut informers = informers;
     let mut threads = workers(ground, passes, &mut informers, asking)?;
     threads.push(ground.ticks(ground.next_pass(passes)))?;
-    let kinds = informers.zip(apis).into_entries(ground.alloc)?;
+    let listers = PerKind::try_made_in_turn(|_| listers_of(&mut informers))?;
+    let kinds = informers.zip(listers).zip(apis).into_entries(ground.alloc)?;
     let pass = ground.next_pass(passes);
     let members = with_followers(ground, passes, kinds, threads)?;
     with_stopper(ground, pass, members)
@@ -306,7 +310,7 @@ where
     ensures count { IfOk result (λ r. vec_len r.1 ≡ vec_len passes) }
 {
     let mut passes = passes;
-    let informers = open_informers(rt, alloc, asking.len() + 1)?;
+    let informers = open_informers(rt, alloc, asking.len() + Kind::ALL.len())?;
     let apis = apis_of(followed);
     let under_way = UnderWay::new(over, kinds_in(&apis));
     let ground = Ground {

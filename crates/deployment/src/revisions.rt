@@ -20,6 +20,9 @@ const REVISION: &str = "deployment.kubernetes.io/revision";
 /// The most digits of a revision.
 const MOST_DIGITS: usize = 18;
 
+/// The greatest revision: the greatest number of that many digits.
+pub(crate) const GREATEST_REVISION: u64 = 999_999_999_999_999_999;
+
 fn revision_said(text: &str) -> u64
     ensures value { result ≡ revision_said text.now }
     ensures small { result < 2 ^ 60 }

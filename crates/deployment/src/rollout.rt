@@ -9,7 +9,7 @@ ghost use Rattle.spec_reconcile.specs.Templates.{bare};
 ghost use Rattle.deployment.specs.Sets.{rollout_seen};
 ghost use Rattle.reconcile_types.specs.Entries.{entry_of};
 
-use crate::revisions::revision;
+use crate::revisions::{GREATEST_REVISION, revision};
 use crate::templates::bare_text;
 use meta::Object;
 use object_keys::Key;
@@ -122,5 +122,5 @@ fn greatest_revision(sets: &[Entry<'_>]) -> u64
 pub(crate) fn due(rollout: &Rollout<'_>) -> u64
     ensures { result ≡ due (rollout_seen rollout.now) }
 {
-    greatest_revision(rollout.old.as_slice()) + 1
+    (greatest_revision(rollout.old.as_slice()) + 1).min(GREATEST_REVISION)
 }

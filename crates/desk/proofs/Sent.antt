@@ -15,6 +15,8 @@ use Rattle.server.specs.contracts.servers.Server as Server
 use Rattle.server.proofs.Sent.{server}
 use Rattle.desk.specs.contracts.askings.Anything as Anything
 use Rattle.desk.specs.contracts.askings.AnythingAsking.TheImpl as asks
+use Rattle.desk.specs.contracts.askings.Readable as Readable
+use Rattle.desk.specs.contracts.askings.ReadableAsking.TheImpl as reads
 use Rattle.desk.specs.contracts.desks.Desk as Desk
 use Rattle.desk.specs.contracts.entries.StoreEntry as Entry
 use Rattle.desk.specs.contracts.store_law.StoreLaw as StoreLaw
@@ -27,6 +29,11 @@ pub desk : IsSync (Desk.the_row Anything.the_row asks.ghosts)
 desk =
     let field = Baton.the_field Server.the_row (StoreLaw.the_row Anything.the_row) Entry.the_row (laws.ghosts Anything.the_row asks.ghosts laws.no_dict) in
     declared_sync (Desk.the_type Anything.the_row asks.ghosts) (as_row_sync field (baton_of.the_field_sync Server.the_row (StoreLaw.the_row Anything.the_row) Entry.the_row (laws.ghosts Anything.the_row asks.ghosts laws.no_dict) server), (size, tt))
+
+pub readable_desk : IsSync (Desk.the_row Readable.the_row reads.ghosts)
+readable_desk =
+    let field = Baton.the_field Server.the_row (StoreLaw.the_row Readable.the_row) Entry.the_row (laws.ghosts Readable.the_row reads.ghosts laws.no_dict) in
+    declared_sync (Desk.the_type Readable.the_row reads.ghosts) (as_row_sync field (baton_of.the_field_sync Server.the_row (StoreLaw.the_row Readable.the_row) Entry.the_row (laws.ghosts Readable.the_row reads.ghosts laws.no_dict) server), (size, tt))
 
 taken : IsSend (Option.the_row Server.the_row)
 taken = search (option.the_send, server, sendable) depth 20

@@ -5,7 +5,7 @@ ghost use Rattle.api.specs.Told.{Tells};
 ghost use Rattle.desk.specs.Desks.{known, IsPassAt};
 ghost use Rattle.desk.specs.Seats.{desk_at, known_at, listener_at, Calls};
 
-use crate::askings::{Anything, Asking};
+use crate::askings::{Asking, Readable};
 use crate::desks::{Desk, StorePass};
 use crate::kinds::kind_of;
 use crate::listeners::Listener;
@@ -109,13 +109,15 @@ impl<'a, A: Asking, L: Listener, R: Wait> WatchSource for Seat<'a, A, L, R> {
     }
 }
 
-impl<'a, L: Listener, R: Wait> Site for Seat<'a, Anything, L, R> {
-    ghost use Rattle.desk.specs.Askings.{IsAny};
+impl<'a, L: Listener, R: Wait> Site for Seat<'a, Readable, L, R> {
+    ghost use Rattle.desk.specs.Askings.{IsReadable};
     ghost use Rattle.desk.specs.Seats.{Calls, Lists};
 
-    ghost Calls = { Calls IsAny L.Hears };
+    ghost Calls = { Calls IsReadable L.Hears };
 
-    ghost Lists = { Lists IsAny };
+    ghost MayAsk = { IsReadable };
+
+    ghost Lists = { Lists IsReadable };
 
     fn call(&mut self, alloc: Global, request: Request, moment: Moment) -> Result<Reply, Fault> {
         match self.request(alloc, request, moment) {
@@ -148,4 +150,6 @@ impl<'a, L: Listener, R: Wait> Site for Seat<'a, Anything, L, R> {
             Err(fault) => Err(fault),
         }
     }
+
+    ghost readable = { λ q can. can };
 }

@@ -1,4 +1,5 @@
 pub mod Reading
+pub mod Readable
 pub mod Writing
 pub mod ListWriting
 pub mod Looks

@@ -1,5 +1,5 @@
 -- A list that is written, one part after the other.
-use Rattle.std.proofs.Common.{◌≡◌, ◌≤◌, ℕ, List, [], ◌++◌, length, drop, Option, refl, sym, ap, ◌∙◌, append_assoc, arith, nat_lt, false}
+use Rattle.std.proofs.Common.{◌≡◌, ◌≤◌, ℕ, List, [], ◌++◌, length, drop, Bool, Option, refl, sym, ap, ◌∙◌, append_assoc, arith, nat_lt, false}
 use Rattle.std.proofs.KnownBytes.{Appends-nil, Appends-trans}
 use Rattle.std.proofs.Math.ListN.{drop_of_length-le}
 use Rattle.std.proofs.lemmas.List.{nil_from_length}
@@ -19,10 +19,10 @@ list_begun_more a b c l m left (first, appends, is) (second, more, then) =
     (first ++ second, Appends-trans a b c first second appends more, append_assoc first second left ∙ ap (λ t. first ++ t) then ∙ is)
 
 -- one that is written on, as far as that goes now
-pub list_written_more : (a b c : Option (List ℕ)) (l m : Listing) (s : ListSent) → IsListBegun a b l (list_left m) → ListWrites b c m s → ListWrites a c l s
-list_written_more a b c l m sent.Whole begun more = list_begun_more a b c l m [] begun more
-list_written_more a b c l m (sent.Left n) begun more = list_begun_more a b c l m (list_left n) begun more
-list_written_more a b c l m sent.Failed begun (left, more) = (left, list_begun_more a b c l m left begun more)
+pub list_written_more : (no_room : Bool) (a b c : Option (List ℕ)) (l m : Listing) (s : ListSent) → IsListBegun a b l (list_left m) → ListWrites no_room b c m s → ListWrites no_room a c l s
+list_written_more no_room a b c l m sent.Whole begun more = list_begun_more a b c l m [] begun more
+list_written_more no_room a b c l m (sent.Left n) begun more = list_begun_more a b c l m (list_left n) begun more
+list_written_more no_room a b c l m sent.Failed begun (stopped, (left, more)) = (stopped, (left, list_begun_more a b c l m left begun more))
 
 -- bytes of it that are written as far as this
 pub list_sent_to : (a b : Option (List ℕ)) (l : Listing) (n : ℕ) → IsSent a b l.out.items l.taken n → IsListBegun a b l (drop n l.out.items ++ l.rest)

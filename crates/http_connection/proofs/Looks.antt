@@ -9,13 +9,18 @@ use Rattle.spec_api.specs.WatchReplies.{told_lines}
 use Rattle.chunked.specs.Bodies.{chunk_text}
 use Rattle.spec_http.specs.Replies.{frames_text}
 use Rattle.http_watch.specs.Watches.{Look, Ends, most_events, most_idle, stands_after, idle_after, look_frames}
+use Rattle.http_connection.specs.Deeds.{Glance, looks_of}
 use Rattle.http_connection.specs.Watches.{AreLooks, Lasts, revision_after, idles_after}
 
 module _ {S : Type 0} (watches : S → View → ℕ → ℕ → Look → S → Type 0) (v : View) where
-  pub looks_more : (at : ℕ) (looks : List Look) (w : Look) → AreLooks watches v at looks → ((s : S) × (t : S) × watches s v (revision_after at looks) most_events w t)
-      → AreLooks watches v at (looks ++ w ∷ [])
-  looks_more at [] w made one = (one, tt)
-  looks_more at (x ∷ looks) w made one = (made.0, looks_more (stands_after at x) looks w made.1 one)
+  pub looks_more : (at : ℕ) (gs : List (Glance S)) (g : Glance S) → AreLooks watches v at gs → watches g.before v (revision_after at (looks_of gs)) most_events g.look g.after
+      → AreLooks watches v at (gs ++ g ∷ [])
+  looks_more at [] g made one = (one, tt)
+  looks_more at (x ∷ gs) g made one = (made.0, looks_more (stands_after at x.look) gs g made.1 one)
+
+pub looks_of_more : {S : Type 0} → (gs : List (Glance S)) (g : Glance S) → looks_of (gs ++ g ∷ []) ≡ looks_of gs ++ g.look ∷ []
+looks_of_more [] g = refl
+looks_of_more (x ∷ gs) g = ap (λ t. x.look ∷ t) (looks_of_more gs g)
 
 pub frames_more : (k : Kind) (b : Bool) (at : ℕ) (looks : List Look) (w : Look) → look_frames k b at (looks ++ w ∷ []) ≡ look_frames k b at looks ++ look_frames k b (revision_after at looks) (w ∷ [])
 frames_more k b at [] w = refl

@@ -1,5 +1,5 @@
 -- Bytes that are written, one part after the other.
-use Rattle.std.proofs.Common.{◌≡◌, ◌+◌, ℕ, List, [], ◌++◌, length, take, drop, Option, refl, sym, ap, subst, ◌∙◌, arith, append_assoc, append-nil, length-append, false}
+use Rattle.std.proofs.Common.{◌≡◌, ◌+◌, ℕ, List, [], ◌++◌, length, nat_lt, take, drop, Bool, true, false, Option, inl, inr, refl, sym, ap, subst, ◌∙◌, arith, append_assoc, append-nil, length-append, true≢false}
 use Rattle.std.proofs.KnownBytes.{Appends-nil, Appends-trans}
 use Rattle.std.proofs.Math.Seq.{take-add}
 use Rattle.std.proofs.lemmas.List.{take-append-drop, append_cancel_left}
@@ -38,6 +38,7 @@ module _ (a b c : Option (List ℕ)) (w u : Watching) where
     same = (k.same.0 ∙ h.same.0, k.same.1 ∙ h.same.1, k.same.2 ∙ h.same.2);
     at = k.at ∙ h.at;
     bounded = λ x. k.bounded (h.bounded x);
+    made = λ x. k.made (h.made x);
   }
 
   pub begun_more : IsWritten a b w u → IsBegun b c u → IsBegun a c w
@@ -46,29 +47,39 @@ module _ (a b c : Option (List ℕ)) (w u : Watching) where
 
 module _ (a b : Option (List ℕ)) (w u : Watching) (h : IsWritten a b w u) where
   pub written_as_far : (v : Watching) → IsAsFar u v → IsWritten a b w v
-  written_as_far v (same, at, is, bounded) = record {
+  written_as_far v (same, at, is, bounded, made) = record {
     put = h.put;
     appends = h.appends;
     rest = ap (λ t. h.put ++ t) is ∙ h.rest;
     same = (same.0 ∙ h.same.0, same.1 ∙ h.same.1, same.2 ∙ h.same.2);
     at = at ∙ h.at;
     bounded = λ x. bounded (h.bounded x);
+    made = λ x. made (h.made x);
   }
 
   pub begun_so_far : IsBegun a b w
   begun_so_far = (h.put, unwritten u, h.appends, h.rest)
 
-  pub watches_rest : (p : ConnectionPhase) → Rests u p → WatchesOn a b w p
-  watches_rest (phase.Watching v) as_far = written_as_far v as_far
-  watches_rest (phase.Closing s) is = (is, begun_so_far)
-  watches_rest (phase.Reading x) never = never
-  watches_rest (phase.Asked x) never = never
-  watches_rest phase.Answering never = never
-  watches_rest (phase.Replying x) never = never
-  watches_rest (phase.Listing x) never = never
+  pub watches_rest : (no_room : Bool) (p : ConnectionPhase) → Rests u p → WatchesOn no_room a b w p
+  watches_rest no_room (phase.Watching v) as_far = written_as_far v as_far
+  watches_rest no_room (phase.Closing s) (is, over, none) =
+      (is, inr (inl (sym h.at ∙ over, subst (Appends a b) (sym (append-nil h.put) ∙ ap (λ t. h.put ++ t) (sym none) ∙ h.rest) h.appends)))
+  watches_rest no_room (phase.Reading x) never = never
+  watches_rest no_room (phase.Asked x) never = never
+  watches_rest no_room phase.Answering never = never
+  watches_rest no_room (phase.Replying x) never = never
+  watches_rest no_room (phase.Listing x) never = never
+
+  -- something it opened with is still to be made, as it was when it was begun
+  pub still_made : nat_lt 0 (length u.rest) ≡ true → nat_lt 0 (length w.rest) ≡ true
+  still_made now = by (nat_lt 0 (length w.rest)) refl
+    where
+      by : (m : Bool) → nat_lt 0 (length w.rest) ≡ m → m ≡ true
+      by true is = refl
+      by false is = absurd (true≢false (sym now ∙ h.made is))
 
 pub written_none : (a : Option (List ℕ)) (w : Watching) → IsWritten a a w w
-written_none a w = record { put = []; appends = Appends-nil a; rest = refl; same = (refl, refl, refl); at = refl; bounded = λ x. x }
+written_none a w = record { put = []; appends = Appends-nil a; rest = refl; same = (refl, refl, refl); at = refl; bounded = λ x. x; made = λ x. x }
 
 -- ---- what is made
 
@@ -82,6 +93,7 @@ written_to a b w u n (put, appends, is) same = subst (IsWritten a b w) (sym same
   same = (refl, refl, refl);
   at = refl;
   bounded = λ x. omega (arith, x, ap length (left_of w.out.items put w.taken n is), length-append put (drop n w.out.items), length-append (drop n w.out.items) w.later.items, length-append (drop w.taken w.out.items) w.later.items);
+  made = λ x. x;
 })
 
 -- and that may not have been written: a beginning

@@ -1,4 +1,6 @@
 -- The definitions, in reading order.
+pub mod Stopping
+pub mod Deeds
 pub mod Arriving
 pub mod Watches
 pub mod Lists

@@ -8,18 +8,19 @@ use Rattle.spec_api.specs.Versions.{Listed}
 use Rattle.spec_api.specs.WatchReplies.{told_lines}
 use Rattle.http_watch.specs.declared.standing.WatchStanding.{WatchStanding}
 use Rattle.http_watch.specs.Watches.{Look, Opening, Opens, Ends, most_events, most_idle, stands_after, idle_after, look_frames, ended_frames, opening_text}
+use Rattle.http_connection.specs.Deeds.{Glance}
 use Rattle.http_connection.specs.declared.watching.Watching.{Watching}
 
 module _ {S : Type 0} (watches : S → View → ℕ → ℕ → Look → S → Type 0) (v : View) where
-  -- these looks were made, each from where the watch stands after the one before it; others may have been served between them
-  abbrev pub AreLooks : ℕ → List Look → Type 0
+  -- these looks were given, each from where the watch stands after the one before it; others may have been served between them
+  abbrev pub AreLooks : ℕ → List (Glance S) → Type 0
   AreLooks at [] = ⊤
-  AreLooks at (w ∷ looks) = ((s : S) × (t : S) × watches s v at most_events w t) × AreLooks (stands_after at w) looks
+  AreLooks at (g ∷ gs) = watches g.before v at most_events g.look g.after × AreLooks (stands_after at g.look) gs
 
 module _ {S : Type 0} (begins : S → View → Option ℕ → Result Listed Refusal → S → Type 0) (watches : S → View → ℕ → ℕ → Look → S → Type 0) where
-  -- a watch of a view that begins so opened so and was given these looks
-  abbrev pub IsGiven : View → Bool → Start → Opening → List Look → Type 0
-  IsGiven v bookmarks start o looks = ((s : S) × (t : S) × Opens begins watches v bookmarks s start (Ok o) t) × AreLooks watches v o.stands looks
+  -- a watch of a view that begins so opened so, from one state to the other, and was given these looks
+  abbrev pub IsGiven : View → Bool → Start → S → S → Opening → List (Glance S) → Type 0
+  IsGiven v bookmarks start s t o gs = Opens begins watches v bookmarks s start (Ok o) t × AreLooks watches v o.stands gs
 
 -- ---- where it stands
 

@@ -1,8 +1,9 @@
 //! Requests that are whole, answered.
-ghost use Rattle.std.specs.Prelude.{ℕ, List};
 ghost use Rattle.api.specs.declared.response.Response.TheVariants as response;
+ghost use Rattle.api.specs.Askable.{CanBeAsked};
 ghost use Rattle.request_decoding.specs.Asked.{asked_seen};
-ghost use Rattle.http_connection.specs.Phases.{Answers, IsToBeWritten, Stands};
+ghost use Rattle.http_connection.specs.Arriving.{MayStand};
+ghost use Rattle.http_connection.specs.Phases.{Answers, IsToBeWritten, StandsAnswered};
 ghost use Rattle.http_connection.specs.declared.phase.ConnectionPhase.TheVariants as phase;
 
 use crate::listing::Listing;
@@ -70,9 +71,10 @@ pub fn answered(alloc: Global, response: Response) -> ConnectionPhase
 
 /// Does a request that is whole at a server, and returns where its connection then stands. Nothing was written yet.
 pub fn answer<S: Site>(alloc: Global, asked: Asked, site: &mut S, moment: Moment) -> ConnectionPhase
+    requires asked { CanBeAsked (asked_seen asked) }
     ensures answers { Answers S.Calls S.Lists S.Begins S.Watches moment site.old site.new (asked_seen asked) result }
-    ensures stands { (read written : List ℕ) → Stands S.Calls S.Lists S.Begins S.Watches (phase.Asked asked) read written
-        → Stands S.Calls S.Lists S.Begins S.Watches result read written }
+    ensures stands { StandsAnswered S.Calls S.Lists S.Begins S.Watches moment site.old site.new (phase.Asked asked) result }
+    ensures led { MayStand result }
 {
     answered(alloc, respond_to(alloc, asked, site, moment))
 }

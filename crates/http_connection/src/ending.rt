@@ -1,7 +1,7 @@
 //! Watches that who holds them ends.
-ghost use Rattle.std.specs.Prelude.{ℕ, List};
 ghost use Rattle.http_connection.specs.Looking.{EndsFrom};
-ghost use Rattle.http_connection.specs.Phases.{Stands};
+ghost use Rattle.http_connection.specs.Arriving.{MayStand};
+ghost use Rattle.http_connection.specs.Phases.{StandsOn};
 ghost use Rattle.http_connection.specs.declared.phase.ConnectionPhase.TheVariants as phase;
 
 use crate::looking::with_end;
@@ -17,8 +17,8 @@ use std::alloc::Global;
 /// The server that answers is named by the type alone.
 pub fn end_watch<S: Site>(alloc: Global, watching: Watching) -> ConnectionPhase
     ensures ends { EndsFrom watching watching.at result }
-    ensures stands { (read written : List ℕ) → Stands S.Calls S.Lists S.Begins S.Watches (phase.Watching watching) read written
-        → Stands S.Calls S.Lists S.Begins S.Watches result read written }
+    ensures stands { StandsOn S.Calls S.Lists S.Begins S.Watches (phase.Watching watching) result }
+    ensures led { MayStand result }
 {
     match watching.at {
         Some(_) => with_end(watching, Vec::new(alloc)),

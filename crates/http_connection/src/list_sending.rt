@@ -1,8 +1,10 @@
 //! Lists, written as far as they are taken.
 ghost use Rattle.std.specs.Prelude.{◌≤◌, length};
 ghost use Rattle.http_connection.specs.Lists.{IsRefilled, ListSends, ListWrites, ListsOn};
+ghost use Rattle.http_connection.specs.Stopping.{device_in, has_stopped};
 
 use crate::listing::Listing;
+use crate::noted::Noted;
 use crate::phase::ConnectionPhase;
 use crate::sending::{MOST_PIECES, Sent, write_on};
 use api::Served;
@@ -16,13 +18,13 @@ pub enum ListSent {
     Whole,
     /// As far as goes now, or so much that others are to go on: this is left.
     Left(Listing),
-    /// The writer failed.
+    /// The writer has stopped.
     Failed,
 }
 
-/// Writes on what is made of a list, and returns it then; nothing where the writer failed.
-fn list_sent<W: Write>(listing: Listing, writer: &mut W) -> Option<Listing>
-    ensures { ListSends (W.contents writer.old) (W.contents writer.new) listing result }
+/// Writes on what is made of a list, and returns it then; nothing where the writer has stopped.
+fn list_sent<W: Write + Drop>(listing: Listing, writer: &mut Noted<W>) -> Option<Listing>
+    ensures { ListSends (has_stopped writer.new) (W.contents (device_in writer.old)) (W.contents (device_in writer.new)) listing result }
 {
     match write_on(&listing.out, listing.taken, writer) {
         Sent::To(taken) => Some(Listing {
@@ -52,8 +54,8 @@ fn refilled(alloc: Global, listing: Listing) -> Result<Listing, Listing>
 }
 
 /// Writes what is made of a list, and leaves what is still to be made of it: others are to go on meanwhile.
-fn last_sent<W: Write>(listing: Listing, writer: &mut W) -> ListSent
-    ensures { ListWrites (W.contents writer.old) (W.contents writer.new) listing result }
+fn last_sent<W: Write + Drop>(listing: Listing, writer: &mut Noted<W>) -> ListSent
+    ensures { ListWrites (has_stopped writer.new) (W.contents (device_in writer.old)) (W.contents (device_in writer.new)) listing result }
 {
     let Some(listing) = list_sent(listing, writer) else {
         return ListSent::Failed;
@@ -70,8 +72,8 @@ fn last_sent<W: Write>(listing: Listing, writer: &mut W) -> ListSent
 
 /// Writes a list on, as far as that goes now, or so much that others are to go on: each piece is made once all before it was written. One for
 /// whose next piece there is no memory is left.
-fn list_written<W: Write>(alloc: Global, listing: Listing, writer: &mut W) -> ListSent
-    ensures { ListWrites (W.contents writer.old) (W.contents writer.new) listing result }
+fn list_written<W: Write + Drop>(alloc: Global, listing: Listing, writer: &mut Noted<W>) -> ListSent
+    ensures { ListWrites (has_stopped writer.new) (W.contents (device_in writer.old)) (W.contents (device_in writer.new)) listing result }
 {
     let mut listing = listing;
     for _ in 0..MOST_PIECES {
@@ -95,8 +97,12 @@ fn list_written<W: Write>(alloc: Global, listing: Listing, writer: &mut W) -> Li
 
 /// Writes a list on, and returns where its connection then stands. What is left of it is written by a later call. The connection is closed
 /// once all is written.
-pub(crate) fn list_on<W: Write>(alloc: Global, listing: Listing, writer: &mut W) -> ConnectionPhase
-    ensures { ListsOn (W.contents writer.old) (W.contents writer.new) listing result }
+pub(crate) fn list_on<W: Write + Drop>(
+    alloc: Global,
+    listing: Listing,
+    writer: &mut Noted<W>,
+) -> ConnectionPhase
+    ensures { ListsOn (has_stopped writer.new) (W.contents (device_in writer.old)) (W.contents (device_in writer.new)) listing result }
 {
     match list_written(alloc, listing, writer) {
         ListSent::Left(left) => ConnectionPhase::Listing(left),

@@ -1,8 +1,9 @@
 //! Watches that go on.
-ghost use Rattle.std.specs.Prelude.{◌≡◌, ◌++◌, ℕ, List, Some, None, IfSome};
+ghost use Rattle.std.specs.Prelude.{◌≡◌, ◌++◌, Some, None, IfSome};
 ghost use Rattle.chunked.specs.Bodies.{last_chunk};
 ghost use Rattle.http_connection.specs.Looking.{Adds, LooksFrom};
-ghost use Rattle.http_connection.specs.Phases.{Stands};
+ghost use Rattle.http_connection.specs.Arriving.{MayStand};
+ghost use Rattle.http_connection.specs.Phases.{StandsLooked};
 ghost use Rattle.http_connection.specs.declared.phase.ConnectionPhase.TheVariants as phase;
 
 use crate::phase::ConnectionPhase;
@@ -92,8 +93,8 @@ fn look_from<S: Site>(
 /// where its peer leaves more than 4 MiB unwritten beside what it was given at once.
 pub fn look_on<S: Site>(alloc: Global, watching: Watching, source: &mut S) -> ConnectionPhase
     ensures looks { LooksFrom S.Watches watching source.old source.new watching.at result }
-    ensures stands { (read written : List ℕ) → Stands S.Calls S.Lists S.Begins S.Watches (phase.Watching watching) read written
-        → Stands S.Calls S.Lists S.Begins S.Watches result read written }
+    ensures stands { StandsLooked S.Calls S.Lists S.Begins S.Watches source.old source.new (phase.Watching watching) result }
+    ensures led { MayStand result }
 {
     match watching.at {
         Some(at) => look_from(alloc, watching, at, source),

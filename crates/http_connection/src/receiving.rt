@@ -18,7 +18,7 @@ use std::alloc::Global;
 
 /// Returns where a connection stands that is refused with this.
 fn refused(text: Text) -> ConnectionPhase
-    ensures { (read : List ℕ) → IsRefusal read (text_of text) → Arrives read result }
+    ensures { (read : List ℕ) → IsRefusal read (text_of text) → Arrives false read result }
 {
     ConnectionPhase::Replying(Replying {
         text,
@@ -52,7 +52,7 @@ fn awaited_after(bytes: &[u8], needs: usize) -> Awaited
 
 /// Returns where a connection stands of which these bytes were read.
 fn look(alloc: Global, routes: &Routes, bytes: Vec<u8>) -> ConnectionPhase
-    ensures { Arrives bytes.items result }
+    ensures { Arrives false bytes.items result }
 {
     match look_at(alloc, routes, &bytes) {
         Ok(Arrived::Part(needs)) => {
@@ -61,7 +61,7 @@ fn look(alloc: Global, routes: &Routes, bytes: Vec<u8>) -> ConnectionPhase
         }
         Ok(Arrived::Whole(Received::Asked(asked))) => ConnectionPhase::Asked(asked),
         Ok(Arrived::Whole(Received::Refused(fault))) => refused(refusal_text(alloc, &fault)),
-        Ok(Arrived::Whole(Received::Ended)) => ConnectionPhase::Closing(Served::NotAsked),
+        Ok(Arrived::Whole(Received::Ended)) => unreachable!(),
         Err(_) => refused(Text::OutOfMemory),
     }
 }
@@ -81,7 +81,7 @@ fn is_to_be_looked_at(awaited: Awaited, len: usize) -> bool
 /// Returns where a connection stands whose request was not whole, after these bytes came: what it is does not depend on the pieces in
 /// which they came. Running out of memory is replied.
 pub fn arrived(alloc: Global, routes: &Routes, arriving: Arriving, piece: &[u8]) -> ConnectionPhase
-    ensures { (read : List ℕ) → IsArriving arriving read → Arrives (read ++ piece.now) result }
+    ensures { (read : List ℕ) → IsArriving arriving read → Arrives false (read ++ piece.now) result }
 {
     let awaited = arriving.awaited;
     let mut bytes = arriving.bytes;

@@ -1,8 +1,10 @@
 //! Bytes, written as far as they are taken.
 ghost use Rattle.std.specs.Prelude.{◌≡◌, ◌≤◌, IfSome, length};
 ghost use Rattle.api.specs.Responding.{text_of};
-ghost use Rattle.http_connection.specs.Sending.{IsAsFar, RepliesOn, Rests, Sends, WatchSends, WatchesOn};
+ghost use Rattle.http_connection.specs.Sending.{Refills, RepliesOn, Rests, Sends, WatchSends, WatchesOn};
+ghost use Rattle.http_connection.specs.Stopping.{device_in, has_stopped};
 
+use crate::noted::Noted;
 use crate::phase::ConnectionPhase;
 use crate::replying::Replying;
 use crate::watching::Watching;
@@ -19,14 +21,14 @@ pub(crate) const MOST_PIECES: u64 = 2;
 pub enum Sent {
     /// Up to here: to their end, or the writer takes no more now.
     To(usize),
-    /// The writer failed.
+    /// The writer has stopped.
     Failed,
 }
 
 /// Writes on from a place, until all is written or the writer takes no more now.
 #[tactic(auto, using(crate::proofs::Writing::sends_on))]
-pub(crate) fn write_on<W: Write>(bytes: &[u8], taken: usize, writer: &mut W) -> Sent
-    ensures { Sends (W.contents writer.old) (W.contents writer.new) bytes.now taken result }
+pub(crate) fn write_on<W: Write + Drop>(bytes: &[u8], taken: usize, writer: &mut Noted<W>) -> Sent
+    ensures { Sends (has_stopped writer.new) (W.contents (device_in writer.old)) (W.contents (device_in writer.new)) bytes.now taken result }
 {
     let mut at = taken;
     for _ in 0..u64::MAX {
@@ -36,14 +38,17 @@ pub(crate) fn write_on<W: Write>(bytes: &[u8], taken: usize, writer: &mut W) -> 
         match writer.write(bytes.split_at(at).1) {
             Ok(0) => return Sent::Failed,
             Ok(n) => at += n,
-            Err(error) => match error.kind() {
-                ErrorKind::WouldBlock => return Sent::To(at),
-                ErrorKind::Interrupted => {}
-                _ => return Sent::Failed,
-            },
+            Err(error) => {
+                if writer.has_stopped() {
+                    return Sent::Failed;
+                }
+                if error.kind() != ErrorKind::Interrupted {
+                    return Sent::To(at);
+                }
+            }
         }
     }
-    Sent::Failed
+    Sent::To(at)
 }
 
 /// Returns a reply whose bytes are made, if there is memory for them now.
@@ -72,12 +77,12 @@ fn bytes_of(text: &Text) -> Option<&[u8]>
 
 /// Writes a reply on, and returns where its connection then stands. A reply for whose bytes there is no memory waits: it is written by a
 /// later call.
-pub(crate) fn reply_on<W: Write>(
+pub(crate) fn reply_on<W: Write + Drop>(
     alloc: Global,
     replying: Replying,
-    writer: &mut W,
+    writer: &mut Noted<W>,
 ) -> ConnectionPhase
-    ensures { RepliesOn (W.contents writer.old) (W.contents writer.new) replying result }
+    ensures { RepliesOn (has_stopped writer.new) (W.contents (device_in writer.old)) (W.contents (device_in writer.new)) replying result }
 {
     let served = replying.served;
     let text = made(alloc, replying.text);
@@ -100,9 +105,9 @@ pub(crate) fn reply_on<W: Write>(
     })
 }
 
-/// Writes on what is made of a watch, and returns it then; nothing where the writer failed.
-fn watch_sent<W: Write>(watching: Watching, writer: &mut W) -> Option<Watching>
-    ensures { WatchSends (W.contents writer.old) (W.contents writer.new) watching result }
+/// Writes on what is made of a watch, and returns it then; nothing where the writer has stopped.
+fn watch_sent<W: Write + Drop>(watching: Watching, writer: &mut Noted<W>) -> Option<Watching>
+    ensures { WatchSends (has_stopped writer.new) (W.contents (device_in writer.old)) (W.contents (device_in writer.new)) watching result }
 {
     match write_on(&watching.out, watching.taken, writer) {
         Sent::To(taken) => Some(Watching {
@@ -117,7 +122,7 @@ fn watch_sent<W: Write>(watching: Watching, writer: &mut W) -> Option<Watching>
 /// Returns a watch with what is to be written after what is, made; nothing out of memory, or where it is more than may be left unwritten.
 fn refilled(alloc: Global, watching: Watching) -> Option<Watching>
     requires written { length watching.out.items ≤ watching.taken }
-    ensures { IfSome result (λ w. IsAsFar watching w) }
+    ensures { Refills watching result }
 {
     if !watching.rest.has_more() {
         return Some(Watching {
@@ -163,12 +168,12 @@ fn rested(alloc: Global, watching: Watching) -> ConnectionPhase
 
 /// Writes a watch on, as far as that goes now, or so much that others are to go on, and returns where its connection then stands. What it opened
 /// with is made as it is written.
-pub(crate) fn watch_on<W: Write>(
+pub(crate) fn watch_on<W: Write + Drop>(
     alloc: Global,
     watching: Watching,
-    writer: &mut W,
+    writer: &mut Noted<W>,
 ) -> ConnectionPhase
-    ensures { WatchesOn (W.contents writer.old) (W.contents writer.new) watching result }
+    ensures { WatchesOn (has_stopped writer.new) (W.contents (device_in writer.old)) (W.contents (device_in writer.new)) watching result }
 {
     let mut watching = watching;
     for _ in 0..MOST_PIECES {

@@ -1,10 +1,12 @@
 //! Reads and writes that wait for nobody.
 ghost use Rattle.std.specs.Prelude.{ℕ, List};
-ghost use Rattle.http_connection.specs.Arriving.{IsArriving, ReadsOn};
+ghost use Rattle.http_connection.specs.Arriving.{IsArriving, MayStand, ReadsOn};
 ghost use Rattle.http_connection.specs.Phases.{Turns};
+ghost use Rattle.http_connection.specs.Stopping.{device_in, has_stopped};
 
 use crate::arriving::Arriving;
 use crate::list_sending::list_on;
+use crate::noted::Noted;
 use crate::phase::ConnectionPhase;
 use crate::receiving::arrived;
 use crate::sending::{reply_on, watch_on};
@@ -17,14 +19,14 @@ use std::io::{ErrorKind, Read, Write};
 const PIECE: usize = 4096;
 
 /// Reads on until the request is whole, or nothing more is there now.
-fn read_on<R: Read>(
+fn read_on<R: Read + Drop>(
     alloc: Global,
     routes: &Routes,
     arriving: Arriving,
-    reader: &mut R,
+    reader: &mut Noted<R>,
 ) -> ConnectionPhase
     ensures { (read : List ℕ) → IsArriving arriving read
-        → ReadsOn (R.remaining reader.old) (R.remaining reader.new) read result }
+        → ReadsOn (has_stopped reader.new) (R.remaining (device_in reader.old)) (R.remaining (device_in reader.new)) read result }
 {
     let mut arriving = arriving;
     let mut piece = [0u8; PIECE];
@@ -35,34 +37,40 @@ fn read_on<R: Read>(
                 ConnectionPhase::Reading(more) => arriving = more,
                 other => return other,
             },
-            Err(error) => match error.kind() {
-                ErrorKind::WouldBlock => return ConnectionPhase::Reading(arriving),
-                ErrorKind::Interrupted => {}
-                _ => return ConnectionPhase::Closing(Served::NotAsked),
-            },
+            Err(error) => {
+                if reader.has_stopped() {
+                    return ConnectionPhase::Closing(Served::NotAsked);
+                }
+                if error.kind() != ErrorKind::Interrupted {
+                    return ConnectionPhase::Reading(arriving);
+                }
+            }
         }
     }
-    ConnectionPhase::Closing(Served::NotAsked)
+    ConnectionPhase::Reading(arriving)
 }
 
 /// Reads and writes as far as that goes now, and returns where the connection then stands: its request is read until it is whole, its reply
-/// its list or its watch is written. A request that is whole waits to be answered. A peer that ends before its request is whole, a reader or
-/// a writer that fails, and what is written to its end, close it.
+/// its list or its watch is written. A request that is whole waits to be answered, and a reply that was begun is the one that is written on. It is
+/// closed only where half a request was read and its peer sends no more, its peer takes no more, or what is to be written is written to its end; a
+/// watch also where there is no memory, or no room, for what it opened with.
 ///
 /// The server that answers is named by the type alone.
-pub fn turn<S: Site, R: Read, W: Write>(
+pub fn turn<S: Site, R: Read + Drop, W: Write + Drop>(
     alloc: Global,
     routes: &Routes,
     phase: ConnectionPhase,
-    reader: &mut R,
-    writer: &mut W,
+    reader: &mut Noted<R>,
+    writer: &mut Noted<W>,
 ) -> ConnectionPhase
-    ensures { Turns S.Calls S.Lists S.Begins S.Watches (R.remaining reader.old) (R.remaining reader.new)
-        (W.contents writer.old) (W.contents writer.new) phase result }
+    ensures turns { Turns S.Calls S.Lists S.Begins S.Watches (has_stopped reader.new) (has_stopped writer.new)
+        (R.remaining (device_in reader.old)) (R.remaining (device_in reader.new))
+        (W.contents (device_in writer.old)) (W.contents (device_in writer.new)) phase result }
+    ensures led { MayStand phase → MayStand result }
 {
     match phase {
         ConnectionPhase::Reading(arriving) => match read_on(alloc, routes, arriving, reader) {
-            ConnectionPhase::Replying(replying) => reply_on(alloc, replying, writer),
+            ConnectionPhase::Replying(refusal) => reply_on(alloc, refusal, writer),
             other => other,
         },
         ConnectionPhase::Replying(replying) => reply_on(alloc, replying, writer),

@@ -10,6 +10,7 @@ use Rattle.spec_api.specs.Versions.{Listed}
 use Rattle.selector.specs.Views.{view_of}
 use Rattle.http_watch.specs.Watches.{Look}
 use Rattle.http_watch.specs.declared.standing.WatchStanding.{WatchStanding}
+use Rattle.http_connection.specs.Arriving.{IsAskedBySome}
 use Rattle.http_connection.specs.Looking.{LooksFrom}
 use Rattle.http_connection.specs.Phases.{Answers}
 use Rattle.http_connection.specs.declared.phase.ConnectionPhase.{ConnectionPhase}
@@ -73,11 +74,11 @@ module _ {S L : Type 0} (calls : S → Request → List ℕ → Outcome → S �
   }
 
   -- a request that is whole
-  pub asks_one : (a b : Asker S L) (moment : List ℕ) (asked : targets.Asked) (p : ConnectionPhase) → Answers calls lists begins watches moment a.site b.site asked p
+  pub asks_one : (a b : Asker S L) (moment : List ℕ) (asked : targets.Asked) (p : ConnectionPhase) → IsAskedBySome asked → Answers calls lists begins watches moment a.site b.site asked p
       → b.asked ≡ a.asked + 1 → a.taken.count ≤ b.taken.count → HasAsked calls lists begins watches a b
-  asks_one a b moment asked p (r, responds, written) counted taken = record {
+  asks_one a b moment asked p some (r, responds, written) counted taken = record {
     requests = 1;
-    chain = (a.site, b.site, (0, refl), (moment, asked, r, responds), (0, refl));
+    chain = (a.site, b.site, (0, refl), (moment, asked, r, some, responds), (0, refl));
     counted = counted;
     taken = taken;
   }

@@ -10,6 +10,7 @@ use Rattle.spec_api.specs.Versions.{Listed}
 use Rattle.http_watch.specs.Watches.{Look, most_events}
 use Rattle.api.specs.Responding.{Responds}
 use Rattle.api.specs.declared.response.Response.{Response}
+use Rattle.http_connection.specs.Arriving.{IsAskedBySome}
 use Rattle.http_event_loop.specs.declared.asker.Asker.{Asker}
 
 -- it asks this server, and has not yet
@@ -22,9 +23,9 @@ IsPaid a b = b.asked + a.taken.count ≤ a.asked + b.taken.count
 
 module _ {S : Type 0} (calls : S → Request → List ℕ → Outcome → S → Type 0) (lists : S → View → ListOptions → Outcome → S → Type 0)
     (begins : S → View → Option ℕ → Result Listed Refusal → S → Type 0) (watches : S → View → ℕ → ℕ → Look → S → Type 0) where
-  -- what one connection asks is done at some moment: a request, a list, or the beginning of a watch
+  -- what one connection asks is done at some moment: a request, a list, or the beginning of a watch. There are bytes that ask it
   abbrev pub IsRequest : S → S → Type 0
-  IsRequest s t = (moment : List ℕ) × (a : targets.Asked) × (r : Response) × Responds calls lists begins watches moment s t (Some (Ok a)) r
+  IsRequest s t = (moment : List ℕ) × (a : targets.Asked) × (r : Response) × IsAskedBySome a × Responds calls lists begins watches moment s t (Some (Ok a)) r
 
   -- a watch is given a look
   abbrev pub IsLook : S → S → Type 0

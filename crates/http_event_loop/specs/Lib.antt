@@ -1,4 +1,5 @@
 -- The definitions, in reading order.
+pub mod Begun
 pub mod Asked
 pub mod Counted
 pub mod Deadlines

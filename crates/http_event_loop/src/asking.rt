@@ -1,8 +1,9 @@
 //! What a loop asks its server.
-ghost use Rattle.std.specs.Prelude.{◌≡◌, ◌<◌, ◌≤◌, ◌+◌, ℕ, List, true, false};
+ghost use Rattle.std.specs.Prelude.{◌≡◌, ◌<◌, ◌≤◌, ◌+◌, true, false};
 ghost use Rattle.request_decoding.specs.Asked.{asked_seen};
 ghost use Rattle.http_connection.specs.Looking.{LooksFrom};
-ghost use Rattle.http_connection.specs.Phases.{Answers, Stands};
+ghost use Rattle.http_connection.specs.Arriving.{IsAskedBySome, MayStand};
+ghost use Rattle.http_connection.specs.Phases.{Answers, StandsAnswered, StandsLooked};
 ghost use Rattle.http_connection.specs.declared.phase.ConnectionPhase.TheVariants as phase;
 ghost use Rattle.http_event_loop.specs.Asked.{HasAsked, IsNewAsker};
 
@@ -49,15 +50,16 @@ impl<S: Site, L: Ledger> Asker<'_, S, L> {
     /// Asks what a connection asks whose request is whole, and returns where it then stands.
     #[tactic(auto, using(crate::proofs::Chains::asks_one, crate::proofs::Chains::asks_nothing))]
     pub fn answer(&mut self, alloc: Global, asked: Asked, moment: Moment) -> ConnectionPhase
+        requires asks { IsAskedBySome (asked_seen asked) }
         ensures asked { HasAsked S.Calls S.Lists S.Begins S.Watches self.old self.new }
         ensures once { self.new.asked ≤ self.old.asked + 1 }
         ensures taken { self.new.taken ≡ self.old.taken }
         ensures counts { self.old.asked < self.old.taken.count → self.new.asked ≡ self.old.asked + 1 }
         ensures answers { self.old.asked < self.old.taken.count
             → Answers S.Calls S.Lists S.Begins S.Watches moment self.old.site self.new.site (asked_seen asked) result }
-        ensures stands { self.old.asked < self.old.taken.count → (read written : List ℕ)
-            → Stands S.Calls S.Lists S.Begins S.Watches (phase.Asked asked) read written
-            → Stands S.Calls S.Lists S.Begins S.Watches result read written }
+        ensures stands { self.old.asked < self.old.taken.count
+            → StandsAnswered S.Calls S.Lists S.Begins S.Watches moment self.old.site self.new.site (phase.Asked asked) result }
+        ensures led { MayStand result }
     {
         if self.asked >= self.taken.count {
             // By a call: laid out here, the drop of all that can be asked would cost more to prove than the rest.
@@ -73,8 +75,8 @@ impl<S: Site, L: Ledger> Asker<'_, S, L> {
     pub fn look(&mut self, alloc: Global, watching: Watching) -> ConnectionPhase
         ensures asked { HasAsked S.Calls S.Lists S.Begins S.Watches self.old self.new }
         ensures looks { LooksFrom S.Watches watching self.old.site self.new.site watching.at result }
-        ensures stands { (read written : List ℕ) → Stands S.Calls S.Lists S.Begins S.Watches (phase.Watching watching) read written
-            → Stands S.Calls S.Lists S.Begins S.Watches result read written }
+        ensures stands { StandsLooked S.Calls S.Lists S.Begins S.Watches self.old.site self.new.site (phase.Watching watching) result }
+        ensures led { MayStand result }
     {
         look_on(alloc, watching, &mut self.site)
     }

@@ -1,4 +1,6 @@
 //! How far a connection has come that a loop is given.
+ghost use Rattle.http_connection.specs.Arriving.{MayStand};
+
 use http_connection::{Arriving, ConnectionPhase};
 use request_decoding::Asked;
 use request_parts::list_options::ListOptions;
@@ -20,8 +22,13 @@ pub(crate) enum Begun {
 }
 
 impl Begun {
+    ghost use Rattle.http_event_loop.specs.Begun.{MayBeEither, MayHaveBegun};
+
     /// Returns where the connection stands.
-    pub(crate) fn into_phase(self, alloc: Global) -> ConnectionPhase {
+    pub(crate) fn into_phase(self, alloc: Global) -> ConnectionPhase
+        requires begun { MayHaveBegun self }
+        ensures led { MayStand result }
+    {
         match self {
             Begun::Unread => ConnectionPhase::Reading(Arriving::new(alloc)),
             Begun::Reading(arriving) => ConnectionPhase::Reading(arriving),
@@ -34,7 +41,10 @@ impl Begun {
 
     /// Returns how far a connection has come that stands here, if it is for another loop: its request is not whole, or asks for a list or a watch,
     /// which may take long. Else hands it back.
-    pub(crate) fn of_phase(phase: ConnectionPhase) -> Result<Begun, ConnectionPhase> {
+    pub(crate) fn of_phase(phase: ConnectionPhase) -> Result<Begun, ConnectionPhase>
+        requires led { MayStand phase }
+        ensures begun { MayBeEither result }
+    {
         match phase {
             ConnectionPhase::Reading(arriving) => Ok(Begun::Reading(arriving)),
             ConnectionPhase::Asked(Asked::List { view, options }) => {

@@ -1,4 +1,6 @@
 //! A connection that a loop is given.
+ghost use Rattle.http_event_loop.specs.Begun.{MayHaveBegun};
+
 use crate::begun::Begun;
 use mio::net::TcpStream;
 use std::time::Instant;
@@ -11,6 +13,7 @@ pub(crate) struct Given {
     pub(crate) begun: Begun,
     /// When the peer connected.
     pub(crate) since: Instant,
+    ghost led: { MayHaveBegun begun },
 }
 
 impl Given {

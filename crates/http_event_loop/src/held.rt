@@ -1,6 +1,9 @@
 //! A connection that a loop holds.
-ghost use Rattle.std.specs.Prelude.{◌≡◌, ◌≤◌, ◌+◌, true};
+ghost use Rattle.std.specs.Prelude.{◌≡◌, ◌≤◌, ◌+◌, IfSome, true};
+ghost use Rattle.http_connection.specs.Arriving.{IsAskedBySome, MayStand};
 ghost use Rattle.http_event_loop.specs.Asked.{HasAsked};
+ghost use Rattle.http_event_loop.specs.Begun.{MayHaveBegun};
+ghost use Rattle.request_decoding.specs.Asked.{asked_seen};
 
 use crate::asker::Asker;
 use crate::begun::Begun;
@@ -8,7 +11,7 @@ use crate::deadlines::seconds;
 use crate::given::Given;
 use crate::ticks::Tick;
 use api::{Served, Site};
-use http_connection::{ConnectionPhase, Watching, end_watch, turn};
+use http_connection::{ConnectionPhase, Noted, Watching, end_watch, turn};
 use mio::event::Event;
 use mio::net::TcpStream;
 use request_decoding::Asked;
@@ -52,6 +55,7 @@ pub(crate) struct Held {
     pub(crate) is_writing_on: bool,
     /// How many bytes more are read away once it is over.
     left: Option<usize>,
+    ghost led: { MayStand phase },
 }
 
 /// Returns how many pieces were made of what there is to take, and how much is made and not taken; nothing where there is nothing to take.
@@ -96,7 +100,9 @@ impl Held {
     }
 
     /// Takes how far the connection has come, if it is for another loop.
-    pub(crate) fn take_begun(&mut self) -> Option<Begun> {
+    pub(crate) fn take_begun(&mut self) -> Option<Begun>
+        ensures led { IfSome result MayHaveBegun }
+    {
         match Begun::of_phase(self.take_phase()) {
             Ok(begun) => Some(begun),
             Err(phase) => {
@@ -107,7 +113,9 @@ impl Held {
     }
 
     /// Returns the connection to be given to another loop, as far as it has come.
-    pub(crate) fn into_given(self, begun: Begun) -> Given {
+    pub(crate) fn into_given(self, begun: Begun) -> Given
+        requires led { MayHaveBegun begun }
+    {
         drop(self.phase);
         Given {
             stream: self.stream,
@@ -117,19 +125,24 @@ impl Held {
     }
 
     /// Takes where the connection stands, which is to be put back.
-    fn take_phase(&mut self) -> ConnectionPhase {
+    fn take_phase(&mut self) -> ConnectionPhase
+        ensures led { MayStand result }
+    {
         std::mem::replace(&mut self.phase, ConnectionPhase::Answering)
     }
 
     /// Takes note of where the connection stands.
     fn stand(&mut self, phase: ConnectionPhase)
-        ensures { self.new.phase ≡ phase }
+        requires led { MayStand phase }
+        ensures phase { self.new.phase ≡ phase }
     {
         drop(std::mem::replace(&mut self.phase, phase));
     }
 
     /// Takes a request that is whole and not yet asked, if there is one.
-    fn take_asked(&mut self) -> Option<Asked> {
+    fn take_asked(&mut self) -> Option<Asked>
+        ensures asks { IfSome result (λ asked. IsAskedBySome (asked_seen asked)) }
+    {
         match self.take_phase() {
             ConnectionPhase::Asked(asked) => Some(asked),
             phase => {
@@ -170,9 +183,12 @@ impl Held {
         alloc: Global,
         routes: &Routes,
         phase: ConnectionPhase,
-    ) -> ConnectionPhase {
-        let mut reader = &self.stream;
-        let mut writer = &self.stream;
+    ) -> ConnectionPhase
+        requires led { MayStand phase }
+        ensures led { MayStand result }
+    {
+        let mut reader = Noted::new(&self.stream);
+        let mut writer = Noted::new(&self.stream);
         turn::<S, _, _>(alloc, routes, phase, &mut reader, &mut writer)
     }
 

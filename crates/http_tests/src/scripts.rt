@@ -3,7 +3,7 @@ ghost use Rattle.std.specs.Prelude.{⊤};
 
 use api_client::{Api, Opened};
 use http_client::{Answer, HttpReply, More};
-use list_and_watch::{Indexed, Onward, Shift, Sink, Timer};
+use list_and_watch::{Cause, Indexed, Onward, Shift, Sink, Timer};
 use request_parts::Request;
 use spec_api::kinds::Kind;
 use std::alloc::{AllocError, Global};
@@ -158,13 +158,13 @@ pub struct RecordingSink {
 }
 
 impl Sink for RecordingSink {
-    ghost takes = { λ before changes objects is_first after. ⊤ };
+    ghost takes = { λ before changes objects cause after. ⊤ };
 
     fn changed(
         &mut self,
         shifts: &[Shift],
         objects: &Indexed,
-        is_first: bool,
+        cause: Cause,
     ) -> Result<(), AllocError> {
         if 0 < self.refusals {
             self.refusals -= 1;
@@ -172,7 +172,9 @@ impl Sink for RecordingSink {
         }
         self.revisions.push(objects.revision())?;
         self.changes = self.changes.saturating_add(shifts.len());
-        self.firsts = self.firsts.saturating_add(usize::from(is_first));
+        self.firsts = self
+            .firsts
+            .saturating_add(usize::from(cause == Cause::FirstList));
         self.objects = objects.len();
         Ok(())
     }

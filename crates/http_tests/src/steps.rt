@@ -1,6 +1,8 @@
 //! Connections over memory that go on in steps.
+ghost use Rattle.http_connection.specs.Arriving.{MayStand};
+
 use api::Solo;
-use http_connection::{Arriving, ConnectionPhase, answer, look_on, turn};
+use http_connection::{Arriving, ConnectionPhase, Noted, answer, look_on, turn};
 use metadata_values::moments::Moment;
 use request_parts::table::Routes;
 use std::alloc::Global;
@@ -17,6 +19,21 @@ pub fn sink(alloc: Global) -> TestSink {
     }
 }
 
+/// Lets a connection read and write in turn, as far as that goes.
+fn turned(
+    alloc: Global,
+    routes: &Routes,
+    phase: ConnectionPhase,
+    source: &mut Source<'_>,
+    sink: &mut TestSink,
+) -> ConnectionPhase
+    ensures { MayStand phase → MayStand result }
+{
+    let mut reader = Noted::new(source);
+    let mut writer = Noted::new(sink);
+    turn::<Solo, _, _>(alloc, routes, phase, &mut reader, &mut writer)
+}
+
 /// Lets a text come, at most so many bytes a step, and returns where its connection then stands, answered if its request is whole.
 pub fn asked(
     alloc: Global,
@@ -31,7 +48,7 @@ pub fn asked(
     let mut phase = ConnectionPhase::Reading(Arriving::new(alloc));
     for _ in 0..text.len() {
         source.bad = source.calls.saturating_add(1);
-        phase = turn::<Solo, Source<'_>, TestSink>(alloc, routes, phase, &mut source, sink);
+        phase = turned(alloc, routes, phase, &mut source, sink);
     }
     match phase {
         ConnectionPhase::Asked(asked) => answer(alloc, asked, site, Moment::start()),
@@ -54,7 +71,7 @@ pub fn written(
             return phase;
         }
         sink.bad = sink.calls.saturating_add(calls);
-        phase = turn::<Solo, Source<'_>, TestSink>(alloc, routes, phase, &mut source, sink);
+        phase = turned(alloc, routes, phase, &mut source, sink);
     }
     phase
 }

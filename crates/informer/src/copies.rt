@@ -44,6 +44,7 @@ impl Copies {
     ghost use Rattle.spec_client_go.specs.Informers.{nothing};
     ghost use Rattle.spec_client_go.specs.Shifts.{all_shifts};
     ghost use Rattle.indexer.specs.Shifted.{shift_of};
+    ghost use Rattle.plain_informer.specs.Appended.{has_list};
     ghost use Rattle.informer.specs.Copies.{shown, batches_shown, deltas_waiting, IsSame, IsPublished};
 
     /// Returns two copies of an empty map, with room for so many readers. The error is running out of memory.
@@ -95,6 +96,13 @@ impl Copies {
         ensures { result ≡ length (deltas_waiting self.now) }
     {
         self.waiting.len()
+    }
+
+    /// Returns whether a whole list is among the deltas that wait. It takes no memory.
+    pub fn has_list(&self) -> bool
+        ensures { result ≡ has_list (deltas_of (deltas_waiting self.now)) }
+    {
+        shared_deltas::has_list(self.waiting.as_slice())
     }
 
     /// Writes the first delta that is not in the log into it. The error is running out of memory, and changes nothing.

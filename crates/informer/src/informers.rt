@@ -17,7 +17,7 @@ impl Informer {
     ghost use Rattle.spec_client_go.specs.Informers.{begun, appended, after_publish};
     ghost use Rattle.spec_client_go.specs.Shifts.{all_shifts};
     ghost use Rattle.indexer.specs.Shifted.{shift_of};
-    ghost use Rattle.plain_informer.specs.Appended.{all_appended};
+    ghost use Rattle.plain_informer.specs.Appended.{all_appended, has_list};
     ghost use Rattle.reflector.specs.Deltas.{delta_of, deltas_of};
     ghost use Rattle.informer.specs.Informers.{informer_of, published_batches, published_deltas, pending_deltas, IsSame};
     ghost use Rattle.informer.specs.Listers.{known_last};
@@ -73,6 +73,13 @@ impl Informer {
         ensures { result ≡ length (informer_of self.now).pending }
     {
         self.copies.waiting()
+    }
+
+    /// Returns whether a whole list is among the deltas that wait for the next publish. It takes no memory.
+    pub fn has_list(&self) -> bool
+        ensures { result ≡ has_list (informer_of self.now).pending }
+    {
+        self.copies.has_list()
     }
 
     /// Publishes the deltas that wait, all of them at once, and returns what they change, delta by delta. It costs what they cost; where

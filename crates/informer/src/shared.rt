@@ -89,6 +89,10 @@ impl<'a, R: Wait> Publishing for SharedInformer<'a, R> {
         self.informer.waiting()
     }
 
+    fn has_list(&self) -> bool {
+        self.informer.has_list()
+    }
+
     fn publish(&mut self) -> Result<Vec<Shift>, AllocError> {
         self.informer.publish(self.runtime)
     }

@@ -1,8 +1,11 @@
 //! Deltas that both copies of the map share with those who wait for them.
 ghost use Rattle.std.specs.Prelude.{◌≡◌, ◌+◌, ◌≤◌, ◌++◌, ◌∷◌, [], IfOk, IfErr, OnOk, OnErr, vec_len, vec_capacity};
 ghost use Rattle.std.specs.Arc.{arc_value};
+ghost use Rattle.reflector.specs.Deltas.{deltas_of};
+ghost use Rattle.plain_informer.specs.Appended.{has_list};
 ghost use Rattle.informer.specs.SharedDeltas.{all_in};
 
+use plain_informer::is_list;
 use reflector::Delta;
 use std::alloc::{AllocError, AllocFailed, Global};
 use std::sync::Arc;
@@ -60,4 +63,16 @@ pub fn append(
 {
     let mut shared = share(alloc, more)?;
     deltas.append(&mut shared)
+}
+
+/// Returns whether a whole list is among deltas.
+pub fn has_list(deltas: &[SharedDelta]) -> bool
+    ensures { result ≡ has_list (deltas_of (all_in deltas.now)) }
+{
+    for delta in deltas {
+        if is_list(delta) {
+            return true;
+        }
+    }
+    false
 }

@@ -1,5 +1,5 @@
 -- Each key that is to be looked at is owed.
-use Rattle.std.proofs.Common.{◌≡◌, ◌⊎◌, ◌||◌, ◌++◌, inl, inr, ℕ, List, [], ◌∷◌, Bool, true, false, cond, map, filter, flat_map, is_eq, Option, Some, option_and_then, Ordering, Less, Equal, Greater, refl, sym, ap, subst, ◌∙◌, arith}
+use Rattle.std.proofs.Common.{◌≡◌, ◌⊎◌, ◌||◌, ◌++◌, inl, inr, ℕ, List, [], ◌∷◌, Bool, true, false, cond, map, filter, flat_map, is_eq, Option, Some, Ordering, Less, Equal, Greater, refl, sym, ap, subst, ◌∙◌, arith}
 use Rattle.std.proofs.lemmas.Cmp.{tied_itself}
 use Rattle.std.proofs.lemmas.List.Elements.{Contains-append_cases, Contains-push_cases}
 use Rattle.std.specs.List.{Contains, list_any}
@@ -14,7 +14,7 @@ use Rattle.spec_api.specs.Metadata.{uid}
 use Rattle.spec_client_go.specs.declared.controller.Controller.{Controller}
 use Rattle.spec_client_go.specs.declared.controller.Controller.TheVariants as controller
 use Rattle.spec_client_go.specs.Informers.{Looks, of_namespace, of_owner}
-use Rattle.spec_client_go.specs.OwedKeys.{Change, one_of, of_both, with_keys, for_controller, sets_to_look, sets_to_look_by, deployments_to_look, items_to_look, itself, dependents, dependents_in, dependents_left, adopters, selects, latest}
+use Rattle.spec_client_go.specs.OwedKeys.{Change, one_of, of_both, with_keys, for_controller, sets_to_look, sets_to_look_by, deployments_to_look, items_to_look, itself, dependents, dependents_in, dependents_left, dependents_unless, adopters, selects}
 use Rattle.spec_client_go.specs.OwnerReferences.{namespace_of, controller_keys, owner_keys}
 use Rattle.spec_client_go.specs.WorkQueues.{WorkKey, work_key_cmp}
 use Rattle.spec_client_go.proofs.WorkKeyOrder.{work_key_total}
@@ -188,8 +188,9 @@ looked_at l ms u k (inr (inr (inr is))) i =
     (in_right (dependents_in u l.replica_sets) (dependents_in u l.deployments) k (subst (λ (ms : Entries). In (dependents_in u ms) k) is i)))
 
 pub dependents_owed : DependentsAreOwed
-dependents_owed c l ms u m going named looked there =
+dependents_owed c l ms d u m of named gone looked there =
     let dependent = looked_at l ms u m.0 looked (in_map (λ (m : Key × Data). m.0) (of_owner u ms) m (in_list (of_owner u ms) m there)) in
-    let left : In (dependents_left l c) m.0 =
-    subst (λ b. In (cond b (flat_map (dependents l) (one_of (option_and_then uid (latest c)))) []) m.0) (sym going) (in_one (dependents l) (option_and_then uid (latest c)) u m.0 named dependent) in
+    let own : In (dependents_unless l c.new d) m.0 =
+    subst (λ b. In (cond b [] (flat_map (dependents l) (one_of (uid d)))) m.0) (sym gone) (in_one (dependents l) (uid d) u m.0 named dependent) in
+    let left : In (dependents_left l c) m.0 = in_both (dependents_unless l c.new) c d m.0 of own in
     owed_item c l m.0 (in_right (itself c) (of_both owner_keys c ++ dependents_left l c) m.0 (in_right (of_both owner_keys c) (dependents_left l c) m.0 left))

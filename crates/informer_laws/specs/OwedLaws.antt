@@ -1,5 +1,5 @@
 -- Laws of what a change owes.
-use Rattle.std.specs.Prelude.{◌≡◌, ◌⊎◌, ℕ, List, true, false, Some, option_and_then}
+use Rattle.std.specs.Prelude.{◌≡◌, ◌⊎◌, ℕ, List, true, false, Some}
 use Rattle.std.specs.List.{Contains, list_any}
 use Rattle.std.specs.Ordering.{is_eq}
 use Rattle.serde_json.specs.Data.{Data}
@@ -10,7 +10,7 @@ use Rattle.spec_api.specs.Metadata.{uid}
 use Rattle.spec_client_go.specs.declared.controller.Controller.{Controller}
 use Rattle.spec_client_go.specs.declared.controller.Controller.TheVariants as controller
 use Rattle.spec_client_go.specs.Informers.{Looks, of_namespace, of_owner}
-use Rattle.spec_client_go.specs.OwedKeys.{Change, keys_of, selects, is_going, latest}
+use Rattle.spec_client_go.specs.OwedKeys.{Change, keys_of, selects, lives_on}
 use Rattle.spec_client_go.specs.OwnerReferences.{has_controller, namespace_of, controller_keys, owner_keys}
 use Rattle.spec_client_go.specs.WorkQueues.{work_key_cmp}
 
@@ -40,8 +40,8 @@ OwnersAreOwed = (c : Change) (l : Looks) (d : Data) (k : Key) → IsOf c d → C
 abbrev pub IsLookedAt : Looks → Entries → Type 0
 IsLookedAt l ms = (ms ≡ l.config_maps) ⊎ ((ms ≡ l.pods) ⊎ ((ms ≡ l.replica_sets) ⊎ (ms ≡ l.deployments)))
 
--- what has an owner that is gone or is being deleted is looked at
+-- what has an owner that is gone, is being deleted, or whose name another has is looked at
 abbrev pub DependentsAreOwed : Type 0
 DependentsAreOwed =
-    (c : Change) (l : Looks) (ms : Entries) (u : List ℕ) (m : Key × Data) → is_going c.new ≡ true → option_and_then uid (latest c) ≡ Some u → IsLookedAt l ms → Contains (of_owner u ms) m
+    (c : Change) (l : Looks) (ms : Entries) (d : Data) (u : List ℕ) (m : Key × Data) → IsOf c d → uid d ≡ Some u → lives_on c.new d ≡ false → IsLookedAt l ms → Contains (of_owner u ms) m
     → Owes c l controller.Collector m.0

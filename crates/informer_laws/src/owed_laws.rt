@@ -19,7 +19,8 @@ pub fn owners_are_owed()
     ensures { OwnersAreOwed }
 {}
 
-/// Each object that is looked at and names as its owner what is gone, or is being deleted, is looked at again by the collector.
+/// Each object that is looked at and names as its owner what is gone, is being deleted, or has another under its name, is looked at
+/// again by the collector.
 pub fn dependents_are_owed()
     ensures { DependentsAreOwed }
 {}

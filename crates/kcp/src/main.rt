@@ -12,12 +12,19 @@ use chunked::Watched;
 use http_event_loop::ListenFault;
 use kcp_commands::{AllFault, all, control, serve};
 use kcp_lines::{RelayFault, replay};
-use kcp_options::{Subcommand, Usage};
+use kcp_options::{AllOptions, Mistake, ServeOptions, Subcommand, Usage};
 use line_service::RunFault;
 use std::alloc::Global;
-use std::io::{BufRead, BufReader, BufWriter, ErrorKind, Printer, StdinLock, Write};
+use std::io::{BufRead, BufReader, BufWriter, Eprint, ErrorKind, Printer, StdinLock, Write};
+use std::net::{Ipv4Addr, Net, TcpListener, TcpStream};
 use std::process::ExitCode;
+use std::sync::Wait;
+use std::thread::Threads;
+use std::time::Clock;
 use std::{env, io};
+
+/// What it is called that a port cannot be listened on.
+const LISTEN: &str = "listen";
 
 /// What reads standard input, and what writes to standard output.
 type StandardLines<'a> = (
@@ -46,24 +53,29 @@ pub fn simulate<R: BufRead + Drop, W: Write + Drop>(
     sim_service::simulate(alloc, reader, writer)
 }
 
-/// Returns what the words after the program's name ask: a command, or else to be told how it is used, if they ask for that. The error is running
-/// out of memory, or a word that is no text.
-fn asked(rt: &HostRuntime) -> io::Result<Result<Subcommand, Option<Usage>>> {
+/// Returns the words after the program's name. The error is running out of memory, or a word that is no text.
+fn words_of(rt: &HostRuntime) -> io::Result<Vec<String>> {
     let mut words = Vec::new(rt.alloc());
     for word in env::args(rt)?.skip(1) {
         words.push(word)?;
     }
-    Ok(match Subcommand::parse(&words) {
-        Some(command) => Ok(command),
-        None => Err(Usage::asked(&words)),
-    })
+    Ok(words)
 }
 
-/// Says how the program is used, where that was asked for, and that the words ask no command.
-fn refuse(rt: &HostRuntime, usage: Option<Usage>) -> io::Result<ExitCode> {
-    if let Some(usage) = usage {
-        print!(rt; "{}", usage.text())?;
+/// Says how the program is used, where the words ask for that, or else what is not understood of them.
+fn tell_usage(rt: &HostRuntime, words: &[String]) -> io::Result<()> {
+    if let Some(usage) = Usage::asked(words) {
+        return print!(rt; "{}", usage.text());
     }
+    let mistake = Mistake::of(words);
+    if let Some(word) = mistake.word {
+        println!(rt; "not understood: {word}\n")?;
+    }
+    print!(rt; "{}", mistake.usage.text())
+}
+
+/// Says that the words ask no command.
+fn refuse(rt: &HostRuntime) -> io::Result<ExitCode> {
     eprintln!(rt; "kcp: bad arguments")?;
     Ok(ExitCode::from(2))
 }
@@ -115,7 +127,7 @@ fn serve_fault_name(fault: ListenFault) -> &'static str
     ensures { result.now ≡ serve_fault_text fault }
 {
     match fault {
-        ListenFault::Listen => "listen",
+        ListenFault::Listen => LISTEN,
         ListenFault::Write => "write",
         ListenFault::NoMemory => "no memory",
     }
@@ -141,41 +153,108 @@ fn all_fault_name(fault: AllFault) -> &'static str
     }
 }
 
-fn main(rt: HostRuntime) -> io::Result<ExitCode> {
-    let outcome = match asked(&rt) {
-        Ok(Ok(Subcommand::Replay)) => replay_standard_input(&rt).map_err(fault_name),
-        Ok(Ok(Subcommand::Simulate)) => simulate_standard_input(&rt).map_err(fault_name),
-        Ok(Ok(Subcommand::Serve(options))) => {
-            let mut writer = io::writer(&rt);
-            serve(&rt, rt.alloc(), options, &mut writer).map_err(serve_fault_name)
+/// Serves, and returns what a fault of that is called.
+fn serve_to<R, W>(
+    rt: &R,
+    alloc: Global,
+    options: ServeOptions,
+    writer: io::Result<W>,
+) -> Result<(), &'static str>
+where
+    R: Net<Listener = TcpListener, Stream = TcpStream> + Threads + Wait + Clock + Sync,
+    W: Write + Drop,
+{
+    match writer {
+        Ok(mut writer) => serve(rt, alloc, options, &mut writer).map_err(serve_fault_name),
+        Err(_) => Err(fault_name(RunFault::Want)),
+    }
+}
+
+/// Serves with the controllers at work, answers lines, and returns what a fault of that is called.
+fn all_over<R, I, W, E>(
+    rt: &R,
+    alloc: Global,
+    options: AllOptions,
+    lines: Result<(I, W), RunFault>,
+    mut told: E,
+) -> Result<(), &'static str>
+where
+    R: Net<Listener = TcpListener, Stream = TcpStream> + Eprint + Threads + Wait + Clock + Sync,
+    I: BufRead + Drop,
+    W: Write + Drop,
+    E: Write + Drop,
+{
+    match lines {
+        Ok((mut reader, mut writer)) => {
+            all(rt, alloc, options, &mut reader, &mut writer, &mut told).map_err(all_fault_name)
         }
-        Ok(Ok(Subcommand::Control(options))) => {
+        Err(fault) => Err(fault_name(fault)),
+    }
+}
+
+/// Returns the port that a command listens on, if it is one that was chosen.
+fn port_of(command: Subcommand) -> Option<u16> {
+    match command {
+        Subcommand::Serve(ServeOptions { port, .. }) | Subcommand::All(AllOptions { port, .. }) => {
+            Some(port)
+        }
+        Subcommand::Replay | Subcommand::Simulate | Subcommand::Control(_) => None,
+    }
+}
+
+/// Says why a port cannot be listened on, if it still cannot: the system is asked once more.
+fn tell_cause(rt: &HostRuntime, port: u16) -> io::Result<()> {
+    match TcpListener::bind(rt, (Ipv4Addr::LOCALHOST, port)) {
+        Ok(_) => Ok(()),
+        Err(error) => eprintln!(rt; "kcp: port {port} of 127.0.0.1: {error}"),
+    }
+}
+
+/// Says which fault ended a command, and of a port that cannot be listened on the cause.
+fn tell_fault(rt: &HostRuntime, command: Subcommand, name: &str) -> io::Result<ExitCode> {
+    eprintln!(rt; "kcp: {name}")?;
+    match port_of(command) {
+        Some(port) if name == LISTEN => tell_cause(rt, port)?,
+        _ => {}
+    }
+    Ok(ExitCode::from(1))
+}
+
+/// Says that there was no memory for the words after the program's name, or that one of them is no text.
+fn refuse_unread(rt: &HostRuntime, error: &io::Error) -> io::Result<ExitCode> {
+    if error.kind() == ErrorKind::OutOfMemory {
+        eprintln!(rt; "kcp: {}", fault_name(RunFault::Want))?;
+        return Ok(ExitCode::from(1));
+    }
+    print!(rt; "{}", Usage::Program.text())?;
+    refuse(rt)
+}
+
+fn main(rt: HostRuntime) -> io::Result<ExitCode> {
+    let words = match words_of(&rt) {
+        Ok(words) => words,
+        Err(error) => return refuse_unread(&rt, &error),
+    };
+    let Some(command) = Subcommand::parse(&words) else {
+        tell_usage(&rt, &words)?;
+        return refuse(&rt);
+    };
+    let outcome = match command {
+        Subcommand::Replay => replay_standard_input(&rt).map_err(fault_name),
+        Subcommand::Simulate => simulate_standard_input(&rt).map_err(fault_name),
+        Subcommand::Serve(options) => {
+            let writer = BufWriter::new(rt.alloc(), io::writer(&rt));
+            serve_to(&rt, rt.alloc(), options, writer)
+        }
+        Subcommand::Control(options) => {
             control(&rt, rt.alloc(), options).map_err(|_| fault_name(RunFault::Want))
         }
-        Ok(Ok(Subcommand::All(options))) => match standard_lines(&rt) {
-            Ok((mut reader, mut writer)) => {
-                let mut told = rt.stderr();
-                all(
-                    &rt,
-                    rt.alloc(),
-                    options,
-                    &mut reader,
-                    &mut writer,
-                    &mut told,
-                )
-                .map_err(all_fault_name)
-            }
-            Err(fault) => Err(fault_name(fault)),
-        },
-        Ok(Err(usage)) => return refuse(&rt, usage),
-        Err(error) if error.kind() == ErrorKind::OutOfMemory => Err(fault_name(RunFault::Want)),
-        Err(_) => return refuse(&rt, None),
+        Subcommand::All(options) => {
+            all_over(&rt, rt.alloc(), options, standard_lines(&rt), rt.stderr())
+        }
     };
     match outcome {
         Ok(()) => Ok(ExitCode::SUCCESS),
-        Err(name) => {
-            eprintln!(rt; "kcp: {}", name)?;
-            Ok(ExitCode::from(1))
-        }
+        Err(name) => tell_fault(&rt, command, name),
     }
 }

@@ -14,8 +14,8 @@ use Rattle.std.specs.contracts.impls.GlobalAllocator.TheImpl.{ghosts}
 use Rattle.std.specs.contracts.net.tcp.TcpStream as TcpStream
 use Rattle.std.specs.contracts.vec.Vec as Vec
 use Rattle.std.specs.declared.sync.ledger.Ledger.{Ghosts}
-use Rattle.desk.specs.contracts.askings.Anything as Anything
-use Rattle.desk.specs.contracts.askings.AnythingAsking.TheImpl as asks
+use Rattle.desk.specs.contracts.askings.Readable as Readable
+use Rattle.desk.specs.contracts.askings.ReadableAsking.TheImpl as asks
 use Rattle.desk.specs.contracts.seats.Seat as Seat
 use Rattle.http_event_loop.specs.contracts.event_loop.EventLoop as EventLoop
 use Rattle.http_event_loop.specs.contracts.loops.Loops as Loops
@@ -41,8 +41,8 @@ module _ (a b d : NamedLft) (R : RattleType) (r : IsSync R) (L : RattleType) (k 
   ringer : IsSend (Ringer.the_row d)
   ringer = declared_send (Ringer.the_type d) (lent_loops, (search (heap.crosses, sendable) depth 20, tt))
 
-  pub looping : IsSend (EventLoop.the_row a (Seat.the_row b Anything.the_row (Ringer.the_row d) R asks.ghosts) L k)
-  looping = event_loop a (Seat.the_row b Anything.the_row (Ringer.the_row d) R asks.ghosts) L k (seat b (Ringer.the_row d) R ringer r)
+  pub looping : IsSend (EventLoop.the_row a (Seat.the_row b Readable.the_row (Ringer.the_row d) R asks.ghosts) L k)
+  looping = event_loop a (Seat.the_row b Readable.the_row (Ringer.the_row d) R asks.ghosts) L k (seat b (Ringer.the_row d) R ringer r)
 
 module _ (a : NamedLft) (R : RattleType) (r : IsSync R) where
   runtime : IsSend (as_row (Field.row_field (ShrRef a.mir a.lft R)))

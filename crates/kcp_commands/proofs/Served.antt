@@ -1,7 +1,7 @@
 -- What new loops that began at a desk have served.
 use Rattle.std.proofs.Common.{ℕ, List, Option, Some, None, Result, Ok, Err, IfErr, IfSome, OnErr, OnOk, map, ◌⊎◌, inl}
 use Rattle.http_event_loop.specs.declared.event_loop.EventLoop.{EventLoop}
-use Rattle.desk.specs.declared.askings.Anything.{Anything}
+use Rattle.desk.specs.declared.askings.Readable.{Readable}
 use Rattle.desk.specs.declared.seats.Seat.{Seat}
 use Rattle.kcp_loopback.specs.Serving.{seat_of}
 use Rattle.kcp_loopback.specs.Threads.{Begin, HaveServed, HaveServedSome}
@@ -12,7 +12,7 @@ pub said_at : {E : Type 0} (P : ℕ → Type 0) (r : Result (Unit {0}) E) (port 
 said_at P (Ok u) port said = (port, said)
 said_at P (Err e) port said = tt
 
-module _ {R L : Type 0} (window count : ℕ) (es : List (EventLoop (Seat Anything Ringer R) L)) (begin : Begin R window count (map seat_of es)) where
+module _ {R L : Type 0} (window count : ℕ) (es : List (EventLoop (Seat Readable Ringer R) L)) (begin : Begin R window count (map seat_of es)) where
   served : (n : ℕ) → HaveAnswered n es → HaveServed R window count n
   served n all = (map seat_of es, all.0, begin, all.1)
 

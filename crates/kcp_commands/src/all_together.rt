@@ -6,7 +6,7 @@ use crate::ground::Ground;
 use crate::own_desk::OwnDesk;
 use crate::parts::{Answering, Controllers, Own, run_controllers};
 use chunked::Watched;
-use desk::{Anything, Desk, StorePass};
+use desk::{Desk, Readable, StorePass};
 use http_event_loop::{ListenFault, LoopPlace, Loops, Turns, listen, not_listening};
 use kcp_lines::{RelayFault, relay};
 use kcp_loopback::Reach;
@@ -204,7 +204,7 @@ where
         ..options
     };
     let count = options.threads + (options.workers + FOLLOWERS);
-    let Ok((desk, passes)) = Desk::<Anything>::open(alloc, options.window, count) else {
+    let Ok((desk, passes)) = Desk::<Readable>::open(alloc, options.window, count) else {
         return Err(AllFault::Serve(ListenFault::NoMemory));
     };
     let ground = Ground {

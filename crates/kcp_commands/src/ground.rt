@@ -1,5 +1,5 @@
 //! What the threads of a server stand on.
-use desk::{Anything, Desk};
+use desk::{Desk, Readable};
 use std::alloc::Global;
 
 /// A desk, and the system that its threads ask.
@@ -7,5 +7,5 @@ use std::alloc::Global;
 pub struct Ground<'a, R> {
     pub rt: &'a R,
     pub alloc: Global,
-    pub desk: &'a Desk<Anything>,
+    pub desk: &'a Desk<Readable>,
 }

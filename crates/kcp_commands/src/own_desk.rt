@@ -4,7 +4,7 @@ ghost use Rattle.desk.specs.Desks.{IsNewAt};
 
 use crate::made::add;
 use crate::parts::{Answering, Controllers, Own};
-use desk::{Anything, Desk, StorePass};
+use desk::{Desk, Readable, StorePass};
 use http_event_loop::{Listening, LoopPlace, Loops, Turns};
 use kcp_loopback::{LoopbackConnector, OwnServer, Reach, Shared};
 use manager::{Apis, Signals};
@@ -21,7 +21,7 @@ use std::time::Clock;
 pub struct OwnDesk<'a, R> {
     pub rt: &'a R,
     pub alloc: Global,
-    pub desk: &'a Desk<Anything>,
+    pub desk: &'a Desk<Readable>,
     pub loops: &'a Loops,
     pub port: u16,
     pub signals: &'a Signals,

@@ -9,7 +9,7 @@ ghost use Rattle.kcp_loopback.specs.Threads.{HaveServed, HaveServedSome};
 ghost use Rattle.http_event_loop.specs.Serving.{listening};
 
 use crate::ground::Ground;
-use desk::{Anything, Desk, StorePass};
+use desk::{Desk, Readable, StorePass};
 use http_event_loop::{
     ListenFault, Listening, LoopPlace, Loops, Turns, announce, bind, count_taken, not_listening,
     run_row,
@@ -173,7 +173,7 @@ where
         ⊎ (((fault ≡ ListenFault.NoMemory) ⊎ (fault ≡ ListenFault.Listen)) × (writer.new ≡ writer.old))) }
 {
     let threads = options.threads.max(1);
-    let Ok((desk, passes)) = Desk::<Anything>::open(alloc, options.window, threads) else {
+    let Ok((desk, passes)) = Desk::<Readable>::open(alloc, options.window, threads) else {
         return Err(ListenFault::NoMemory);
     };
     let ground = Ground {

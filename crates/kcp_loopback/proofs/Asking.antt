@@ -14,7 +14,7 @@ use Rattle.object_keys.specs.declared.fault.Fault.{Fault}
 use Rattle.request_encoding.specs.Texts.{can_be_told, taken}
 use Rattle.request_encoding.specs.Told as texts
 use Rattle.request_encoding.specs.declared.text.RequestText.{RequestText}
-use Rattle.desk.specs.declared.askings.Anything.{Anything}
+use Rattle.desk.specs.declared.askings.Readable.{Readable}
 use Rattle.desk.specs.declared.seats.Seat.{Seat}
 use Rattle.kcp_loopback.specs.Asking.{Asks, IsAsked, IsAskedOrNotSent, IsNotAsked}
 use Rattle.kcp_loopback.specs.Told.{Says, TellsResult}
@@ -34,9 +34,9 @@ module _ (q : Request) (text : RequestText) (target body : List ℕ) (can : can_
   is_taken : read_request text.method target body ≡ taken q (string_bytes text.body)
   is_taken = (λ i. read_request text.method (at i) (of i)) ∙ asks
 
-  module _ {R : Type 0} (s : Seat Anything Ringer R) (a : Answer) where
+  module _ {R : Type 0} (s : Seat Readable Ringer R) (a : Answer) where
     -- a request that is read is the one that was told
-    pub asks_read : (t : Seat Anything Ringer R) (r : Request) → read_request text.method target body ≡ Ok (targets.request r) → IsAskedOrNotSent s r a t → Asks s q a t
+    pub asks_read : (t : Seat Readable Ringer R) (r : Request) → read_request text.method target body ≡ Ok (targets.request r) → IsAskedOrNotSent s r a t → Asks s q a t
     asks_read t r is (inl asked) =
         let back = taken_as (is_too_long (string_bytes text.body)) q r (sym is_taken ∙ is) in
         inl ((text, can, asks, back.0), subst (λ z. IsAsked s z a t) back.1 asked)

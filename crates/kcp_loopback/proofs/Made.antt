@@ -4,7 +4,7 @@ use Rattle.std.proofs.lemmas.List.{length-map, length-reverse, map-append, rever
 use Rattle.std.proofs.lemmas.List.Elements.{All-head, All-push, All-tail}
 use Rattle.desk.specs.Desks.{IsPassAt}
 use Rattle.desk.specs.Seats.{desk_at, known_at}
-use Rattle.desk.specs.declared.askings.Anything.{Anything}
+use Rattle.desk.specs.declared.askings.Readable.{Readable}
 use Rattle.desk.specs.declared.desks.Desk.{Desk}
 use Rattle.kcp_loopback.specs.Serving.{IsNewOf, seat_of}
 use Rattle.http_event_loop.specs.declared.event_loop.EventLoop.{EventLoop}
@@ -45,6 +45,6 @@ module _ {P C K : Type 0} (known : P → K) (knows : C → K) where
   made_in_order all made so = map_reversed knows made ∙ ap reverse so ∙ reverse-reverse (map known all)
 
 -- a loop whose seat is at this desk, with a pass that has seen and made nothing, and which has taken and asked nothing, is new there
-pub new_of : {R L : Type 0} (d : Desk Anything) (e : EventLoop (Seat Anything Ringer R) L) → desk_at (seat_of e) ≡ d → (known_at (seat_of e)).seen ≡ [] → (known_at (seat_of e)).made ≡ []
+pub new_of : {R L : Type 0} (d : Desk Readable) (e : EventLoop (Seat Readable Ringer R) L) → desk_at (seat_of e) ≡ d → (known_at (seat_of e)).seen ≡ [] → (known_at (seat_of e)).made ≡ []
     → e.asker.taken.count ≡ 0 → e.asker.asked ≡ 0 → IsNewOf d e
 new_of d e there seen made taken asked = ((there, (subst (λ x. IsPassAt x (seat_of e).pass) there (seat_of e).sits, seen, made)), taken, asked)

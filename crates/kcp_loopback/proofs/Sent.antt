@@ -4,8 +4,8 @@ use denote.Param.Send.{IsSend, IsSync, sendable}
 use denote.Param.SendFields.{declared_send}
 use Rattle.std.proofs.Crossing as heap
 use Rattle.desk.specs.contracts.desks.Desk as Desk
-use Rattle.desk.specs.contracts.askings.Anything as Anything
-use Rattle.desk.specs.contracts.askings.AnythingAsking.TheImpl as asks
+use Rattle.desk.specs.contracts.askings.Readable as Readable
+use Rattle.desk.specs.contracts.askings.ReadableAsking.TheImpl as asks
 use denote.RattleType.{RattleType}
 use denote.Ref.{NamedLft, ShrRef}
 use denote.Struct.Field as Field
@@ -41,12 +41,12 @@ use Rattle.std.specs.declared.sync.ledger.Ledger.{Ghosts}
 use Rattle.http_event_loop.proofs.Sent.{event_loop, shared}
 use Rattle.http_event_loop.specs.contracts.event_loop.EventLoop as EventLoop
 use Rattle.http_event_loop.specs.contracts.loops.Loops as Loops
-use Rattle.desk.proofs.Sent.{desk, pass_field}
+use Rattle.desk.proofs.Sent.{readable_desk, pass_field}
 
 -- a seat, where its listener may be sent, and its runtime lent
 module _ (a : NamedLft) (L R : RattleType) (l : IsSend L) (r : IsSync R) where
-  lent_desk : IsSend (as_row (Field.shr_ref_field a (Desk.the_row Anything.the_row asks.ghosts) tt))
-  lent_desk = search (desk, sendable)
+  lent_desk : IsSend (as_row (Field.shr_ref_field a (Desk.the_row Readable.the_row asks.ghosts) tt))
+  lent_desk = search (readable_desk, sendable)
 
   lent_runtime : IsSend (as_row (Field.row_field (ShrRef a.mir a.lft R)))
   lent_runtime = search (r, sendable)
@@ -54,8 +54,8 @@ module _ (a : NamedLft) (L R : RattleType) (l : IsSend L) (r : IsSync R) where
   listener : IsSend (as_row (Field.row_field L))
   listener = search (l, sendable)
 
-  pub seat : IsSend (Seat.the_row a Anything.the_row L R asks.ghosts)
-  seat = declared_send (Seat.the_type a Anything.the_row L R asks.ghosts) (lent_desk, (pass_field, (lent_runtime, (listener, tt))))
+  pub seat : IsSend (Seat.the_row a Readable.the_row L R asks.ghosts)
+  seat = declared_send (Seat.the_type a Readable.the_row L R asks.ghosts) (lent_desk, (pass_field, (lent_runtime, (listener, tt))))
 
 alloc : IsSend (as_row Global.the_field)
 alloc = search (heap.send, sendable)
@@ -78,7 +78,7 @@ module _ (a : NamedLft) (R : RattleType) (r : IsSync R) where
 
   -- the seat of a loop
   abbrev pub Seated : RattleType
-  Seated = Seat.the_row a Anything.the_row (Ringer.the_row a) R asks.ghosts
+  Seated = Seat.the_row a Readable.the_row (Ringer.the_row a) R asks.ghosts
 
   pub seated_loop : (L : RattleType) → (k : Ghosts L.Denot) → IsSend (EventLoop.the_row a Seated L k)
   seated_loop L k = event_loop a Seated L k (seat a (Ringer.the_row a) R ringer r)

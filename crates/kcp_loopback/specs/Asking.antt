@@ -12,9 +12,9 @@ use Rattle.api_client.specs.declared.asking.Remote.{Remote}
 use Rattle.request_encoding.specs.Texts.{can_be_told}
 use Rattle.request_encoding.specs.Told as texts
 use Rattle.request_encoding.specs.declared.text.RequestText.{RequestText}
-use Rattle.desk.specs.Askings.{IsAny}
+use Rattle.desk.specs.Askings.{IsReadable}
 use Rattle.desk.specs.Seats.{Calls}
-use Rattle.desk.specs.declared.askings.Anything.{Anything}
+use Rattle.desk.specs.declared.askings.Readable.{Readable}
 use Rattle.desk.specs.declared.seats.Seat.{Seat}
 use Rattle.kcp_loopback.specs.Told.{Says, Tells}
 use Rattle.kcp_loopback.specs.declared.ringing.Ringer.{Ringer}
@@ -22,7 +22,7 @@ use Rattle.kcp_loopback.specs.declared.own_server.OwnServer.{OwnServer}
 
 -- the seat of a server, and what connects to it
 module _ {R C I O : Type 0} where
-  abbrev pub seat_at : OwnServer R C I O → Seat Anything Ringer R
+  abbrev pub seat_at : OwnServer R C I O → Seat Readable Ringer R
   seat_at s = s.seat
 
   abbrev pub remote_at : OwnServer R C I O → Remote C I O
@@ -45,13 +45,13 @@ Rings kind before after = Unit {0}
 
 module _ {R : Type 0} where
   -- the seat is asked a request at some moment since 1970, and the outcome is told
-  abbrev pub IsAsked : Seat Anything Ringer R → Request → Answer → Seat Anything Ringer R → Type 0
-  IsAsked s q a t = (moment : List ℕ) × (o : Outcome) × IsTextSince1970 moment × Calls IsAny Rings s q moment o t × Tells o a
+  abbrev pub IsAsked : Seat Readable Ringer R → Request → Answer → Seat Readable Ringer R → Type 0
+  IsAsked s q a t = (moment : List ℕ) × (o : Outcome) × IsTextSince1970 moment × Calls IsReadable Rings s q moment o t × Tells o a
 
   -- it is asked; or nothing was sent, as there is no moment, and the seat is as it was
-  abbrev pub IsAskedOrNotSent : Seat Anything Ringer R → Request → Answer → Seat Anything Ringer R → Type 0
+  abbrev pub IsAskedOrNotSent : Seat Readable Ringer R → Request → Answer → Seat Readable Ringer R → Type 0
   IsAskedOrNotSent s q a t = IsAsked s q a t ⊎ ((a ≡ NotSent) × (t ≡ s))
 
   -- a request that can be told, by a body that is not too long, is asked; or a request is not asked, and the seat is as it was
-  abbrev pub Asks : Seat Anything Ringer R → Request → Answer → Seat Anything Ringer R → Type 0
+  abbrev pub Asks : Seat Readable Ringer R → Request → Answer → Seat Readable Ringer R → Type 0
   Asks s q a t = (HasText false q × IsAsked s q a t) ⊎ (IsNotAsked q a × (t ≡ s))

@@ -10,4 +10,5 @@ pub mod Refusals
 pub mod Strife
 pub mod Spells
 pub mod Errands
+pub mod Denials
 pub mod Losses

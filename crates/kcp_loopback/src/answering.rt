@@ -5,7 +5,7 @@ ghost use Rattle.desk.specs.Desks.{IsNewAt, IsPassAt, known};
 ghost use Rattle.desk.specs.Seats.{desk_at, known_at};
 
 use crate::ringing::Ringer;
-use desk::{Anything, Desk, Seat, StorePass};
+use desk::{Desk, Readable, Seat, StorePass};
 use http_event_loop::{EventLoop, Listening, LoopPlace, Loops, Turns};
 use std::alloc::Global;
 use std::io;
@@ -13,14 +13,14 @@ use std::sync::ledger::Ledger;
 use std::sync::{Mutex, Wait};
 
 /// A loop at a seat of the desk that all loops share, whose writes it tells them.
-pub type SeatedLoop<'a, R, L> = EventLoop<'a, Seat<'a, Anything, Ringer<'a>, R>, L>;
+pub type SeatedLoop<'a, R, L> = EventLoop<'a, Seat<'a, Readable, Ringer<'a>, R>, L>;
 
 /// What the loops of a server share: their desk, what tells them of writes, and the turns that their connections take.
 #[derive(Drop)]
 pub struct Shared<'a, R, L: Ledger> {
     pub rt: &'a R,
     pub alloc: Global,
-    pub desk: &'a Desk<Anything>,
+    pub desk: &'a Desk<Readable>,
     pub loops: &'a Loops,
     pub turns: &'a Mutex<Turns<L>>,
 }

@@ -26,6 +26,21 @@ pub(crate) enum Deed {
     Delete,
 }
 
+impl Deed {
+    /// Returns what it is called.
+    pub(crate) fn word(self) -> &'static str {
+        match self {
+            Deed::Follow => "list",
+            Deed::Get => "get",
+            Deed::Create => "create",
+            Deed::Update => "update",
+            Deed::UpdateStatus => "update of the status",
+            Deed::Patch => "patch",
+            Deed::Delete => "delete",
+        }
+    }
+}
+
 /// What a server is asked to do with objects of a kind.
 #[derive(Clone, Copy)]
 pub(crate) struct Errand {

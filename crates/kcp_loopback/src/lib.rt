@@ -3,6 +3,7 @@
 
 pub mod answering;
 pub mod connecting;
+pub(crate) mod denials;
 pub(crate) mod errand;
 pub mod escaped;
 pub(crate) mod failures;

@@ -8,6 +8,7 @@ use api_client::{Api, Opened};
 use http_client::statuses::OK;
 use http_client::{Answer, More};
 use request_parts::Request;
+use serde_json::Value;
 use spec_api::kinds::Kind;
 use std::alloc::Global;
 use std::net::{Net, TcpStream};
@@ -25,6 +26,26 @@ pub struct OtherServer<'a, R, A: Api + Drop> {
 /// Returns whether a request is to change something.
 fn is_write(request: &Request) -> bool {
     !matches!(request, Request::Get(_) | Request::List(_))
+}
+
+/// Returns a text in the metadata of an object, if it is there.
+fn text_in<'a>(object: &'a Value, member: &str) -> Option<&'a str> {
+    object.get("metadata")?.get(member)?.as_str()
+}
+
+/// Returns the name of the object that a request asks for, or what it is to be generated from.
+fn name_of(request: &Request) -> &str {
+    match request {
+        Request::Create(_, _, object) => text_in(object, "name")
+            .or(text_in(object, "generateName"))
+            .unwrap_or(""),
+        Request::Get(key)
+        | Request::Update(key, _)
+        | Request::UpdateStatus(key, _)
+        | Request::Patch(key, _)
+        | Request::Delete(key, _) => key.name.as_str(),
+        Request::List(_) => "",
+    }
 }
 
 impl<'a, R, A: Api + Drop> OtherServer<'a, R, A> {
@@ -58,12 +79,25 @@ impl<R: Net<Stream = TcpStream> + Eprint, A: Api + Drop> OtherServer<'_, R, A> {
         }
     }
 
+    /// Notes whether a write of one object was denied.
+    fn note_decided(&self, request: &Request, answer: &Answer) {
+        if let Answer::Replied(reply) = answer {
+            self.connector.teller().note_decided(
+                Errand::of(request),
+                name_of(request),
+                reply.code,
+                reply.body.as_slice(),
+            );
+        }
+    }
+
     /// Notes what a request of one object was answered.
     fn note_answer(&self, request: &Request, answer: &Answer) {
         if let Some(code) = self.code_of(answer) {
             let teller = self.connector.teller();
             if is_write(request) {
                 teller.note_written(code);
+                self.note_decided(request, answer);
             }
             teller.note_answered(Errand::of(request), code);
             teller.note_whole();

@@ -3,13 +3,14 @@ ghost use Rattle.std.specs.Prelude.{◌≡◌, IfOk};
 ghost use Rattle.kcp_loopback.specs.Asking.{Asks, IsAskedOrNotSent, remote_at, seat_at};
 ghost use Rattle.kcp_loopback.specs.Told.{TellsResult};
 ghost use Rattle.request_parts.specs.Requests.{request_of};
+ghost use Rattle.spec_api.specs.Reached.{CanBeRead};
 ghost use Rattle.desk.specs.Desks.{IsPassAt, known};
 ghost use Rattle.desk.specs.Seats.{desk_at, known_at};
 
 use crate::ringing::Ringer;
 use api::Site;
 use api_client::{Api, Connect, Opened, Remote};
-use desk::{Anything, Desk, Seat, StorePass};
+use desk::{Desk, Readable, Seat, StorePass};
 use http_client::{Answer, More};
 use http_event_loop::Loops;
 use metadata_values::moment;
@@ -29,7 +30,7 @@ use std::time::Clock;
 pub struct OwnServer<'a, R, C: Connect + Drop> {
     rt: &'a R,
     routes: Routes,
-    seat: Seat<'a, Anything, Ringer<'a>, R>,
+    seat: Seat<'a, Readable, Ringer<'a>, R>,
     remote: Remote<C>,
 }
 
@@ -56,7 +57,7 @@ impl<'a, R: Wait + Clock, C: Connect + Drop> OwnServer<'a, R, C> {
     pub fn new(
         rt: &'a R,
         alloc: Global,
-        desk: &'a Desk<Anything>,
+        desk: &'a Desk<Readable>,
         pass: StorePass,
         loops: &'a Loops,
         connector: C,
@@ -79,6 +80,7 @@ impl<'a, R: Wait + Clock, C: Connect + Drop> OwnServer<'a, R, C> {
 
     /// Returns what a request is answered now.
     fn answer(&mut self, alloc: Global, request: Request) -> Answer
+        requires read { CanBeRead (request_of request) }
         ensures asks { IsAskedOrNotSent (seat_at self.old) (request_of request) result (seat_at self.new) }
         ensures remote { remote_at self.new ≡ remote_at self.old }
     {

@@ -1,4 +1,5 @@
 //! Whether a server is there, and what was said of it.
+use crate::denials::Denials;
 use crate::failures::Failures;
 use crate::losses::Losses;
 use crate::refusals::Refusals;
@@ -41,6 +42,8 @@ pub struct Reach {
     pub(crate) losses: Losses,
     /// Whether it refuses writes as conflicts again and again.
     pub(crate) strife: Strife,
+    /// Which writes it denies.
+    pub(crate) denials: Denials,
 }
 
 impl Drop for Reach {
@@ -56,6 +59,7 @@ impl Drop for Reach {
             failures: _failures,
             losses: _losses,
             strife: _strife,
+            denials: _denials,
         } = self;
     }
 }
@@ -73,6 +77,7 @@ impl Reach {
             failures: Failures::new(),
             losses: Losses::new(),
             strife: Strife::new(),
+            denials: Denials::new(),
         }
     }
 

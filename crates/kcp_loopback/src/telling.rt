@@ -1,4 +1,5 @@
 //! What is said of a server on standard error.
+use crate::denials::denies;
 use crate::errand::Errand;
 use crate::escaped::escaped;
 use crate::heard::may_want_tls;
@@ -11,6 +12,9 @@ use std::alloc::{AllocError, Global};
 
 /// How many bytes are shown of what is not understood.
 const MOST_SHOWN: usize = 100;
+
+/// How many bytes are shown of what says why a write is denied.
+const MOST_REASONS: usize = 400;
 
 /// Says on standard error what keeps a server from answering, once, and that it is over, once.
 #[derive(Drop)]
@@ -171,6 +175,34 @@ impl<R: Eprint> Teller<'_, R> {
         } else if code < FIRST_REDIRECTION {
             self.reach.strife.note_taken();
         }
+    }
+
+    /// Notes what a write was answered with: a status code, and what says why. The first of a sort that is denied is said, and that it no longer is.
+    pub(crate) fn note_decided(&self, errand: Errand, name: &str, code: u16, body: &[u8]) {
+        if denies(code) {
+            if self.reach.denials.note_denied(errand, code) {
+                self.say_denied(errand, name, code, body);
+            }
+        } else if code < FIRST_REDIRECTION && self.reach.denials.note_taken(errand) {
+            let _ = eprintln!(self.rt;
+                "kcp: the server at 127.0.0.1:{} takes a {} of {} again",
+                self.port,
+                errand.deed.word(),
+                errand.kind.plural()
+            );
+        }
+    }
+
+    /// Says that a write of an object is denied with a code, and why, as far as there is memory for that.
+    fn say_denied(&self, errand: Errand, name: &str, code: u16, body: &[u8]) {
+        let why = escaped(self.alloc, body.get(..MOST_REASONS).unwrap_or(body));
+        let _ = eprintln!(self.rt;
+            "kcp: the server at 127.0.0.1:{} answers {code} to a {} of {}, as of {name}: {}",
+            self.port,
+            errand.deed.word(),
+            errand.kind.plural(),
+            why.as_ref().map_or("", |text| text.as_str())
+        );
     }
 
     /// Notes that who asks has not understood what came, and had understood what came before.

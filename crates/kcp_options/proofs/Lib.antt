@@ -1,3 +1,4 @@
 mod Numbers
 mod Pairs
 mod Prefixes
+mod Strange

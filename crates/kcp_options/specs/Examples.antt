@@ -3,6 +3,7 @@ use Rattle.std.specs.Prelude.{◌≡◌, ℕ, List, [], ◌∷◌, codes, Option
 use Rattle.kcp_options.specs.declared.command.Subcommand.{Subcommand}
 use Rattle.kcp_options.specs.declared.command.Subcommand.TheVariants.{Replay, Simulate, Serve, Control, All}
 use Rattle.kcp_options.specs.Options.{command}
+use Rattle.kcp_options.specs.Mistakes.{first_strange, usage_about}
 use Rattle.kcp_options.specs.Usages.{usage_asked}
 use Rattle.kcp_options.specs.declared.usage.Usage.TheVariants as usage
 
@@ -99,3 +100,16 @@ UsagesAreAsked =
     × (usage_asked (codes "served" ∷ codes "--help" ∷ []) ≡ None)
     × (usage_asked (codes "serve" ∷ []) ≡ None)
     × (usage_asked (codes "serve" ∷ codes "--port" ∷ codes "--help" ∷ []) ≡ None)
+
+-- the first word that is not understood: the command, an option, one that comes again or lacks its value, a value; none where only the server is missing
+abbrev pub MistakesAreNamed : Type 0
+MistakesAreNamed =
+    (first_strange (codes "serv" ∷ codes "--port" ∷ codes "1" ∷ []) ≡ Some (codes "serv"))
+    × (first_strange (codes "replay" ∷ codes "now" ∷ []) ≡ Some (codes "now"))
+    × (first_strange (codes "serve" ∷ codes "--window" ∷ codes "4" ∷ codes "--prot" ∷ codes "1" ∷ []) ≡ Some (codes "--prot"))
+    × (first_strange (codes "serve" ∷ codes "--port" ∷ codes "1" ∷ codes "--port" ∷ codes "1" ∷ []) ≡ Some (codes "--port"))
+    × (first_strange (codes "serve" ∷ codes "--port" ∷ []) ≡ Some (codes "--port"))
+    × (first_strange (codes "serve" ∷ codes "--port" ∷ codes "99999" ∷ []) ≡ Some (codes "99999"))
+    × (first_strange (codes "control" ∷ codes "--workers" ∷ codes "4" ∷ []) ≡ None)
+    × (usage_about (codes "control" ∷ codes "--workers" ∷ codes "4" ∷ []) ≡ usage.Control)
+    × (usage_about (codes "serv" ∷ []) ≡ usage.Program)

@@ -1,3 +1,4 @@
 pub mod Examples
 pub mod Options
 pub mod Usages
+pub mod Mistakes

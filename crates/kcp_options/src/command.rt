@@ -23,7 +23,7 @@ pub enum Subcommand {
 }
 
 /// The options of `kcp serve`.
-const SERVE_SETTINGS: [Setting; 4] = [
+pub(crate) const SERVE_SETTINGS: [Setting; 4] = [
     Setting::Port,
     Setting::Window,
     Setting::Threads,
@@ -31,10 +31,14 @@ const SERVE_SETTINGS: [Setting; 4] = [
 ];
 
 /// The options of `kcp control`.
-const CONTROL_SETTINGS: [Setting; 3] = [Setting::Server, Setting::Workers, Setting::Turns];
+pub(crate) const CONTROL_SETTINGS: [Setting; 3] = [
+    Setting::Server,
+    Setting::Workers,
+    Setting::Turns,
+];
 
 /// The options of `kcp all`.
-const ALL_SETTINGS: [Setting; 4] = [
+pub(crate) const ALL_SETTINGS: [Setting; 4] = [
     Setting::Port,
     Setting::Window,
     Setting::Threads,

@@ -1,5 +1,5 @@
 //! Words, and the commands that they ask, computed by the checker.
-ghost use Rattle.kcp_options.specs.Examples.{CommandsAreNamed, OptionsAreSaid, OptionsStandOnce, NumbersHaveBounds, NumbersAreDigits, ServersAreNamed, WorkersAreCounted, UsagesAreAsked};
+ghost use Rattle.kcp_options.specs.Examples.{CommandsAreNamed, OptionsAreSaid, OptionsStandOnce, NumbersHaveBounds, NumbersAreDigits, ServersAreNamed, WorkersAreCounted, UsagesAreAsked, MistakesAreNamed};
 
 /// What the words after the program's name ask.
 pub fn words_ask()
@@ -19,4 +19,6 @@ pub fn words_ask()
     ensures workers_are_counted { WorkersAreCounted }
     // How the program is used is asked by words that ask no command.
     ensures usages_are_asked { UsagesAreAsked }
+    // What is not understood is named by its word.
+    ensures mistakes_are_named { MistakesAreNamed }
 {}

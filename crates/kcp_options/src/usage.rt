@@ -21,7 +21,7 @@ pub enum Usage {
 
 impl Usage {
     /// Returns what a text is about that says how a command is used, if there is a command of that name.
-    fn of_command(name: &str) -> Option<Usage>
+    pub(crate) fn of_command(name: &str) -> Option<Usage>
         ensures { result ≡ usage_of_command name.now }
     {
         match name {

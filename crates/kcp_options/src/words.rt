@@ -5,7 +5,7 @@ ghost use Rattle.kcp_options.specs.Options.{row, value_after, is_one_of, is_opti
 use crate::setting::Setting;
 
 /// Returns the word after a name, where every other word is a name, from the first on.
-fn value_after<'a>(name: &str, words: &'a [String]) -> Option<&'a str>
+pub(crate) fn value_after<'a>(name: &str, words: &'a [String]) -> Option<&'a str>
     ensures { option_map (λ value. value.now) result ≡ value_after name.now (map string_bytes words.now) }
 {
     let mut rest = words;
@@ -19,7 +19,7 @@ fn value_after<'a>(name: &str, words: &'a [String]) -> Option<&'a str>
 }
 
 /// Returns whether a name and a value are one of these options, with a number that it takes.
-fn is_one_of(settings: &[Setting], name: &str, value: &str) -> bool
+pub(crate) fn is_one_of(settings: &[Setting], name: &str, value: &str) -> bool
     ensures { result ≡ is_one_of settings.now name.now value.now }
 {
     settings.iter().any(|setting| name == setting.name() && setting.take(value).is_some())

@@ -4,3 +4,4 @@ mod Followed
 mod Given
 mod Opened
 mod NotMoved
+mod Gone

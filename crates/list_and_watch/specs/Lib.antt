@@ -4,7 +4,10 @@ pub mod Listed
 pub mod Recognized
 pub mod Placed
 pub mod Answered
+pub mod Causes
 pub mod Given
+pub mod Told
+pub mod Gone
 pub mod Pauses
 pub mod Codes
 pub mod FollowerLaws

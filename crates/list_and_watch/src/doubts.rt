@@ -1,5 +1,6 @@
 //! Whether it is still the same server that is asked.
 ghost use Rattle.list_and_watch.specs.Given.{StaysSo};
+ghost use Rattle.list_and_watch.specs.Gone.{MovesOn};
 
 use crate::answered::body_in;
 use crate::follower::Follower;
@@ -52,16 +53,20 @@ pub(crate) fn look<I: Publishing, A: Api, S: Sink>(
     api: &mut A,
     sink: &mut S,
 ) -> Recognized
-    ensures { StaysSo S.stays sink.old sink.new }
+    ensures goes { MovesOn S.takes S.refuses S.answers S.hears follower.old sink.old follower.new sink.new }
+    ensures stays { StaysSo S.stays sink.old sink.new }
 {
-    let recognized = ask(alloc, kind, follower, api);
-    match recognized {
-        Recognized::Same | Recognized::Unanswered => {}
-        Recognized::Unknown => follower.on_expired(),
+    match ask(alloc, kind, follower, api) {
+        Recognized::Same => Recognized::Same,
+        Recognized::Unanswered => Recognized::Unanswered,
+        Recognized::Unknown => {
+            follower.on_expired();
+            Recognized::Unknown
+        }
         Recognized::Other => {
             follower.on_expired();
             sink.other_server();
+            Recognized::Other
         }
     }
-    recognized
 }

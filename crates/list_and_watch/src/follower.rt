@@ -32,6 +32,7 @@ impl<I: Publishing> Follower<I> {
     ghost use Rattle.spec_client_go.specs.Reflectors.{asks, fed, list_of};
     ghost use Rattle.indexer.specs.Shifted.{shift_of};
     ghost use Rattle.reflector.specs.Deltas.{RefusesList};
+    ghost use Rattle.plain_informer.specs.Appended.{has_list};
     ghost use Rattle.list_and_watch.specs.Followers.{begun_over, begun_streaming_over, after_list, after_bytes, after_cut, after_expiry, after_refusal, published, changes_of};
 
     /// Returns a follower of a kind that took nothing in yet, over an informer: it asks for a list.
@@ -122,6 +123,13 @@ impl<I: Publishing> Follower<I> {
         ensures { self.new ≡ after_refusal self.old }
     {
         self.reflector.on_refused();
+    }
+
+    /// Returns whether a whole list is among what waits to be published. It takes no memory.
+    pub fn has_list(&self) -> bool
+        ensures { result ≡ has_list self.now.informer.pending }
+    {
+        self.informer.has_list()
     }
 
     /// Publishes all that waits, and returns what that changes, in order; none where nothing waits, as before the first list. The error

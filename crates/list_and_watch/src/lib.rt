@@ -4,11 +4,13 @@
 #![tactic(auto)]
 
 pub(crate) mod answered;
+pub mod causes;
 pub(crate) mod doubts;
 pub(crate) mod falling;
 pub mod follower;
 pub mod follower_laws;
 pub(crate) mod listing;
+pub mod onward;
 pub(crate) mod owed;
 pub mod pauses;
 pub(crate) mod placed;
@@ -23,11 +25,13 @@ pub mod tries;
 pub(crate) mod watching;
 
 pub use answered::is_refusal_of_streams;
+pub use causes::Cause;
 pub use follower::Follower;
 pub use indexer::{Indexed, Shift};
+pub use onward::Onward;
 pub use pauses::Pauses;
 pub use recognizing::{Recognized, is_refusal, recognize};
 pub use running::follow;
 pub use shown::shows_other_server;
-pub use sinks::{Onward, Sink};
+pub use sinks::Sink;
 pub use timers::Timer;

@@ -1,10 +1,14 @@
 //! A list, asked for and taken in.
+ghost use Rattle.std.specs.Prelude.{◌≡◌};
 ghost use Rattle.list_and_watch.specs.Given.{StaysSo};
+ghost use Rattle.list_and_watch.specs.Gone.{AsksOnce, GoesOn, SaysStop, WhereStopped, tried_of};
+ghost use Rattle.list_and_watch.specs.Told.{told};
 
 use crate::answered::body_in;
 use crate::follower::Follower;
+use crate::onward::Onward;
 use crate::owed::Owed;
-use crate::sinks::{Onward, Sink};
+use crate::sinks::Sink;
 use crate::tries::Tried;
 use api_client::Api;
 use http_client::Answer;
@@ -19,10 +23,22 @@ fn give<I: Publishing, S: Sink>(
     owed: &mut Owed,
     sink: &mut S,
 ) -> Result<(), AllocError>
-    ensures { StaysSo S.stays sink.old sink.new }
+    ensures goes { GoesOn S.takes S.refuses S.answers S.hears (told follower.old owed.old) sink.old (told follower.new owed.new) sink.new }
+    ensures stays { StaysSo S.stays sink.old sink.new }
 {
     owed.publish(follower)?;
     owed.give(follower.look(), sink)
+}
+
+/// Returns what came of a publish, by whether a sink took it and what it said.
+fn tried_of(is_given: bool, onward: Onward) -> Tried
+    ensures { result ≡ tried_of is_given onward }
+{
+    match onward {
+        Onward::GoOn if is_given => Tried::Done,
+        Onward::GoOn => Tried::Failed,
+        Onward::Stop => Tried::Stopped,
+    }
 }
 
 /// Publishes what waits and gives it to a sink, and asks whether to go on.
@@ -31,14 +47,14 @@ pub(crate) fn publish<I: Publishing, S: Sink>(
     owed: &mut Owed,
     sink: &mut S,
 ) -> Tried
-    ensures { StaysSo S.stays sink.old sink.new }
+    ensures asks { AsksOnce S.takes S.refuses S.answers S.hears (told follower.old owed.old) sink.old (told follower.new owed.new) sink.new }
+    ensures goes { GoesOn S.takes S.refuses S.answers S.hears (told follower.old owed.old) sink.old (told follower.new owed.new) sink.new }
+    ensures stays { StaysSo S.stays sink.old sink.new }
+    ensures stops { WhereStopped result (SaysStop S.answers sink.new) }
 {
     let given = give(follower, owed, sink);
-    match sink.goes_on() {
-        Onward::GoOn if given.is_ok() => Tried::Done,
-        Onward::GoOn => Tried::Failed,
-        Onward::Stop => Tried::Stopped,
-    }
+    let onward = sink.goes_on();
+    tried_of(given.is_ok(), onward)
 }
 
 /// Asks for a list, takes it in and publishes it.
@@ -50,7 +66,9 @@ pub(crate) fn list<I: Publishing, A: Api, S: Sink>(
     api: &mut A,
     sink: &mut S,
 ) -> Tried
-    ensures { StaysSo S.stays sink.old sink.new }
+    ensures goes { GoesOn S.takes S.refuses S.answers S.hears (told follower.old owed.old) sink.old (told follower.new owed.new) sink.new }
+    ensures stays { StaysSo S.stays sink.old sink.new }
+    ensures stops { WhereStopped result (SaysStop S.answers sink.new) }
 {
     let answer = api.list(alloc, kind);
     match follower.on_answer(alloc, &answer) {

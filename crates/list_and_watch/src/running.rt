@@ -1,14 +1,18 @@
 //! The loop of a follower.
+ghost use Rattle.std.specs.Prelude.{◌⊎◌};
 ghost use Rattle.list_and_watch.specs.Given.{StaysSo};
+ghost use Rattle.list_and_watch.specs.Gone.{AsksOnce, Follows, GoesOn, SaysStop, WaitsNoMore, WhereStop, WhereStopped};
+ghost use Rattle.list_and_watch.specs.Told.{Told, told};
 
 use crate::answered::is_left_open;
 use crate::doubts::look;
 use crate::follower::Follower;
 use crate::listing::{list, publish};
+use crate::onward::Onward;
 use crate::owed::Owed;
 use crate::pauses::Pauses;
 use crate::recognizing::Recognized;
-use crate::sinks::{Onward, Sink};
+use crate::sinks::Sink;
 use crate::timers::Timer;
 use crate::tries::Tried;
 use crate::watching::watch;
@@ -36,7 +40,9 @@ fn read_on<I: Publishing, A: Api, T: Timer, S: Sink>(
     timer: &mut T,
     sink: &mut S,
 ) -> (Tried, bool)
-    ensures { StaysSo S.stays sink.old sink.new }
+    ensures goes { GoesOn S.takes S.refuses S.answers S.hears (told follower.old owed.old) sink.old (told follower.new owed.new) sink.new }
+    ensures stays { StaysSo S.stays sink.old sink.new }
+    ensures stops { WhereStopped result.0 (SaysStop S.answers sink.new) }
 {
     if opened == Opened::Open {
         watch(alloc, follower, owed, api, timer, sink)
@@ -45,8 +51,89 @@ fn read_on<I: Publishing, A: Api, T: Timer, S: Sink>(
     }
 }
 
-/// Asks for what the follower is to ask next, and takes in what comes. A list follows without a pause where a stream of initial events is refused, and
-/// not for now alone.
+/// Asks for a list. Returns what came of it, and whether it may be another server that is asked next.
+fn ask_list<I: Publishing, A: Api, S: Sink>(
+    alloc: Global,
+    kind: Kind,
+    follower: &mut Follower<I>,
+    owed: &mut Owed,
+    api: &mut A,
+    sink: &mut S,
+) -> (Tried, bool)
+    ensures goes { GoesOn S.takes S.refuses S.answers S.hears (told follower.old owed.old) sink.old (told follower.new owed.new) sink.new }
+    ensures stays { StaysSo S.stays sink.old sink.new }
+    ensures stops { WhereStopped result.0 (SaysStop S.answers sink.new) }
+{
+    let tried = list(alloc, kind, follower, owed, api, sink);
+    (tried, follower.next() == Ask::List)
+}
+
+/// Asks for a stream of initial events. A list follows without a pause where it is refused, and not for now alone. Returns what came of it, and
+/// whether it may be another server that is asked next.
+fn ask_stream<I: Publishing, A: Api, T: Timer, S: Sink>(
+    alloc: Global,
+    kind: Kind,
+    follower: &mut Follower<I>,
+    owed: &mut Owed,
+    api: &mut A,
+    timer: &mut T,
+    sink: &mut S,
+) -> (Tried, bool)
+    ensures goes { GoesOn S.takes S.refuses S.answers S.hears (told follower.old owed.old) sink.old (told follower.new owed.new) sink.new }
+    ensures stays { StaysSo S.stays sink.old sink.new }
+    ensures stops { WhereStopped result.0 (SaysStop S.answers sink.new) }
+{
+    let opened = api.open_stream(alloc, kind);
+    follower.on_stream_opened(opened);
+    if follower.next() == Ask::List {
+        return (Tried::Done, is_left_open(opened));
+    }
+    read_on(alloc, opened, follower, owed, api, timer, sink)
+}
+
+/// Asks for a watch after a revision. Returns what came of it, and whether it may be another server that is asked next.
+fn ask_watch<I: Publishing, A: Api, T: Timer, S: Sink>(
+    alloc: Global,
+    kind: Kind,
+    revision: u64,
+    follower: &mut Follower<I>,
+    owed: &mut Owed,
+    api: &mut A,
+    timer: &mut T,
+    sink: &mut S,
+) -> (Tried, bool)
+    ensures goes { GoesOn S.takes S.refuses S.answers S.hears (told follower.old owed.old) sink.old (told follower.new owed.new) sink.new }
+    ensures stays { StaysSo S.stays sink.old sink.new }
+    ensures stops { WhereStopped result.0 (SaysStop S.answers sink.new) }
+{
+    let opened = api.open_watch(alloc, kind, revision);
+    follower.on_opened(opened);
+    read_on(alloc, opened, follower, owed, api, timer, sink)
+}
+
+/// Asks for what the follower is to ask next, and takes in what comes. Returns what came of it, and whether it may be another server that is asked
+/// next.
+fn ask_next<I: Publishing, A: Api, T: Timer, S: Sink>(
+    alloc: Global,
+    kind: Kind,
+    follower: &mut Follower<I>,
+    owed: &mut Owed,
+    api: &mut A,
+    timer: &mut T,
+    sink: &mut S,
+) -> (Tried, bool)
+    ensures goes { GoesOn S.takes S.refuses S.answers S.hears (told follower.old owed.old) sink.old (told follower.new owed.new) sink.new }
+    ensures stays { StaysSo S.stays sink.old sink.new }
+    ensures stops { WhereStopped result.0 (SaysStop S.answers sink.new) }
+{
+    match follower.next() {
+        Ask::List => ask_list(alloc, kind, follower, owed, api, sink),
+        Ask::Stream => ask_stream(alloc, kind, follower, owed, api, timer, sink),
+        Ask::Watch(revision) => ask_watch(alloc, kind, revision, follower, owed, api, timer, sink),
+    }
+}
+
+/// Asks for what the follower is to ask next, and takes in what comes.
 fn ask<I: Publishing, A: Api, T: Timer, S: Sink>(
     alloc: Global,
     kind: Kind,
@@ -56,32 +143,42 @@ fn ask<I: Publishing, A: Api, T: Timer, S: Sink>(
     timer: &mut T,
     sink: &mut S,
 ) -> Tried
-    ensures { StaysSo S.stays sink.old sink.new }
+    ensures goes { GoesOn S.takes S.refuses S.answers S.hears (told follower.old known.old.owed) sink.old (told follower.new known.new.owed) sink.new }
+    ensures stays { StaysSo S.stays sink.old sink.new }
+    ensures stops { WhereStopped result (SaysStop S.answers sink.new) }
 {
-    let owed = &mut known.owed;
-    let (tried, is_in_doubt) = match follower.next() {
-        Ask::List => {
-            let tried = list(alloc, kind, follower, owed, api, sink);
-            (tried, follower.next() == Ask::List)
-        }
-        Ask::Stream => {
-            let opened = api.open_stream(alloc, kind);
-            follower.on_stream_opened(opened);
-            match follower.next() {
-                Ask::List => (Tried::Done, is_left_open(opened)),
-                Ask::Stream | Ask::Watch(_) => {
-                    read_on(alloc, opened, follower, owed, api, timer, sink)
-                }
-            }
-        }
-        Ask::Watch(revision) => {
-            let opened = api.open_watch(alloc, kind, revision);
-            follower.on_opened(opened);
-            read_on(alloc, opened, follower, owed, api, timer, sink)
-        }
-    };
+    let (tried, is_in_doubt) = ask_next(alloc, kind, follower, &mut known.owed, api, timer, sink);
     known.is_in_doubt = is_in_doubt;
     tried
+}
+
+/// Looks whether the server is still the same, where it may be another one; and then asks what is to be asked next.
+fn look_and_ask<I: Publishing, A: Api, T: Timer, S: Sink>(
+    alloc: Global,
+    kind: Kind,
+    follower: &mut Follower<I>,
+    known: &mut Known,
+    api: &mut A,
+    timer: &mut T,
+    sink: &mut S,
+) -> Tried
+    ensures goes { GoesOn S.takes S.refuses S.answers S.hears (told follower.old known.old.owed) sink.old (told follower.new known.new.owed) sink.new }
+    ensures stays { StaysSo S.stays sink.old sink.new }
+    ensures stops { WhereStopped result (SaysStop S.answers sink.new) }
+{
+    if !known.is_in_doubt {
+        return ask(alloc, kind, follower, known, api, timer, sink);
+    }
+    match look(alloc, kind, follower, api, sink) {
+        Recognized::Same | Recognized::Unknown => {
+            ask(alloc, kind, follower, known, api, timer, sink)
+        }
+        Recognized::Unanswered => Tried::Failed,
+        Recognized::Other => {
+            known.is_in_doubt = false;
+            Tried::Failed
+        }
+    }
 }
 
 /// Gives what is still owed and publishes what still waits, as where memory ran out; looks whether the server is still the same, where it may be
@@ -95,33 +192,49 @@ fn try_once<I: Publishing, A: Api, T: Timer, S: Sink>(
     timer: &mut T,
     sink: &mut S,
 ) -> Tried
-    ensures { StaysSo S.stays sink.old sink.new }
+    ensures asks { AsksOnce S.takes S.refuses S.answers S.hears (told follower.old known.old.owed) sink.old (told follower.new known.new.owed) sink.new }
+    ensures stays { StaysSo S.stays sink.old sink.new }
+    ensures stops { WhereStopped result (SaysStop S.answers sink.new) }
 {
     match publish(follower, &mut known.owed, sink) {
-        Tried::Done => {}
-        tried => return tried,
+        Tried::Done => look_and_ask(alloc, kind, follower, known, api, timer, sink),
+        Tried::Failed => Tried::Failed,
+        Tried::Stopped => Tried::Stopped,
     }
-    if known.is_in_doubt {
-        match look(alloc, kind, follower, api, sink) {
-            Recognized::Same | Recognized::Unknown => {}
-            Recognized::Unanswered => return Tried::Failed,
-            Recognized::Other => {
-                known.is_in_doubt = false;
-                return Tried::Failed;
-            }
-        }
-    }
-    ask(alloc, kind, follower, known, api, timer, sink)
 }
 
 /// Waits after a try that failed, unless the sink says that the follower stops, and returns whether it goes on.
 fn pause<T: Timer, S: Sink>(pauses: &mut Pauses, timer: &mut T, sink: &mut S) -> Onward
-    ensures { StaysSo S.stays sink.old sink.new }
+    ensures goes { (t : Told) → GoesOn S.takes S.refuses S.answers S.hears t sink.old t sink.new }
+    ensures stays { StaysSo S.stays sink.old sink.new }
+    ensures stops { WhereStop result (SaysStop S.answers sink.new ⊎ WaitsNoMore T.waits timer.new) }
 {
     let pause = pauses.on_failed(timer.now());
     match sink.goes_on() {
         Onward::GoOn => timer.pause(pause),
         Onward::Stop => Onward::Stop,
+    }
+}
+
+/// Asks once, and waits where that failed. Returns whether the follower goes on.
+fn go_once<I: Publishing, A: Api, T: Timer, S: Sink>(
+    alloc: Global,
+    kind: Kind,
+    follower: &mut Follower<I>,
+    known: &mut Known,
+    pauses: &mut Pauses,
+    api: &mut A,
+    timer: &mut T,
+    sink: &mut S,
+) -> Onward
+    ensures asks { AsksOnce S.takes S.refuses S.answers S.hears (told follower.old known.old.owed) sink.old (told follower.new known.new.owed) sink.new }
+    ensures stays { StaysSo S.stays sink.old sink.new }
+    ensures stops { WhereStop result (SaysStop S.answers sink.new ⊎ WaitsNoMore T.waits timer.new) }
+{
+    match try_once(alloc, kind, follower, known, api, timer, sink) {
+        Tried::Done => Onward::GoOn,
+        Tried::Failed => pause(pauses, timer, sink),
+        Tried::Stopped => Onward::Stop,
     }
 }
 
@@ -138,7 +251,9 @@ pub fn follow<I: Publishing, A: Api, T: Timer, S: Sink>(
     timer: &mut T,
     sink: &mut S,
 )
-    ensures { StaysSo S.stays sink.old sink.new }
+    ensures follows { Follows S.takes S.refuses S.answers S.hears (SaysStop S.answers sink.new ⊎ WaitsNoMore T.waits timer.new)
+        follower.old sink.old follower.new sink.new }
+    ensures stays { StaysSo S.stays sink.old sink.new }
 {
     let mut known = Known {
         owed: Owed::new(),
@@ -148,14 +263,19 @@ pub fn follow<I: Publishing, A: Api, T: Timer, S: Sink>(
         failures: 0,
         last: 0,
     };
-    for _ in 0..u64::MAX {
-        match try_once(alloc, kind, follower, &mut known, api, timer, sink) {
-            Tried::Done => {}
-            Tried::Failed => match pause(&mut pauses, timer, sink) {
-                Onward::GoOn => {}
-                Onward::Stop => return,
-            },
-            Tried::Stopped => return,
+    for _tries in 0..u64::MAX {
+        match go_once(
+            alloc,
+            kind,
+            follower,
+            &mut known,
+            &mut pauses,
+            api,
+            timer,
+            sink,
+        ) {
+            Onward::GoOn => {}
+            Onward::Stop => return,
         }
     }
 }

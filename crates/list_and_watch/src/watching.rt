@@ -1,7 +1,9 @@
 //! A watch, opened and read to its end.
-ghost use Rattle.std.specs.Prelude.{◌≡◌};
+ghost use Rattle.std.specs.Prelude.{◌≡◌, IfSome};
 ghost use Rattle.list_and_watch.specs.Answered.{has_given, over};
 ghost use Rattle.list_and_watch.specs.Given.{StaysSo};
+ghost use Rattle.list_and_watch.specs.Gone.{GoesOn, MovesOn, SaysStop, WhereLeft, WhereStopped};
+ghost use Rattle.list_and_watch.specs.Told.{told};
 
 use crate::answered::piece_in;
 use crate::follower::Follower;
@@ -39,12 +41,14 @@ fn take_in<I: Publishing, A: Api, S: Sink>(
     api: &mut A,
     sink: &mut S,
 ) -> Piece
-    ensures { StaysSo S.stays sink.old sink.new }
+    ensures goes { MovesOn S.takes S.refuses S.answers S.hears follower.old sink.old follower.new sink.new }
+    ensures stays { StaysSo S.stays sink.old sink.new }
 {
     let is_opening = follower.next() == Ask::Stream;
     let last = follower.look().revision();
     let piece = follower.on_piece(alloc, bytes);
-    if piece == Piece::Unreadable && !is_opening && tail.falls(alloc, bytes, last) {
+    let is_other = piece == Piece::Unreadable && !is_opening && tail.falls(alloc, bytes, last);
+    if is_other {
         sink.other_server();
         return piece;
     }
@@ -66,7 +70,9 @@ fn leaves<I: Publishing, S: Sink>(
     owed: &mut Owed,
     sink: &mut S,
 ) -> Option<Left>
-    ensures { StaysSo S.stays sink.old sink.new }
+    ensures goes { GoesOn S.takes S.refuses S.answers S.hears (told follower.old owed.old) sink.old (told follower.new owed.new) sink.new }
+    ensures stays { StaysSo S.stays sink.old sink.new }
+    ensures stops { IfSome result (λ left. WhereLeft left (SaysStop S.answers sink.new)) }
 {
     match (publish(follower, owed, sink), piece) {
         (Tried::Stopped, _) => Some(Left::Stopped),
@@ -108,7 +114,9 @@ fn read<I: Publishing, A: Api, S: Sink>(
     api: &mut A,
     sink: &mut S,
 ) -> Left
-    ensures { StaysSo S.stays sink.old sink.new }
+    ensures goes { GoesOn S.takes S.refuses S.answers S.hears (told follower.old owed.old) sink.old (told follower.new owed.new) sink.new }
+    ensures stays { StaysSo S.stays sink.old sink.new }
+    ensures stops { WhereLeft result (SaysStop S.answers sink.new) }
 {
     let asked = follower.next();
     let mut buffer = [0u8; PIECE];
@@ -138,7 +146,9 @@ pub(crate) fn watch<I: Publishing, A: Api, T: Timer, S: Sink>(
     timer: &mut T,
     sink: &mut S,
 ) -> (Tried, bool)
-    ensures { StaysSo S.stays sink.old sink.new }
+    ensures goes { GoesOn S.takes S.refuses S.answers S.hears (told follower.old owed.old) sink.old (told follower.new owed.new) sink.new }
+    ensures stays { StaysSo S.stays sink.old sink.new }
+    ensures stops { WhereStopped result.0 (SaysStop S.answers sink.new) }
 {
     let opened = timer.now();
     let left = read(alloc, follower, owed, api, sink);

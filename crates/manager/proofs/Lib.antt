@@ -1,5 +1,9 @@
+pub mod BoardTold
 pub mod Calls
+pub mod Handled
 pub mod None
 pub mod Passing
+pub mod Relisted
 pub mod Rest
 pub mod Sent
+pub mod Stops

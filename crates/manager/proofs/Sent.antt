@@ -80,7 +80,7 @@ module _ (a : NamedLft) (R : RattleType) (r : IsSync R) where
   lent_signals = search (signals.the_sync, heap.crosses, sendable) depth 20
 
   handler : IsSend (Handler.the_row a R)
-  handler = declared_send (Handler.the_type a R) (runtime, (alloc, (lent_desk, (pass, (lent_signals, (listers, (maps, (size, (revision, tt)))))))))
+  handler = declared_send (Handler.the_type a R) (runtime, (alloc, (lent_desk, (pass, (lent_signals, (listers, (maps, (size, (size, (revision, tt))))))))))
 
   module _ (A : RattleType) (s : IsSend A) (w : Wait.Ghosts R.Denot) where
     api : IsSend (as_row (Field.row_field A))

@@ -5,7 +5,7 @@ use crate::handling::Handling;
 use control_desk::{ControlDesk, WorkPass};
 use indexer::{Indexed, Shift};
 use informer::Listers;
-use list_and_watch::{Onward, Sink, shows_other_server};
+use list_and_watch::{Cause, Onward, Sink, shows_other_server};
 use manager_worker::Signals;
 use object_keys::PerKind;
 use std::alloc::{AllocError, Global};
@@ -26,16 +26,18 @@ pub struct Handler<'a, R> {
     looks: Option<PerKind<Indexed>>,
     /// How many of these changes were handled.
     handled: usize,
+    /// How many of the keys that are looked at again after them were added.
+    added: usize,
     /// The revision that was published last.
     revision: u64,
     ghost sits: { IsPassAt desk.now pass },
 }
 
 impl<'a, R: Wait + Clock> Handler<'a, R> {
-    ghost use Rattle.std.specs.Prelude.{◌≡◌, OnOk, OnErr, IfSome, map, drop, None};
+    ghost use Rattle.std.specs.Prelude.{◌≡◌, OnOk, OnErr, IfSome, map, drop, None, Some};
     ghost use Rattle.indexer.specs.Shifted.{shift_of};
     ghost use Rattle.control_desk.specs.Desks.{known, IsPassAt};
-    ghost use Rattle.manager.specs.Handled.{HandlesAll, HandlesSome, is_other};
+    ghost use Rattle.manager.specs.Handled.{HandlesAll, Stops, Progress, is_other};
     ghost use Rattle.manager.specs.Looked.{AreLookedAt};
 
     /// Returns what handles the changes of a kind of which nothing was published yet.
@@ -48,7 +50,7 @@ impl<'a, R: Wait + Clock> Handler<'a, R> {
         listers: Listers,
     ) -> Handler<'a, R>
         requires { IsPassAt desk.now pass }
-        ensures { (result.looks ≡ None) × (result.handled ≡ 0) × (result.revision ≡ 0) }
+        ensures { (result.looks ≡ None) × (result.handled ≡ 0) × (result.added ≡ 0) × (result.revision ≡ 0) }
     {
         Handler {
             rt,
@@ -59,15 +61,20 @@ impl<'a, R: Wait + Clock> Handler<'a, R> {
             listers,
             looks: None,
             handled: 0,
+            added: 0,
             revision: 0,
         }
     }
 
     /// Looks at what is published of all kinds, unless that was done since the last publish. The error is running out of memory.
     fn look(&mut self) -> Result<(), AllocError>
-        ensures looked { OnOk result (IfSome self.new.looks (AreLookedAt self.old.looks self.new.listers.listers)) }
+        ensures looked { IfSome self.new.looks (AreLookedAt self.old.looks self.new.listers.listers) }
+        ensures none { self.new.looks ≡ None → self.old.looks ≡ None }
+        ensures err { OnErr result (self.new.looks ≡ self.old.looks) }
+        ensures revision { self.new.revision ≡ self.old.revision }
         ensures pass { known self.new.pass ≡ known self.old.pass }
         ensures handled { self.new.handled ≡ self.old.handled }
+        ensures added { self.new.added ≡ self.old.added }
     {
         if self.looks.is_none() {
             self.looks = self.listers.all_published()?;
@@ -82,65 +89,69 @@ impl<'a, R: Wait + Clock> Handler<'a, R> {
         objects.revision() < self.revision || shows_other_server(shifts)
     }
 
-    /// Handles the changes of a publish but those that were handled. The error is running out of memory, or that an informer is closed: some
-    /// more are handled then, and the others are left.
-    fn handle_from(&mut self, shifts: &[Shift], is_first: bool) -> Result<(), AllocError>
-        ensures ok { OnOk result (HandlesAll is_first self.old.looks self.new.listers.listers
-            (drop self.old.handled (map shift_of shifts.now)) (known self.old.pass) (known self.new.pass)) }
-        ensures err { OnErr result (HandlesSome is_first
-            (drop self.old.handled (map shift_of shifts.now)) (drop self.new.handled (map shift_of shifts.now))
-            (known self.old.pass) (known self.new.pass)) }
+    /// Handles the changes of a publish but those that were handled, and then adds the keys that are looked at again but those that were added. The error
+    /// is running out of memory, or that an informer is closed: some more are handled then, and the others are left.
+    fn handle_from(&mut self, shifts: &[Shift], cause: Cause) -> Result<(), AllocError>
+        ensures ok { OnOk result (HandlesAll cause self.old.looks self.new.listers.listers
+            (drop self.old.handled (map shift_of shifts.now)) self.old.added (known self.old.pass) (known self.new.pass)) }
+        ensures err { OnErr result (Stops cause
+            (record { handled = self.old.handled; added = self.old.added; revision = self.old.revision; looks = self.old.looks })
+            (map shift_of shifts.now) self.new.listers.listers (known self.old.pass) (known self.new.pass)
+            (record { handled = self.new.handled; added = self.new.added; revision = self.new.revision; looks = self.new.looks })) }
+        ensures revision { self.new.revision ≡ self.old.revision }
     {
         self.look()?;
-        let Handler {
-            rt,
-            alloc,
-            desk,
-            pass,
-            looks,
-            handled,
-            ..
-        } = self;
-        let Some(looks) = looks else {
+        let Some(looks) = &self.looks else {
             return Err(AllocError);
         };
         let handling = Handling {
-            rt: *rt,
-            alloc: *alloc,
-            desk: *desk,
+            rt: self.rt,
+            alloc: self.alloc,
+            desk: self.desk,
             looks,
-            is_first,
+            cause,
         };
-        handling.handle_rest(pass, handled, shifts)
+        handling.handle_all(&mut self.pass, &mut self.handled, &mut self.added, shifts)
     }
 }
 
 impl<R: Wait + Clock> Sink for Handler<'_, R> {
     ghost use Rattle.control_desk.specs.Desks.{known};
-    ghost use Rattle.manager.specs.Handled.{Takes};
+    ghost use Rattle.manager.specs.Handled.{Takes, Refuses};
+    ghost use Rattle.std.specs.Prelude.{◌≡◌};
 
-    ghost takes = { λ before shifts objects is_first after.
-        Takes is_first (record { handled = before.handled; revision = before.revision; looks = before.looks }) objects shifts after.listers.listers
+    ghost takes = { λ before shifts objects cause after.
+        Takes cause (record { handled = before.handled; added = before.added; revision = before.revision; looks = before.looks }) objects shifts after.listers.listers
         (known before.pass) (known after.pass)
-        (record { handled = after.handled; revision = after.revision; looks = after.looks }) };
+        (record { handled = after.handled; added = after.added; revision = after.revision; looks = after.looks }) };
 
-    /// Handles the changes of a publish, one after another, and then wakes the workers. Where memory runs out, those that were handled are not
-    /// handled again. Where the changes are another server's, none is handled, and all is to stop.
+    ghost refuses = { λ before shifts objects cause after.
+        Refuses cause (record { handled = before.handled; added = before.added; revision = before.revision; looks = before.looks }) objects shifts after.listers.listers
+        (known before.pass) (known after.pass)
+        (record { handled = after.handled; added = after.added; revision = after.revision; looks = after.looks }) };
+
+    ghost answers = { λ before onward after. after ≡ before };
+
+    ghost hears = { λ before after. after ≡ before };
+
+    /// Handles the changes of a publish, one after another, adds after a list that is not the first the keys that are looked at again, and then wakes the
+    /// workers. Where memory runs out, what was handled is not handled again. Where the changes are another server's, none is handled, and all is to stop.
     fn changed(
         &mut self,
         shifts: &[Shift],
         objects: &Indexed,
-        is_first: bool,
+        cause: Cause,
     ) -> Result<(), AllocError> {
         if self.is_other(shifts, objects) {
             self.signals.note_lost();
             return Ok(());
         }
-        self.handle_from(shifts, is_first)?;
+        self.handle_from(shifts, cause)?;
         self.looks = None;
         self.handled = 0;
+        self.added = 0;
         self.revision = objects.revision();
-        if is_first {
+        if cause == Cause::FirstList {
             self.signals.note_listed();
         }
         self.signals.announce_work();

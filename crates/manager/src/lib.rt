@@ -6,6 +6,7 @@ pub mod handler;
 pub(crate) mod handling;
 pub mod members;
 pub mod reflecting;
+pub(crate) mod relisting;
 pub mod running;
 pub mod ticking;
 

@@ -1,7 +1,9 @@
 //! A thread that follows a kind.
-ghost use Rattle.std.specs.Prelude.{◌≡◌};
+ghost use Rattle.std.specs.Prelude.{◌≡◌, None};
 ghost use Rattle.spec_client_go.specs.Reflectors.{begun_streaming};
+ghost use Rattle.control_desk.specs.Desks.{known};
 ghost use Rattle.manager.specs.Followed.{reflector_of};
+ghost use Rattle.manager.specs.Told.{IsToldAll};
 
 use crate::handler::Handler;
 use api_client::Api;
@@ -50,8 +52,12 @@ impl<'a, R: Wait + Clock, A: Api + Drop> Reflecting<'a, R, A> {
         }
     }
 
-    /// Follows the kind until all is to stop.
-    pub fn run(&mut self) {
+    /// Follows the kind until all is to stop. Where nothing of a publish was handled yet, the board is told just what is published, each change once and
+    /// in order, and after each list but the first the keys that are looked at again; and of the last publish as much as there was memory for.
+    pub fn run(&mut self)
+        ensures { self.old.handler.looks ≡ None → self.old.handler.handled ≡ 0 → self.old.handler.added ≡ 0
+            → IsToldAll self.old.follower self.old.handler.revision (known self.old.handler.pass) self.new.follower (known self.new.handler.pass) }
+    {
         let mut clock = StoppableClock::new(self.rt, &self.signals.stop);
         let Reflecting {
             alloc,

@@ -1,13 +1,23 @@
 -- Nothing of a turn is expected or issued while something is still to be seen or read.
-use Rattle.std.proofs.Common.{◌≡◌, ◌∙◌, ◌⊎◌, List, [], ◌∷◌, Bool, true, false, Some, None, inl, inr, refl, sym, ap, subst}
+use Rattle.std.proofs.Common.{◌≡◌, ◌∙◌, ◌⊎◌, List, [], ◌∷◌, Bool, true, false, Option, Some, None, inl, inr, refl, sym, ap, subst}
 use mathlib.Core.Bool.{true≢false}
+use Rattle.serde_json.specs.Data.{Data}
 use Rattle.spec_api.specs.Keys.{Key}
+use Rattle.spec_api.specs.ObjectRequests as words
+use Rattle.spec_api.specs.declared.kinds.Kind.{Kind}
+use Rattle.spec_client_go.specs.Commands.{Command}
+use Rattle.spec_server.specs.Snapshots.{Snapshot}
 use Rattle.spec_sim.specs.NextSteps.{NextStep, Sighting, of_kind, of_expectations, next, look, ask_satisfied, read, expect, issue, finish, first, seeing, unseen, expecting, issuing}
-use Rattle.spec_sim.specs.Turns.{Turn, asks, expected, all_accepted, left, looked, satisfied, with_sight, with_read, with_expected}
-use Rattle.reconcile_turn.specs.Seen.{answered_to, command_issued}
+use Rattle.spec_sim.specs.Turns.{Turn, Answer, asks, expected, all_accepted, left, looked, lost, satisfied, with_sight, with_read, with_expected, with_issue}
+use Rattle.http_client.specs.declared.answer.Answer as client
+use Rattle.reconcile_turn.specs.Seen.{answer_of}
+use Rattle.reconcile_turn.specs.declared.answers.CommandAnswer.{CommandAnswer}
 use Rattle.reconcile_turn.proofs.Steps.{step_by, next_seeing, next_reading, next_planned}
 use Rattle.manager_worker.specs.Ending.{IsUntouched}
-use Rattle.manager_worker.specs.Stepping.{Takes, Reaches, none, more}
+use Rattle.manager_worker.specs.Finding.{Adds}
+use Rattle.manager_worker.specs.Stepping.{InTurn, Notes, Takes, Reaches, none, more, sees}
+use Rattle.manager_worker.specs.declared.live_reads.FoundObject.{FoundObject}
+use Rattle.manager_worker.specs.declared.live_reads.FoundObject.TheVariants as object
 use Rattle.manager_worker.specs.declared.steps.Progress.{Progress}
 use Rattle.manager_worker.specs.declared.steps.Progress.TheVariants as progress
 
@@ -65,43 +75,69 @@ untouched t s at early is = untouched_by t (ap is_early at ∙ early) is
 as_before : (t u : Turn) → u ≡ t → IsInOrder t → IsInOrder u
 as_before t u same is = subst (λ (v : Turn). IsInOrder v) (sym same) is
 
-kept_at : (t u : Turn) (s : NextStep) (p : Progress) → next t ≡ s → Takes s t u p → IsInOrder t → IsInOrder u
-kept_at t u (look k) progress.Went at takes is =
-    let was = untouched t (look k) at refl is in
-    as_before (with_sight (looked k takes.0) t) u takes.1 (inr (record { expected = was.expected; issued = was.issued }))
-kept_at t u (look k) progress.Again at takes is = as_before t u takes is
-kept_at t u (look k) progress.GivenUp at takes is = absurd takes
-kept_at t u (look k) progress.AtEnd at takes is = absurd takes
-kept_at t u ask_satisfied progress.Went at takes is =
-    let was = untouched t ask_satisfied at refl is in
-    as_before (with_sight (satisfied takes.0) t) u takes.1 (inr (record { expected = was.expected; issued = was.issued }))
-kept_at t u ask_satisfied progress.Again at takes is = absurd takes
-kept_at t u ask_satisfied progress.GivenUp at takes is = absurd takes
-kept_at t u ask_satisfied progress.AtEnd at takes is = absurd takes
-kept_at t u (read k) progress.Went at takes is =
-    let was = untouched t (read k) at refl is in
-    as_before (with_read (record { key = k; found = takes.0 }) t) u takes.1 (inr (record { expected = was.expected; issued = was.issued }))
-kept_at t u (read k) progress.Again at takes is = as_before t u takes is
-kept_at t u (read k) progress.GivenUp at takes is = as_before t u takes is
-kept_at t u (read k) progress.AtEnd at takes is = absurd takes
-kept_at t u (expect e) progress.Went at takes is =
-    let is_planned = planned t (expect e) at refl in
-    as_before (with_expected t) u takes (inl (record { seen = is_planned.seen; asked = is_planned.asked }))
-kept_at t u (expect e) progress.Again at takes is = absurd takes
-kept_at t u (expect e) progress.GivenUp at takes is = absurd takes
-kept_at t u (expect e) progress.AtEnd at takes is = absurd takes
-kept_at t u (issue x) progress.Went at takes is =
-    let is_planned = planned t (issue x) at refl in
-    as_before (answered_to (command_issued (issue x)) takes.0 t) u takes.1 (inl (record { seen = is_planned.seen; asked = is_planned.asked }))
-kept_at t u (issue x) progress.Again at takes is = as_before t u takes is
-kept_at t u (issue x) progress.GivenUp at takes is = absurd takes
-kept_at t u (issue x) progress.AtEnd at takes is = absurd takes
-kept_at t u finish p at takes is = as_before t u takes.1 is
+-- what was found, and what is noted, as a turn has it
+pub added : (f : FoundObject) (k : Key) (t u : Turn) → Adds f k t u progress.Went → (found : Option Data) × (u ≡ with_read (record { key = k; found = found }) t)
+added (object.Present o) k t u adds = (Some o.value, adds.1)
+added object.Absent k t u adds = (None, adds.1)
+added object.Refused k t u adds = let other : progress.Went ≡ progress.GivenUp = adds.0 in absurd (cc)
+added object.Unanswered k t u adds = let other : progress.Went ≡ progress.Again = adds.0 in absurd (cc)
 
-kept : {t u : Turn} → Reaches t u → IsInOrder t → IsInOrder u
-kept none is = is
-kept (more m v p reached takes) is = kept_at m v (next m) p refl takes (kept reached is)
+pub given_up : (f : FoundObject) (k : Key) (t u : Turn) → Adds f k t u progress.GivenUp → u ≡ t
+given_up (object.Present o) k t u adds = let other : progress.GivenUp ≡ progress.Went = adds.0 in absurd (cc)
+given_up object.Absent k t u adds = let other : progress.GivenUp ≡ progress.Went = adds.0 in absurd (cc)
+given_up object.Refused k t u adds = adds.1
+given_up object.Unanswered k t u adds = adds.1
 
--- at a live read nothing is expected or issued, if nothing was when the turn began
-pub untouched_at_read : (t u : Turn) → Reaches t u → IsUntouched t → (r : Key) → next u ≡ read r → IsUntouched u
-untouched_at_read t u reached was r at = untouched u (read r) at refl (kept reached (inr was))
+pub noted : (x : Command) (a : CommandAnswer) (t u : Turn) → Notes x a t u → (b : Answer) × (u ≡ with_issue (record { command = x; answer = b }) t)
+noted x a t u (inl e) = (answer_of a, e)
+noted x a t u (inr e) = (lost, e)
+
+module _ {L A : Type 0} (shows : L → Kind → Option Snapshot → L → Type 0) (answers : A → words.Request → client.Answer → A → Type 0) where
+  kept_at : (s z : InTurn L A) (n : NextStep) (p : Progress) → next s.turn ≡ n → Takes shows answers n s z p → IsInOrder s.turn → IsInOrder z.turn
+  kept_at s z (look k) progress.Went at takes is =
+      let was = untouched s.turn (look k) at refl is in
+      as_before (with_sight (looked k takes.0.0) s.turn) z.turn takes.0.2 (inr (record { expected = was.expected; issued = was.issued }))
+  kept_at s z (look k) progress.Again at takes is = as_before s.turn z.turn takes.0.2 is
+  kept_at s z (look k) progress.GivenUp at takes is = absurd takes.0
+  kept_at s z (look k) progress.AtEnd at takes is = absurd takes.0
+  kept_at s z (look k) progress.CutShort at takes is = absurd takes.0
+  kept_at s z ask_satisfied progress.Went at takes is =
+      let was = untouched s.turn ask_satisfied at refl is in
+      as_before (with_sight (satisfied takes.0.0) s.turn) z.turn takes.0.1 (inr (record { expected = was.expected; issued = was.issued }))
+  kept_at s z ask_satisfied progress.Again at takes is = as_before s.turn z.turn takes.0.0 is
+  kept_at s z ask_satisfied progress.GivenUp at takes is = absurd takes.0
+  kept_at s z ask_satisfied progress.AtEnd at takes is = absurd takes.0
+  kept_at s z ask_satisfied progress.CutShort at takes is = absurd takes.0
+  kept_at s z (read k) progress.Went at takes is =
+      let was = untouched s.turn (read k) at refl is in
+      let what = added takes.0.0 k s.turn z.turn takes.0.2 in
+      as_before (with_read (record { key = k; found = what.0 }) s.turn) z.turn what.1 (inr (record { expected = was.expected; issued = was.issued }))
+  kept_at s z (read k) progress.Again at takes is = as_before s.turn z.turn takes.0.0 is
+  kept_at s z (read k) progress.GivenUp at takes is = as_before s.turn z.turn (given_up takes.0.0 k s.turn z.turn takes.0.2) is
+  kept_at s z (read k) progress.AtEnd at takes is = absurd takes.0
+  kept_at s z (read k) progress.CutShort at takes is = absurd takes.0
+  kept_at s z (expect e) progress.Went at takes is =
+      let is_planned = planned s.turn (expect e) at refl in
+      as_before (with_expected s.turn) z.turn takes.0.0 (inl (record { seen = is_planned.seen; asked = is_planned.asked }))
+  kept_at s z (expect e) progress.Again at takes is = as_before s.turn z.turn takes.0.0 is
+  kept_at s z (expect e) progress.GivenUp at takes is = absurd takes.0
+  kept_at s z (expect e) progress.AtEnd at takes is = absurd takes.0
+  kept_at s z (expect e) progress.CutShort at takes is = absurd takes.0
+  kept_at s z (issue x) progress.Went at takes is =
+      let is_planned = planned s.turn (issue x) at refl in
+      let what = noted x takes.0.0 s.turn z.turn takes.0.2 in
+      as_before (with_issue (record { command = x; answer = what.0 }) s.turn) z.turn what.1 (inl (record { seen = is_planned.seen; asked = is_planned.asked }))
+  kept_at s z (issue x) progress.Again at takes is = as_before s.turn z.turn takes.0.0 is
+  kept_at s z (issue x) progress.GivenUp at takes is = absurd takes.0
+  kept_at s z (issue x) progress.AtEnd at takes is = absurd takes.0
+  kept_at s z (issue x) progress.CutShort at takes is = as_before s.turn z.turn takes.0.2 is
+  kept_at s z finish p at takes is = as_before s.turn z.turn (ap (λ (v : InTurn L A). v.turn) takes.1) is
+
+  kept : {s z : InTurn L A} → Reaches shows answers s z → IsInOrder s.turn → IsInOrder z.turn
+  kept none is = is
+  kept (more m v p reached takes going) is = kept_at m v (next m.turn) p refl takes (kept reached is)
+  kept (sees m w reached seen) is = kept reached is
+
+  -- at a live read nothing is expected or issued, if nothing was when the turn began
+  pub untouched_at_read : (s z : InTurn L A) → Reaches shows answers s z → IsUntouched s.turn → (r : Key) → next z.turn ≡ read r → IsUntouched z.turn
+  untouched_at_read s z reached was r at = untouched z.turn (read r) at refl (kept reached (inr was))

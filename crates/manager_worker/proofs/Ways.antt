@@ -1,42 +1,88 @@
 -- How a turn goes on, and how it is given up.
-use Rattle.std.proofs.Common.{◌≡◌, ◌∙◌, ◌++◌, List, [], ◌∷◌, Bool, true, false, Some, inl, inr, refl, ap, subst, sym}
-use Rattle.control_desk.specs.Steps.{Step, in_hand, requeue}
-use Rattle.object_keys.specs.WorkKeys.{work_key_of}
+use Rattle.std.proofs.Common.{◌≡◌, true, Option, Result, Ok, Err, inl, inr, refl, subst, sym}
+use Rattle.std.specs.Result.{IsErr}
+use mathlib.Core.Bool.{true≢false}
+use Rattle.baton.specs.declared.views.Known.{Known}
 use Rattle.object_keys.specs.declared.work_key.WorkKey.{WorkKey}
 use Rattle.spec_api.specs.Keys.{Key}
+use Rattle.spec_api.specs.ObjectRequests as words
+use Rattle.spec_api.specs.declared.kinds.Kind.{Kind}
+use Rattle.spec_client_go.specs.Boards.{Board}
+use Rattle.spec_server.specs.Snapshots.{Snapshot}
 use Rattle.spec_sim.specs.NextSteps.{NextStep, next, look, ask_satisfied, read, expect, issue, finish}
-use Rattle.spec_sim.specs.Turns.{Turn}
+use Rattle.http_client.specs.declared.answer.Answer as client
+use Rattle.control_desk.specs.Steps.{Step}
+use Rattle.manager_worker.specs.Ending.{giving_back, course_of, is_over, Makes, Follows, at_end, given_up, Advances}
+use Rattle.manager_worker.specs.Stepping.{InTurn, in_turn, OnlySees, Takes, Steps, Reaches, none, more, sees, is_going}
 use Rattle.manager_worker.specs.declared.steps.Progress.{Progress}
 use Rattle.manager_worker.specs.declared.steps.Progress.TheVariants as progress
-use Rattle.manager_worker.specs.Ending.{giving_back, IsOver}
-use Rattle.manager_worker.specs.Stepping.{Takes, Steps, Reaches, more, Advances, is_given_up}
+use Rattle.manager_worker.specs.declared.turning.Course.{Course}
+use Rattle.manager_worker.specs.declared.turning.Course.TheVariants as course
+use Rattle.manager_worker.proofs.Stepped.{at_most}
+use Rattle.manager_worker.proofs.Untouched as untouched
 
-pub goes-on : (s t u : Turn) → Reaches s t → Advances t u false → Reaches s u
-goes-on s t u r (inl a) = more t u a.0 r a.1
-goes-on s t u r (inr e) = let reaches : Turn → Type 0 = λ v. Reaches s v in subst reaches (sym e) r
+-- where memory runs out a turn is not over
+pub fails : {E : Type 0} (r : Result Course E) (P : Course → Type 0) → IsErr r → P course.GoesOn → P (course_of r)
+fails (Ok c) P is so = absurd (true≢false (sym is))
+fails (Err e) P is so = so
 
--- ---- a turn that is given up
+pub not_over : {E : Type 0} (r : Result Course E) → IsErr r → is_over (course_of r) ≡ true → ⊥
+not_over (Ok c) is e = absurd (true≢false (sym is))
+not_over (Err x) is e = true≢false (sym e)
 
-gave_up_at : (t u : Turn) (s : NextStep) → next t ≡ s → (p : Progress) → Takes s t u p → is_given_up p ≡ true → ((k : Key) × (next t ≡ read k)) × (u ≡ t)
-gave_up_at t u s at progress.Went takes e = absurd (cc)
-gave_up_at t u s at progress.Again takes e = absurd (cc)
-gave_up_at t u s at progress.AtEnd takes e = absurd (cc)
-gave_up_at t u (look k) at progress.GivenUp takes e = absurd takes
-gave_up_at t u ask_satisfied at progress.GivenUp takes e = absurd takes
-gave_up_at t u (read k) at progress.GivenUp takes e = ((k, at), takes)
-gave_up_at t u (expect x) at progress.GivenUp takes e = absurd takes
-gave_up_at t u (issue x) at progress.GivenUp takes e = absurd takes
-gave_up_at t u finish at progress.GivenUp takes e = let other : progress.GivenUp ≡ progress.AtEnd = takes.0 in absurd (cc)
+module _ {L A : Type 0} (shows : L → Kind → Option Snapshot → L → Type 0) (answers : A → words.Request → client.Answer → A → Type 0) where
+  -- a turn is given up at a live read, which may be made again
+  gave_up_at : (s z : InTurn L A) (n : NextStep) → next s.turn ≡ n → Takes shows answers n s z progress.GivenUp
+      → ((r : Key) × (next s.turn ≡ read r)) × Takes shows answers n s z progress.Again
+  gave_up_at s z (look k) at takes = absurd takes.0
+  gave_up_at s z ask_satisfied at takes = absurd takes.0
+  gave_up_at s z (read k) at takes =
+      ((k, at), ((untouched.given_up takes.0.0 k s.turn z.turn takes.0.2, at_most answers k s.api z.api takes.0.0 takes.0.1), takes.1, takes.2))
+  gave_up_at s z (expect e) at takes = absurd takes.0
+  gave_up_at s z (issue x) at takes = absurd takes.0
+  gave_up_at s z finish at takes = let other : progress.GivenUp ≡ progress.AtEnd = takes.0 in absurd (cc)
 
--- a turn is given up at a live read, and stays as it is
-pub gave_up : (t u : Turn) (p : Progress) → Steps t u p → is_given_up p ≡ true → ((k : Key) × (next t ≡ read k)) × (u ≡ t)
-gave_up t u p takes e = gave_up_at t u (next t) refl p takes e
+  gave_up : (s z : InTurn L A) → Steps shows answers s z progress.GivenUp → ((r : Key) × (next s.turn ≡ read r)) × Steps shows answers s z progress.Again
+  gave_up s z takes = gave_up_at s z (next s.turn) refl takes
 
-pub advances : (t u : Turn) (p : Progress) (b : Bool) → Steps t u p → b ≡ is_given_up p → Advances t u b
-advances t u p true takes e = let g = gave_up t u p takes (sym e) in (inr g.0, g.1)
-advances t u p false takes e = inl (p, takes)
+  went_on : (k : WorkKey) (s u : InTurn L A) (p : Progress) (w : Known Board Step) (c : Course) → is_going p ≡ true → Steps shows answers s u p
+      → c ≡ course.GoesOn → w ≡ u.known → Advances shows answers k s (in_turn u.turn u.listers u.api w) c
+  went_on k s u p w course.GoesOn going takes e same =
+      let reaches : Known Board Step → Type 0 = λ v. Reaches shows answers s (in_turn u.turn u.listers u.api v) in
+      subst reaches (sym same) (more s u p none takes going)
+  went_on k s u p w course.Over going takes e same = absurd (cc)
+  went_on k s u p w course.CutShort going takes e same = absurd (cc)
 
--- then its key waits for its delay
-pub is_over : (k : WorkKey) (t : Turn) (r : Key) (earlier made : List Step) → next t ≡ read r → in_hand earlier ≡ Some (work_key_of k) → made ≡ earlier ++ requeue (work_key_of k) [] ∷ [] → IsOver k t made
-is_over k t r earlier made at mine is =
-    record { over = inr (r, at); earlier = earlier; mine = mine; given_back = is ∙ ap (λ s. earlier ++ giving_back k s t ∷ []) (sym at) }
+  was_cut : (k : WorkKey) (s u : InTurn L A) (w : Known Board Step) (c : Course) → Steps shows answers s u progress.CutShort
+      → c ≡ course.CutShort → w ≡ u.known → Advances shows answers k s (in_turn u.turn u.listers u.api w) c
+  was_cut k s u w course.CutShort takes e same =
+      let steps : Known Board Step → Type 0 = λ v. Steps shows answers s (in_turn u.turn u.listers u.api v) progress.CutShort in subst steps (sym same) takes
+  was_cut k s u w course.Over takes e same = absurd (cc)
+  was_cut k s u w course.GoesOn takes e same = absurd (cc)
+
+  pub advances : (k : WorkKey) (s u : InTurn L A) (p : Progress) (w : Known Board Step) (c : Course) → Steps shows answers s u p → Follows k p u.known w c
+      → Advances shows answers k s (in_turn u.turn u.listers u.api w) c
+  advances k s u progress.Went w c takes is = went_on k s u progress.Went w c refl takes is.0 is.1
+  advances k s u progress.Again w c takes is = went_on k s u progress.Again w c refl takes is.0 is.1
+  advances k s u progress.AtEnd w c takes is = went_on k s u progress.AtEnd w c refl takes is.0 is.1
+  advances k s u progress.CutShort w c takes is = was_cut k s u w c takes is.0 is.1
+  advances k s u progress.GivenUp w course.GoesOn takes is = sees u w (more s u progress.Again none (gave_up s u takes).1 refl) is
+  advances k s u progress.GivenUp w course.Over takes is = let gave = gave_up s u takes in given_up gave.0.0 u gave.0.1 takes is refl
+  advances k s u progress.GivenUp w course.CutShort takes is = absurd is
+
+  -- where no step went before
+  pub not_taken : (k : WorkKey) (s z : InTurn L A) → Steps shows answers s z progress.Again → Advances shows answers k s z course.GoesOn
+  not_taken k s z takes = more s z progress.Again none takes refl
+
+  pub ended : (k : WorkKey) (s : InTurn L A) (w : Known Board Step) → next s.turn ≡ finish → Makes (giving_back k finish s.turn) s.known w
+      → Advances shows answers k s (in_turn s.turn s.listers s.api w) course.Over
+  ended k s w at makes = at_end at makes refl
+
+  pub not_ended : (k : WorkKey) (s : InTurn L A) (w : Known Board Step) → OnlySees s.known w → Advances shows answers k s (in_turn s.turn s.listers s.api w) course.GoesOn
+  not_ended k s w (inl same) = let reaches : Known Board Step → Type 0 = λ v. Reaches shows answers s (in_turn s.turn s.listers s.api v) in subst reaches (sym same) none
+  not_ended k s w (inr seen) = sees s w none seen
+
+  pub joined : {s u z : InTurn L A} → Reaches shows answers s u → Reaches shows answers u z → Reaches shows answers s z
+  joined first none = first
+  joined first (more m z p reached takes going) = more m z p (joined first reached) takes going
+  joined first (sees m w reached seen) = sees m w (joined first reached) seen

@@ -1,13 +1,24 @@
 -- How a turn is over, and how its key is given back.
-use Rattle.std.specs.Prelude.{◌≡◌, ◌++◌, List, [], ◌∷◌, false, Some, if◌then◌else◌}
+use Rattle.std.specs.Prelude.{◌≡◌, ◌⊎◌, ◌++◌, [], ◌∷◌, Bool, true, false, Option, Some, Result, Ok, Err, if◌then◌else◌}
+use Rattle.baton.specs.declared.views.Known.{Known}
 use Rattle.spec_api.specs.Keys.{Key}
+use Rattle.spec_api.specs.ObjectRequests as words
+use Rattle.spec_api.specs.declared.kinds.Kind.{Kind}
+use Rattle.spec_client_go.specs.Boards.{Board}
+use Rattle.spec_server.specs.Snapshots.{Snapshot}
 use Rattle.spec_sim.specs.NextSteps as turn
 use Rattle.spec_sim.specs.NextSteps.{NextStep, next}
 use Rattle.spec_sim.specs.Turns.{Turn, all_accepted, taken_back}
-use Rattle.control_desk.specs.Steps.{Step, in_hand, finish, requeue}
+use Rattle.http_client.specs.declared.answer.Answer as client
+use Rattle.control_desk.specs.Calls.{IsCall, Nothing}
+use Rattle.control_desk.specs.Steps.{Step, changing, in_hand, finish, requeue}
 use Rattle.object_keys.specs.WorkKeys.{work_key_of}
 use Rattle.object_keys.specs.declared.work_key.WorkKey.{WorkKey}
-use Rattle.manager_worker.specs.Stepping.{Reaches, CanBeOver}
+use Rattle.manager_worker.specs.Stepping.{InTurn, in_turn, Sees, Steps, Reaches}
+use Rattle.manager_worker.specs.declared.steps.Progress.{Progress}
+use Rattle.manager_worker.specs.declared.steps.Progress.TheVariants as progress
+use Rattle.manager_worker.specs.declared.turning.Course.{Course}
+use Rattle.manager_worker.specs.declared.turning.Course.TheVariants as course
 
 -- The step of the board that gives back the key of a turn which is over where this step of its own comes next. At the end of the turn the key is
 -- done where all was accepted; else it waits for its delay, and what was not done is expected no longer. At a live read, which was refused, it
@@ -16,21 +27,61 @@ abbrev pub giving_back : WorkKey → NextStep → Turn → Step
 giving_back k turn.finish t = if all_accepted t.issues then finish (work_key_of k) else requeue (work_key_of k) (taken_back t)
 giving_back k s t = requeue (work_key_of k) []
 
--- a turn is over: of the steps of the board that its worker made the last one gives back the key, which was in its hands
-pub record IsOver (k : WorkKey) (t : Turn) (made : List Step) : Type 0 where
-  pub over : CanBeOver (next t)
-  pub earlier : List Step
-  pub mine : in_hand earlier ≡ Some (work_key_of k)
-  pub given_back : made ≡ earlier ++ giving_back k (next t) t ∷ []
+-- a pass makes a step of the board, which its history then ends with
+abbrev pub Makes : Step → Known Board Step → Known Board Step → Type 0
+Makes e v w = IsCall v (changing e) Nothing w × (w.made ≡ v.made ++ e ∷ [])
+
+-- how a turn goes on for which memory runs out
+abbrev pub course_of : {E : Type 0} → Result Course E → Course
+course_of (Ok c) = c
+course_of (Err e) = course.GoesOn
+
+-- whether a turn is over
+abbrev pub is_over : Course → Bool
+is_over course.GoesOn = false
+is_over course.Over = true
+is_over course.CutShort = false
+
+-- what is done after a step: where the turn is given up its key is given back, or, where there is no memory for that, is not
+abbrev pub Follows : WorkKey → Progress → Known Board Step → Known Board Step → Course → Type 0
+Follows k progress.Went v w c = (c ≡ course.GoesOn) × (w ≡ v)
+Follows k progress.Again v w c = (c ≡ course.GoesOn) × (w ≡ v)
+Follows k progress.AtEnd v w c = (c ≡ course.GoesOn) × (w ≡ v)
+Follows k progress.CutShort v w c = (c ≡ course.CutShort) × (w ≡ v)
+Follows k progress.GivenUp v w course.GoesOn = Sees v w
+Follows k progress.GivenUp v w course.Over = Makes (requeue (work_key_of k) []) v w
+Follows k progress.GivenUp v w course.CutShort = ⊥
 
 -- nothing is expected or issued
 pub record IsUntouched (t : Turn) : Type 0 where
   pub expected : t.has_expected ≡ false
   pub issued : t.issues ≡ []
 
--- a turn was taken, step by step, until it was over; where it is given up nothing is expected or issued, if nothing was when it began
-pub record IsTakenUntilOver (k : WorkKey) (t : Turn) (made : List Step) : Type 0 where
-  pub last : Turn
-  pub reached : Reaches t last
-  pub over : IsOver k last made
-  pub untouched : IsUntouched t → (r : Key) → next last ≡ turn.read r → IsUntouched last
+module _ {L A : Type 0} (shows : L → Kind → Option Snapshot → L → Type 0) (answers : A → words.Request → client.Answer → A → Type 0) where
+  -- A turn is over at its end, or where a live read was refused: its key is given back, and nothing else is done.
+  pub data Ends (k : WorkKey) (s z : InTurn L A) : Type 0 where
+    at_end : next s.turn ≡ turn.finish → Makes (giving_back k turn.finish s.turn) s.known z.known → z ≡ in_turn s.turn s.listers s.api z.known → Ends k s z
+    given_up : (r : Key) (u : InTurn L A) → next s.turn ≡ turn.read r → Steps shows answers s u progress.GivenUp → Makes (requeue (work_key_of k) []) u.known z.known
+        → z ≡ in_turn u.turn u.listers u.api z.known → Ends k s z
+
+  -- what a round makes of a turn: it comes further, or is over, or is cut short, where a command was answered and that is not noted
+  abbrev pub Advances : WorkKey → InTurn L A → InTurn L A → Course → Type 0
+  Advances k s z course.GoesOn = Reaches shows answers s z
+  Advances k s z course.Over = Ends k s z
+  Advances k s z course.CutShort = Steps shows answers s z progress.CutShort
+
+  -- a turn was taken, step by step, until it was over; where it is given up nothing is expected or issued, if nothing was when it began
+  pub record IsTakenUntilOver (k : WorkKey) (s : InTurn L A) (listers : L) (api : A) (v : Known Board Step) : Type 0 where
+    pub last : InTurn L A
+    pub reached : Reaches shows answers s last
+    pub mine : in_hand last.known.made ≡ Some (work_key_of k)
+    pub left_at : Turn
+    pub over : Ends k last (in_turn left_at listers api v)
+    pub untouched : IsUntouched s.turn → (r : Key) → next last.turn ≡ turn.read r → IsUntouched last.turn
+
+  -- a turn was taken, step by step, until all was to stop; of the last step it may not be noted how a command was answered
+  pub record IsCutShort (s : InTurn L A) (listers : L) (api : A) (v : Known Board Step) : Type 0 where
+    pub last : InTurn L A
+    pub reached : Reaches shows answers s last
+    pub left_at : Turn
+    pub left : (in_turn left_at listers api v ≡ last) ⊎ Steps shows answers last (in_turn left_at listers api v) progress.CutShort

@@ -5,6 +5,7 @@ use Rattle.http_client.specs.declared.answer.Answer as client
 use Rattle.http_client.specs.declared.answer.Answer.TheVariants as outcome
 use Rattle.spec_api.specs.Keys.{Key, is_namespace, is_subdomain}
 use Rattle.spec_api.specs.Metadata.{differs, name, namespace}
+use Rattle.spec_api.specs.ObjectRequests as words
 use Rattle.spec_api.specs.Reading.{reading}
 use Rattle.serde_json.specs.Data.{Data}
 use Rattle.spec_sim.specs.Turns.{Turn, with_read}
@@ -44,6 +45,15 @@ abbrev pub FindsOf : Key → client.Answer → FoundObject → Type 0
 FindsOf k (outcome.Replied r) f = Finds k r.code r.body.items f
 FindsOf k outcome.NotSent f = f ≡ found.Unanswered
 FindsOf k outcome.Lost f = f ≡ found.Unanswered
+
+module _ {A : Type 0} (answers : A → words.Request → client.Answer → A → Type 0) where
+  abbrev pub FoundIf : Bool → Key → A → FoundObject → A → Type 0
+  FoundIf false k before f after = (f ≡ found.Absent) × (after ≡ before)
+  FoundIf true k before f after = (a : client.Answer) × answers before (words.get_object k) a after × FindsOf k a f
+
+  -- an object is asked for, once, and what is found is what the answer says; one that cannot be is absent without being asked for
+  abbrev pub FoundBy : Key → A → FoundObject → A → Type 0
+  FoundBy k before f after = FoundIf (can_be k) k before f after
 
 -- what was found is added to a turn; one that was refused is given up, and where nobody answered the key is to be read again
 abbrev pub Adds : FoundObject → Key → Turn → Turn → Progress → Type 0

@@ -1,10 +1,12 @@
 -- What a worker learns of its command (RFC 9110, Status Codes).
-use Rattle.std.specs.Prelude.{◌≡◌, ◌≤◌, ◌<◌, ◌&&◌, ◌||◌, ℕ, List, Bool, not, nat_eq, codes, if◌then◌else◌}
+use Rattle.std.specs.Prelude.{◌≡◌, ◌⊎◌, ◌≤◌, ◌<◌, ◌&&◌, ◌||◌, ℕ, List, Bool, true, false, not, nat_eq, codes, if◌then◌else◌}
 use Rattle.std.specs.List.{starts_with}
 use Rattle.std.specs.Str.{IsUtf8}
 use Rattle.http_client.specs.declared.answer.Answer as client
 use Rattle.http_client.specs.declared.answer.Answer.TheVariants as outcome
+use Rattle.spec_api.specs.ObjectRequests as words
 use Rattle.spec_sim.specs.Turns as turns
+use Rattle.request_encoding.specs.Texts.{can_be_told}
 use Rattle.reconcile_turn.specs.Seen.{answer_of, data_of}
 use Rattle.reconcile_turn.specs.declared.answers.CommandAnswer.{CommandAnswer}
 use Rattle.reconcile_turn.specs.declared.answers.CommandAnswer.TheVariants as answer
@@ -43,3 +45,18 @@ abbrev pub LearnsOf : client.Answer → Learnt → Type 0
 LearnsOf (outcome.Replied r) l = Learns r.code r.body.items l
 LearnsOf outcome.NotSent l = l ≡ learnt.Again
 LearnsOf outcome.Lost l = l ≡ learnt.Known answer.Lost
+
+-- ---- what is asked
+
+module _ {A : Type 0} (answers : A → words.Request → client.Answer → A → Type 0) where
+  abbrev pub AsksIf : Bool → A → words.Request → Learnt → A → Type 0
+  AsksIf false before q l after = (l ≡ learnt.Known (answer.Refused 400)) × (after ≡ before)
+  AsksIf true before q l after = (a : client.Answer) × answers before q a after × LearnsOf a l
+
+  -- a request is asked, once, and what is learnt is what its answer says; one that cannot be told over HTTP is not asked, and as good as refused with 400
+  abbrev pub AsksOnce : A → words.Request → Learnt → A → Type 0
+  AsksOnce before q l after = AsksIf (can_be_told q) before q l after
+
+  -- a request was asked, once, or nothing was
+  abbrev pub AsksAtMost : A → words.Request → A → Type 0
+  AsksAtMost before q after = (after ≡ before) ⊎ ((a : client.Answer) × answers before q a after)

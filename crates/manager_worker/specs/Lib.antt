@@ -1,6 +1,9 @@
 -- The definitions, in reading order.
+pub mod Looking
 pub mod Learning
 pub mod Finding
-pub mod Stepping
 pub mod Telling
+pub mod Stepping
 pub mod Ending
+pub mod Working
+pub mod Repeating

@@ -4,6 +4,7 @@
 
 pub mod answers;
 pub mod gates;
+pub mod laws;
 pub mod live_reads;
 pub mod looking;
 pub mod signals;

@@ -1,17 +1,16 @@
 //! The steps of a turn.
-ghost use Rattle.std.specs.Prelude.{◌≡◌, ◌⊎◌, Bool, None, Some, IfOk, IfSome, OnOk, OnErr, is_some, true, false};
+ghost use Rattle.std.specs.Prelude.{◌≡◌, ◌⊎◌, Some, IfOk, IfSome, OnErr, is_some, true, false};
 ghost use Rattle.object_keys.specs.Keys.{key_of};
-ghost use Rattle.spec_sim.specs.Managers.{is_satisfied_for};
+ghost use Rattle.request_parts.specs.Requests.{request_of};
+ghost use Rattle.spec_api.specs.ObjectRequests.{get_object};
 ghost use Rattle.spec_sim.specs.NextSteps as steps;
 ghost use Rattle.spec_sim.specs.NextSteps.{next, look, ask_satisfied};
-ghost use Rattle.spec_sim.specs.Turns.{lost, owner, satisfied, with_sight};
-ghost use Rattle.control_desk.specs.Calls.{IsCall, Nothing};
+ghost use Rattle.spec_sim.specs.Turns.{lost};
 ghost use Rattle.control_desk.specs.Desks.{known, key_in_hand, IsPassAt};
-ghost use Rattle.control_desk.specs.Steps.{changing, forget};
 ghost use Rattle.reconcile_turn.specs.Seen.{answer_of, answered_to, command_issued, expectation};
-ghost use Rattle.manager_worker.specs.Finding.{Adds};
-ghost use Rattle.manager_worker.specs.Stepping.{Looks, Asks, Reads, Expects, Issues, Steps};
-ghost use Rattle.manager_worker.specs.Telling.{expecting};
+ghost use Rattle.manager_worker.specs.Finding.{Adds, FoundBy};
+ghost use Rattle.manager_worker.specs.Learning.{AsksOnce, AsksAtMost};
+ghost use Rattle.manager_worker.specs.Stepping.{Looks, Asks, Reads, Expects, Notes, Heeds, Issues, Steps, in_turn, told};
 
 use crate::answers::{Learnt, learnt_of};
 use crate::live_reads::{FoundObject, can_be, found_in};
@@ -40,6 +39,8 @@ pub enum Progress {
     GivenUp,
     /// It is the end of the turn.
     AtEnd,
+    /// It was taken, and how the command was answered is not noted, as all is to stop: the turn is left where it is.
+    CutShort,
 }
 
 /// How many milliseconds a worker that lacks memory waits before it notes an answer.
@@ -70,8 +71,8 @@ impl<R: Wait + Clock, L: Looking + Drop, A: Api + Drop, G> Tools<'_, R, L, A, G>
     /// Looks at what is published of a kind.
     fn look(&mut self, turn: &mut Turn, kind: Kind) -> Result<Progress, AllocError>
         requires { next turn.old ≡ look kind }
-        ensures ok { IfOk result (λ p. Looks kind turn.old turn.new p) }
-        ensures err { OnErr result (turn.new ≡ turn.old) }
+        ensures looks { Looks L.shows kind turn.old self.old.listers turn.new self.new.listers (told result) }
+        ensures api { self.new.api ≡ self.old.api }
     {
         match self.listers.published(kind)? {
             Some(published) => {
@@ -93,30 +94,29 @@ impl<R: Wait + Clock, L: Looking + Drop, A: Api + Drop, G> Tools<'_, R, L, A, G>
         requires next { next turn.old ≡ ask_satisfied }
         ensures pass { IsPassAt desk.now pass.new }
         ensures key { key_in_hand pass.new ≡ key_in_hand pass.old }
-        ensures ok { IfOk result (λ p. Asks turn.old turn.new p) }
-        ensures asked { OnOk result (IfSome (owner turn.old) (λ o. (b : Bool) × (turn.new ≡ with_sight (satisfied b) turn.old)
-            × IsCall (known pass.old) (λ d. None) (λ d. b ≡ is_satisfied_for (Some o) d) (known pass.new))) }
-        ensures gone { OnOk result (owner turn.old ≡ None
-            → (turn.new ≡ with_sight (satisfied true) turn.old)
-            × IsCall (known pass.old) (changing (forget turn.old.work_key.key)) Nothing (known pass.new)) }
-        ensures err { OnErr result (turn.new ≡ turn.old) }
+        ensures asks { Asks turn.old (known pass.old) turn.new (known pass.new) (told result) }
     {
         let key = turn.key().key.try_copy()?;
         match turn.owner(self.alloc)? {
             Some(owner) => {
                 let is_satisfied = desk.satisfied(self.rt, pass, &owner);
                 turn.see(Sight::Satisfied(is_satisfied))?;
+                Ok(Progress::Went)
             }
             None => {
                 turn.see(Sight::Satisfied(true))?;
                 desk.forget(self.rt, pass, &key);
+                Ok(Progress::Went)
             }
         }
-        Ok(Progress::Went)
     }
 
     /// Returns what is there under a key: an object that cannot be is absent without being asked for.
-    fn find(&mut self, key: &Key) -> Result<FoundObject, AllocError> {
+    fn find(&mut self, key: &Key) -> Result<FoundObject, AllocError>
+        ensures found { IfOk result (λ found. FoundBy A.answers (key_of key.now) self.old.api found self.new.api) }
+        ensures err { OnErr result (AsksAtMost A.answers self.old.api (get_object (key_of key.now)) self.new.api) }
+        ensures listers { self.new.listers ≡ self.old.listers }
+    {
         if !can_be(key) {
             return Ok(FoundObject::Absent);
         }
@@ -129,8 +129,8 @@ impl<R: Wait + Clock, L: Looking + Drop, A: Api + Drop, G> Tools<'_, R, L, A, G>
     /// Reads what is there under the key that is read live next.
     fn read_live(&mut self, turn: &mut Turn, key: &Key) -> Result<Progress, AllocError>
         requires { next turn.old ≡ steps.read (key_of key.now) }
-        ensures ok { IfOk result (λ p. Reads (key_of key.now) turn.old turn.new p) }
-        ensures err { OnErr result (turn.new ≡ turn.old) }
+        ensures reads { Reads A.answers (key_of key.now) turn.old self.old.api turn.new self.new.api (told result) }
+        ensures listers { self.new.listers ≡ self.old.listers }
     {
         let found = self.find(key)?;
         add_found(turn, key, found)
@@ -147,10 +147,7 @@ impl<R: Wait + Clock, L: Looking + Drop, A: Api + Drop, G> Tools<'_, R, L, A, G>
         requires next { is_some (expectation (next turn.old)) ≡ true }
         ensures pass { IsPassAt desk.now pass.new }
         ensures key { key_in_hand pass.new ≡ key_in_hand pass.old }
-        ensures ok { IfOk result (λ p. Expects turn.old turn.new p) }
-        ensures told { OnOk result (IfSome (expectation (next turn.old)) (λ e.
-            IsCall (known pass.old) (changing (expecting e)) Nothing (known pass.new))) }
-        ensures err { OnErr result (turn.new ≡ turn.old) }
+        ensures expects { IfSome (expectation (next turn.old)) (λ e. Expects e turn.old (known pass.old) turn.new (known pass.new) (told result)) }
     {
         let Some(expected) = turn.expected(self.alloc)? else {
             unreachable!()
@@ -173,9 +170,7 @@ impl<R: Wait + Clock, L: Looking + Drop, A: Api + Drop, G> Tools<'_, R, L, A, G>
     /// memory for that: so no command is issued twice. Returns whether it was noted: not where all is to stop.
     fn note(&self, turn: &mut Turn, answer: CommandAnswer) -> bool
         requires { is_some (command_issued (next turn.old)) ≡ true }
-        ensures noted { result ≡ true
-            → (turn.new ≡ answered_to (command_issued (next turn.old)) (answer_of answer) turn.old)
-            ⊎ (turn.new ≡ answered_to (command_issued (next turn.old)) lost turn.old) }
+        ensures noted { result ≡ true → IfSome (command_issued (next turn.old)) (λ x. Notes x answer turn.old turn.new) }
         ensures not_noted { result ≡ false → turn.new ≡ turn.old }
     {
         if turn.answer(answer).is_ok() {
@@ -193,7 +188,10 @@ impl<R: Wait + Clock, L: Looking + Drop, A: Api + Drop, G> Tools<'_, R, L, A, G>
     }
 
     /// Returns what a worker learns of the request of its command. One that cannot be told over HTTP is as good as refused.
-    fn ask(&mut self, request: &Request) -> Learnt {
+    fn ask(&mut self, request: &Request) -> Learnt
+        ensures asks { AsksOnce A.answers self.old.api (request_of request.now) result self.new.api }
+        ensures listers { self.new.listers ≡ self.old.listers }
+    {
         if !can_be_told(request) {
             return Learnt::Known(CommandAnswer::Refused { code: BAD_REQUEST });
         }
@@ -203,14 +201,14 @@ impl<R: Wait + Clock, L: Looking + Drop, A: Api + Drop, G> Tools<'_, R, L, A, G>
     /// Notes what was learnt of the command that is issued next, unless it is to be issued again.
     fn heed(&self, turn: &mut Turn, learnt: Learnt) -> Progress
         requires { is_some (command_issued (next turn.old)) ≡ true }
-        ensures { Issues (next turn.old) turn.old turn.new result }
+        ensures { IfSome (command_issued (next turn.old)) (λ x. Heeds x learnt turn.old turn.new result) }
     {
         match learnt {
             Learnt::Known(answer) => {
                 if self.note(turn, answer) {
                     Progress::Went
                 } else {
-                    Progress::Again
+                    Progress::CutShort
                 }
             }
             Learnt::Again => Progress::Again,
@@ -220,8 +218,8 @@ impl<R: Wait + Clock, L: Looking + Drop, A: Api + Drop, G> Tools<'_, R, L, A, G>
     /// Issues the next command of the plan. One that was not sent, or for which the server had no memory, is to be issued again.
     fn issue(&mut self, turn: &mut Turn) -> Result<Progress, AllocError>
         requires { is_some (command_issued (next turn.old)) ≡ true }
-        ensures ok { IfOk result (λ p. Issues (next turn.old) turn.old turn.new p) }
-        ensures err { OnErr result (turn.new ≡ turn.old) }
+        ensures issues { IfSome (command_issued (next turn.old)) (λ x. Issues A.answers x turn.old self.old.api turn.new self.new.api (told result)) }
+        ensures listers { self.new.listers ≡ self.old.listers }
     {
         let Some(request) = turn.request(self.alloc)? else {
             unreachable!()
@@ -241,8 +239,8 @@ impl<R: Wait + Clock, L: Looking + Drop, A: Api + Drop, G> Tools<'_, R, L, A, G>
         requires pass { IsPassAt desk.now pass.old }
         ensures pass { IsPassAt desk.now pass.new }
         ensures key { key_in_hand pass.new ≡ key_in_hand pass.old }
-        ensures ok { IfOk result (λ p. Steps turn.old turn.new p) }
-        ensures err { OnErr result (turn.new ≡ turn.old) }
+        ensures steps { Steps L.shows A.answers (in_turn turn.old self.old.listers self.old.api (known pass.old))
+            (in_turn turn.new self.new.listers self.new.api (known pass.new)) (told result) }
     {
         match turn.next() {
             NextStep::Look(kind) => self.look(turn, kind),

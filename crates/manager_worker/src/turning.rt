@@ -1,14 +1,11 @@
 //! A whole turn.
-ghost use Rattle.std.specs.Prelude.{◌≡◌, ◌++◌, ◌∷◌, [], None, Some, Ok, IfOk, OnOk, OnErr, true, false};
+ghost use Rattle.std.specs.Prelude.{◌≡◌, [], None, Some, OnOk, OnErr, true, false};
 ghost use Rattle.spec_sim.specs.NextSteps.{next, finish};
-ghost use Rattle.spec_sim.specs.Turns.{all_accepted, taken_back};
-ghost use Rattle.control_desk.specs.Calls.{IsCall, Nothing};
 ghost use Rattle.control_desk.specs.Desks.{known, key_in_hand, IsPassAt};
 ghost use Rattle.control_desk.specs.Steps as steps;
-ghost use Rattle.control_desk.specs.Steps.{changing};
 ghost use Rattle.object_keys.specs.WorkKeys.{work_key_of};
-ghost use Rattle.manager_worker.specs.Stepping.{Advances, is_given_up};
-ghost use Rattle.manager_worker.specs.Ending.{giving_back, IsOver, IsTakenUntilOver};
+ghost use Rattle.manager_worker.specs.Stepping.{in_turn, OnlySees, Sees};
+ghost use Rattle.manager_worker.specs.Ending.{giving_back, course_of, is_over, Makes, Follows, Advances, IsTakenUntilOver, IsCutShort};
 
 use crate::gates::Gate;
 use crate::looking::Looking;
@@ -24,6 +21,17 @@ use std::time::Clock;
 
 /// How many milliseconds a worker waits before it tries a step again.
 const PAUSE_MILLISECONDS: u64 = 50;
+
+/// How a turn goes on.
+#[derive(Clone, Copy)]
+pub enum Course {
+    /// Its next step is to be taken.
+    GoesOn,
+    /// It is over, at its end or given up, and its key is given back.
+    Over,
+    /// It is left where it is, as all is to stop.
+    CutShort,
+}
 
 /// Returns whether a turn's plan is made.
 fn is_planned(turn: &Turn) -> bool {
@@ -47,12 +55,8 @@ impl<R: Wait + Clock, L: Looking + Drop, A: Api + Drop, G: Gate> Tools<'_, R, L,
         requires mine { key_in_hand pass.old ≡ Some (work_key_of key.now) }
         requires finish { next turn.now ≡ finish }
         ensures pass { IsPassAt desk.now pass.new }
-        ensures done { all_accepted turn.now.issues ≡ true
-            → IsCall (known pass.old) (changing (steps.finish (work_key_of key.now))) Nothing (known pass.new) }
-        ensures requeued { all_accepted turn.now.issues ≡ false
-            → OnOk result (IsCall (known pass.old) (changing (steps.requeue (work_key_of key.now) (taken_back turn.now)))
-            Nothing (known pass.new)) }
-        ensures made { OnOk result ((known pass.new).made ≡ (known pass.old).made ++ giving_back key.now finish turn.now ∷ []) }
+        ensures makes { OnOk result (Makes (giving_back key.now finish turn.now) (known pass.old) (known pass.new)) }
+        ensures sees { OnErr result (OnlySees (known pass.old) (known pass.new)) }
         ensures ok { OnOk result (key_in_hand pass.new ≡ None) }
         ensures err { OnErr result (key_in_hand pass.new ≡ key_in_hand pass.old) }
     {
@@ -75,9 +79,8 @@ impl<R: Wait + Clock, L: Looking + Drop, A: Api + Drop, G: Gate> Tools<'_, R, L,
         requires pass { IsPassAt desk.now pass.old }
         requires mine { key_in_hand pass.old ≡ Some (work_key_of key.now) }
         ensures pass { IsPassAt desk.now pass.new }
-        ensures requeued { OnOk result (IsCall (known pass.old) (changing (steps.requeue (work_key_of key.now) []))
-            Nothing (known pass.new)) }
-        ensures made { OnOk result ((known pass.new).made ≡ (known pass.old).made ++ steps.requeue (work_key_of key.now) [] ∷ []) }
+        ensures makes { OnOk result (Makes (steps.requeue (work_key_of key.now) []) (known pass.old) (known pass.new)) }
+        ensures sees { OnErr result (Sees (known pass.old) (known pass.new)) }
         ensures ok { OnOk result (key_in_hand pass.new ≡ None) }
         ensures err { OnErr result (key_in_hand pass.new ≡ key_in_hand pass.old) }
     {
@@ -85,7 +88,7 @@ impl<R: Wait + Clock, L: Looking + Drop, A: Api + Drop, G: Gate> Tools<'_, R, L,
         Ok(())
     }
 
-    /// Does what is left to do after a step that was not its turn's end, and returns whether the turn is over: before a step is tried again it
+    /// Does what is left to do after a step that was not its turn's end, and returns how the turn goes on: before a step is tried again it
     /// pauses, and where the turn is given up it gives back its key.
     fn go_on(
         &self,
@@ -93,49 +96,47 @@ impl<R: Wait + Clock, L: Looking + Drop, A: Api + Drop, G: Gate> Tools<'_, R, L,
         pass: &mut WorkPass,
         key: &WorkKey,
         progress: Progress,
-    ) -> Result<bool, AllocError>
+    ) -> Result<Course, AllocError>
         requires pass { IsPassAt desk.now pass.old }
         requires mine { key_in_hand pass.old ≡ Some (work_key_of key.now) }
         ensures pass { IsPassAt desk.now pass.new }
-        ensures over { IfOk result (λ b. b ≡ is_given_up progress) }
-        ensures err { OnErr result (is_given_up progress ≡ true) }
-        ensures made { result ≡ Ok true → (known pass.new).made ≡ (known pass.old).made ++ steps.requeue (work_key_of key.now) [] ∷ [] }
-        ensures free { result ≡ Ok true → key_in_hand pass.new ≡ None }
-        ensures mine { ¬ (result ≡ Ok true) → key_in_hand pass.new ≡ key_in_hand pass.old }
+        ensures follows { Follows key.now progress (known pass.old) (known pass.new) (course_of result) }
+        ensures free { is_over (course_of result) ≡ true → key_in_hand pass.new ≡ None }
+        ensures mine { is_over (course_of result) ≡ false → key_in_hand pass.new ≡ key_in_hand pass.old }
     {
         match progress {
             Progress::GivenUp => {
                 self.give_up(desk, pass, key)?;
-                Ok(true)
+                Ok(Course::Over)
             }
             Progress::Again => {
                 self.signals.stop.rest(self.rt, PAUSE_MILLISECONDS);
-                Ok(false)
+                Ok(Course::GoesOn)
             }
-            Progress::Went | Progress::AtEnd => Ok(false),
+            Progress::Went | Progress::AtEnd => Ok(Course::GoesOn),
+            Progress::CutShort => Ok(Course::CutShort),
         }
     }
 
-    /// Takes the next step of a turn, and returns whether the turn is over, at its end or given up: then its key is given back.
+    /// Takes the next step of a turn, and returns how the turn goes on: where it is over, at its end or given up, its key is given back.
     fn advance(
         &mut self,
         desk: &ControlDesk,
         pass: &mut WorkPass,
         turn: &mut Turn,
         key: &WorkKey,
-    ) -> Result<bool, AllocError>
+    ) -> Result<Course, AllocError>
         requires pass { IsPassAt desk.now pass.old }
         requires mine { key_in_hand pass.old ≡ Some (work_key_of key.now) }
         ensures pass { IsPassAt desk.now pass.new }
-        ensures over { result ≡ Ok true → key_in_hand pass.new ≡ None }
-        ensures mine { ¬ (result ≡ Ok true) → key_in_hand pass.new ≡ key_in_hand pass.old }
-        ensures given_back { result ≡ Ok true → IsOver key.now turn.old (known pass.new).made }
-        ensures ok { IfOk result (Advances turn.old turn.new) }
-        ensures err { OnErr result (turn.new ≡ turn.old) }
+        ensures free { is_over (course_of result) ≡ true → key_in_hand pass.new ≡ None }
+        ensures mine { is_over (course_of result) ≡ false → key_in_hand pass.new ≡ key_in_hand pass.old }
+        ensures advances { Advances L.shows A.answers key.now (in_turn turn.old self.old.listers self.old.api (known pass.old))
+            (in_turn turn.new self.new.listers self.new.api (known pass.new)) (course_of result) }
     {
         if let NextStep::Finish = turn.next() {
             self.finish(desk, pass, turn, key)?;
-            return Ok(true);
+            return Ok(Course::Over);
         }
         let was_planned = is_planned(turn);
         let progress = self.step(desk, pass, turn)?;
@@ -145,7 +146,7 @@ impl<R: Wait + Clock, L: Looking + Drop, A: Api + Drop, G: Gate> Tools<'_, R, L,
         self.go_on(desk, pass, key, progress)
     }
 
-    /// Takes the next step of a turn, and returns whether the turn is over. A step for which memory runs out is to be tried again, after a
+    /// Takes the next step of a turn, and returns how the turn goes on. A step for which memory runs out is to be tried again, after a
     /// pause.
     fn advance_or_rest(
         &mut self,
@@ -153,20 +154,20 @@ impl<R: Wait + Clock, L: Looking + Drop, A: Api + Drop, G: Gate> Tools<'_, R, L,
         pass: &mut WorkPass,
         turn: &mut Turn,
         key: &WorkKey,
-    ) -> bool
+    ) -> Course
         requires pass { IsPassAt desk.now pass.old }
         requires mine { key_in_hand pass.old ≡ Some (work_key_of key.now) }
         ensures pass { IsPassAt desk.now pass.new }
-        ensures over { result ≡ true → key_in_hand pass.new ≡ None }
-        ensures mine { result ≡ false → key_in_hand pass.new ≡ key_in_hand pass.old }
-        ensures given_back { result ≡ true → IsOver key.now turn.old (known pass.new).made }
-        ensures turn { Advances turn.old turn.new result }
+        ensures free { is_over result ≡ true → key_in_hand pass.new ≡ None }
+        ensures mine { is_over result ≡ false → key_in_hand pass.new ≡ key_in_hand pass.old }
+        ensures advances { Advances L.shows A.answers key.now (in_turn turn.old self.old.listers self.old.api (known pass.old))
+            (in_turn turn.new self.new.listers self.new.api (known pass.new)) result }
     {
         match self.advance(desk, pass, turn, key) {
-            Ok(is_over) => is_over,
+            Ok(course) => course,
             Err(_) => {
                 self.signals.stop.rest(self.rt, PAUSE_MILLISECONDS);
-                false
+                Course::GoesOn
             }
         }
     }
@@ -183,17 +184,22 @@ impl<R: Wait + Clock, L: Looking + Drop, A: Api + Drop, G: Gate> Tools<'_, R, L,
         requires pass { IsPassAt desk.now pass.old }
         requires mine { key_in_hand pass.old ≡ Some (work_key_of key.now) }
         ensures pass { IsPassAt desk.now pass.new }
-        ensures over { result ≡ true → key_in_hand pass.new ≡ None }
+        ensures free { result ≡ true → key_in_hand pass.new ≡ None }
         ensures mine { result ≡ false → key_in_hand pass.new ≡ key_in_hand pass.old }
-        ensures end { result ≡ true → IsTakenUntilOver key.now turn (known pass.new).made }
+        ensures over { result ≡ true → IsTakenUntilOver L.shows A.answers key.now (in_turn turn self.old.listers self.old.api (known pass.old))
+            self.new.listers self.new.api (known pass.new) }
+        ensures cut { result ≡ false → IsCutShort L.shows A.answers (in_turn turn self.old.listers self.old.api (known pass.old))
+            self.new.listers self.new.api (known pass.new) }
     {
         let mut turn = turn;
         for _ in self.rt.forever() {
             if self.signals.stop.is_stopped() {
                 return false;
             }
-            if self.advance_or_rest(desk, pass, &mut turn, key) {
-                return true;
+            match self.advance_or_rest(desk, pass, &mut turn, key) {
+                Course::GoesOn => {}
+                Course::Over => return true,
+                Course::CutShort => return false,
             }
         }
         unreachable!()

@@ -28,8 +28,9 @@ pub struct Worker<'a, R, L: Drop, A: Drop, G> {
 }
 
 impl<'a, R: Wait + Clock, L: Looking + Drop, A: Api + Drop, G: Gate> Worker<'a, R, L, A, G> {
-    ghost use Rattle.std.specs.Prelude.{◌≡◌, ◌⊎◌, None, is_some};
-    ghost use Rattle.control_desk.specs.Desks.{IsPassAt, key_in_hand};
+    ghost use Rattle.std.specs.Prelude.{◌≡◌, None, is_some, true, false};
+    ghost use Rattle.control_desk.specs.Desks.{known, IsPassAt, key_in_hand};
+    ghost use Rattle.manager_worker.specs.Working.{at_board, Works, IsLeft, WorksUntilStop};
 
     /// Returns a worker that has no key.
     pub fn new(
@@ -50,7 +51,9 @@ impl<'a, R: Wait + Clock, L: Looking + Drop, A: Api + Drop, G: Gate> Worker<'a, 
 
     /// Takes a key, if one waits and the worker has none, and returns whether it has one.
     fn take(&mut self) -> bool
-        ensures { result ≡ is_some self.new.hand }
+        ensures taken { result ≡ is_some self.new.hand }
+        ensures works { Works L.shows A.answers (at_board self.old.hand self.old.tools.listers self.old.tools.api (known self.old.pass))
+            (at_board self.new.hand self.new.tools.listers self.new.tools.api (known self.new.pass)) }
     {
         if self.hand.is_some() {
             return true;
@@ -66,13 +69,18 @@ impl<'a, R: Wait + Clock, L: Looking + Drop, A: Api + Drop, G: Gate> Worker<'a, 
                 *hand = Some(key);
                 true
             }
-            Ok(None) | Err(_) => false,
+            Ok(None) => false,
+            Err(_) => false,
         }
     }
 
-    /// Takes the turn of the key in its hands, if it has one. The key is in its hands until the turn is over.
-    fn turn(&mut self)
-        ensures { (self.new.hand ≡ self.old.hand) ⊎ (self.new.hand ≡ None) }
+    /// Takes the turn of the key in its hands, if it has one, and returns true; false where all is to stop before the turn is over. The key is in
+    /// its hands until the turn is over.
+    fn turn(&mut self) -> bool
+        ensures over { result ≡ true → Works L.shows A.answers (at_board self.old.hand self.old.tools.listers self.old.tools.api (known self.old.pass))
+            (at_board self.new.hand self.new.tools.listers self.new.tools.api (known self.new.pass)) }
+        ensures left { result ≡ false → IsLeft L.shows A.answers (at_board self.old.hand self.old.tools.listers self.old.tools.api (known self.old.pass))
+            (at_board self.new.hand self.new.tools.listers self.new.tools.api (known self.new.pass)) }
     {
         let Worker {
             desk,
@@ -81,22 +89,27 @@ impl<'a, R: Wait + Clock, L: Looking + Drop, A: Api + Drop, G: Gate> Worker<'a, 
             tools,
         } = self;
         let Some(key) = hand else {
-            return;
+            return true;
         };
         let Ok(copy) = key.try_copy() else {
             tools.signals.stop.rest(tools.rt, PAUSE_MILLISECONDS);
-            return;
+            return true;
         };
         tools.gate.before(key);
         let turn = Turn::begin(tools.alloc, copy);
-        if tools.turn(desk, pass, key, turn) {
-            *hand = None;
-            tools.signals.note_finished();
+        if !tools.turn(desk, pass, key, turn) {
+            return false;
         }
+        *hand = None;
+        tools.signals.note_finished();
+        true
     }
 
     /// Works until all is to stop, once each kind has published its first list. A worker that finds no key sleeps until one comes.
-    pub fn work(&mut self) {
+    pub fn work(&mut self)
+        ensures { WorksUntilStop L.shows A.answers (at_board self.old.hand self.old.tools.listers self.old.tools.api (known self.old.pass))
+            (at_board self.new.hand self.new.tools.listers self.new.tools.api (known self.new.pass)) }
+    {
         if !self.tools.signals.await_lists(self.tools.rt) {
             return;
         }
@@ -105,10 +118,10 @@ impl<'a, R: Wait + Clock, L: Looking + Drop, A: Api + Drop, G: Gate> Worker<'a, 
                 return;
             }
             let seen = self.tools.signals.work_seen();
-            if self.take() {
-                self.turn();
-            } else {
+            if !self.take() {
                 self.tools.signals.await_work(self.tools.rt, seen);
+            } else if !self.turn() {
+                return;
             }
         }
     }

@@ -18,7 +18,7 @@ pub mod showing;
 pub use indexer::{Indexed, Shift};
 pub use owed::keys_of;
 pub use plain::PlainInformer;
-pub use publisher::Publishing;
+pub use publisher::{Publishing, is_list};
 pub use publishing::apply_more;
 pub use reconcile_types::{Command, Entry, Hand, Plan, Seen};
 pub use showing::{object_in, observations};

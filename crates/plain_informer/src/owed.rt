@@ -1,16 +1,15 @@
 //! The work keys that a change owes.
-ghost use Rattle.std.specs.Prelude.{◌≡◌, ◌++◌, IfOk, map, flat_map, option_and_then, option_map};
-ghost use Rattle.spec_api.specs.Metadata.{uid};
+ghost use Rattle.std.specs.Prelude.{◌≡◌, ◌++◌, IfOk, map, flat_map, option_map};
 ghost use Rattle.object_keys.specs.Keys.{key_of};
 ghost use Rattle.spec_client_go.specs.OwnerReferences.{controller_keys, owner_keys};
-ghost use Rattle.spec_client_go.specs.OwedKeys.{keys_of, changed, one_of, own_key, adopters, deployments_of_pod, dependents, sets_to_look, deployments_to_look, items_to_look, itself, dependents_left, is_going};
+ghost use Rattle.spec_client_go.specs.OwedKeys.{keys_of, changed, one_of, own_key, adopters, deployments_of_pod, dependents, sets_to_look, deployments_to_look, items_to_look, itself, dependents_left, dependents_unless, lives_on};
 ghost use Rattle.plain_informer.specs.Owed.{change_of};
 ghost use Rattle.reconcile_types.specs.Hands.{looks_of};
 ghost use Rattle.object_keys.specs.WorkKeys.{work_key_of};
 
 use crate::looking::{adopters, dependents_in};
 use crate::owing::{add_all, in_order};
-use crate::rollouts::{deployments_of_pod, push_all};
+use crate::rollouts::{deployments_of_pod, is_same, push_all};
 use meta::{Kind, Object};
 use object_keys::{Key, PerKind, WorkKey};
 use owner_references::references::{controller_keys, namespace_of, owner_keys};
@@ -178,27 +177,50 @@ fn dependents_of<S: Seen>(
     }
 }
 
-/// Returns whether an object is gone, or is being deleted.
-fn is_going(object: Option<&Object>) -> bool
-    ensures { result ≡ is_going (option_map (λ o. o.now.value) object.entry) }
+/// Returns whether an object with the uid of this one is there, and is not being deleted.
+fn lives_on(new: Option<&Object>, object: &Object) -> bool
+    ensures { result ≡ lives_on (option_map (λ o. o.now.value) new.entry) object.now.value }
 {
-    match object {
-        Some(object) => object.is_being_deleted(),
-        None => true,
+    match new {
+        Some(new) => is_same(object.uid(), new.uid()) && !new.is_being_deleted(),
+        None => false,
     }
 }
 
-/// Returns the uid of an object, if it is there.
-fn uid_in<'a>(object: Option<&'a Object>) -> Option<&'a str>
-    ensures { option_map (λ s. s.now) result ≡ option_and_then uid (option_map (λ o. o.now.value) object.entry) }
+/// Returns the keys of the dependents of an object that is gone, is being deleted, or whose name another has.
+fn dependents_unless<S: Seen>(
+    alloc: Global,
+    new: Option<&Object>,
+    object: &Object,
+    looks: &PerKind<S>,
+) -> Result<Vec<Key>, AllocError>
+    ensures { IfOk result (λ v. map key_of v.items ≡ dependents_unless (looks_of S.snapshot looks.now)
+        (option_map (λ o. o.now.value) new.entry) object.now.value) }
+{
+    if lives_on(new, object) {
+        return Ok(Vec::new(alloc));
+    }
+    dependents_of(alloc, object.uid(), looks)
+}
+
+/// Returns those of an object, if it is there.
+fn dependents_unless_in<S: Seen>(
+    alloc: Global,
+    new: Option<&Object>,
+    object: Option<&Object>,
+    looks: &PerKind<S>,
+) -> Result<Vec<Key>, AllocError>
+    ensures { IfOk result (λ v. map key_of v.items ≡ flat_map
+        (dependents_unless (looks_of S.snapshot looks.now) (option_map (λ o. o.now.value) new.entry))
+        (one_of (option_map (λ o. o.now.value) object.entry))) }
 {
     match object {
-        Some(object) => object.uid(),
-        None => None,
+        Some(object) => dependents_unless(alloc, new, object, looks),
+        None => Ok(Vec::new(alloc)),
     }
 }
 
-/// Returns the keys of the dependents of an object that is gone, or is being deleted.
+/// Returns those of the object as it was, and as it is.
 fn dependents_left<S: Seen>(
     alloc: Global,
     kind: Kind,
@@ -209,10 +231,8 @@ fn dependents_left<S: Seen>(
     ensures { IfOk result (λ v. map key_of v.items ≡ dependents_left (looks_of S.snapshot looks.now)
         (change_of kind old.entry new.entry)) }
 {
-    if is_going(new) {
-        return dependents_of(alloc, uid_in(new.or(old)), looks);
-    }
-    Ok(Vec::new(alloc))
+    let before = dependents_unless_in(alloc, new, old, looks)?;
+    joined(before, dependents_unless_in(alloc, new, new, looks)?)
 }
 
 /// Returns the keys of the objects that the collector is to look at.

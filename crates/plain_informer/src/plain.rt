@@ -1,4 +1,5 @@
 //! An informer with one map.
+use crate::publisher::has_list;
 use crate::publishing::publish_all;
 use indexer::{Indexed, Shift};
 use reflector::Delta;
@@ -31,7 +32,7 @@ impl PlainInformer {
     ghost use Rattle.spec_client_go.specs.Shifts.{all_shifts};
     ghost use Rattle.reflector.specs.Deltas.{delta_of, deltas_of};
     ghost use Rattle.indexer.specs.Shifted.{shift_of};
-    ghost use Rattle.plain_informer.specs.Appended.{all_appended};
+    ghost use Rattle.plain_informer.specs.Appended.{all_appended, has_list};
 
     /// Returns an informer that has published nothing yet: an empty map at revision 0.
     pub fn new(alloc: Global) -> PlainInformer
@@ -68,6 +69,13 @@ impl PlainInformer {
         ensures { result ≡ length self.now.pending }
     {
         self.waiting.len()
+    }
+
+    /// Returns whether a whole list is among the deltas that wait for the next publish. It takes no memory.
+    pub fn has_list(&self) -> bool
+        ensures { result ≡ has_list self.now.pending }
+    {
+        has_list(self.waiting.as_slice())
     }
 
     /// Publishes the deltas that wait, all of them, and returns what they change, delta by delta. The error is running out of

@@ -3,13 +3,35 @@ ghost use Rattle.std.specs.Prelude.{◌≡◌, IfOk, OnOk, OnErr, length, map};
 ghost use Rattle.spec_client_go.specs.Informers.{Informer, appended, after_publish};
 ghost use Rattle.spec_client_go.specs.Shifts.{all_shifts};
 ghost use Rattle.indexer.specs.Shifted.{shift_of};
-ghost use Rattle.plain_informer.specs.Appended.{all_appended};
+ghost use Rattle.plain_informer.specs.Appended.{all_appended, is_list, has_list};
 ghost use Rattle.reflector.specs.Deltas.{delta_of, deltas_of};
 
 use crate::plain::PlainInformer;
 use indexer::{Indexed, Shift};
 use reflector::Delta;
 use std::alloc::AllocError;
+
+/// Returns whether a delta puts a whole list in the place of all that was there.
+pub fn is_list(delta: &Delta) -> bool
+    ensures { result ≡ is_list (delta_of delta.now) }
+{
+    match delta {
+        Delta::Replace(_, _) => true,
+        Delta::Put(_) | Delta::Remove(_, _) | Delta::Mark(_) => false,
+    }
+}
+
+/// Returns whether a whole list is among deltas.
+pub(crate) fn has_list(deltas: &[Delta]) -> bool
+    ensures { result ≡ has_list (deltas_of deltas.now) }
+{
+    for delta in deltas {
+        if is_list(delta) {
+            return true;
+        }
+    }
+    false
+}
 
 /// A map of objects that is published, and the deltas that wait to be.
 pub trait Publishing {
@@ -29,6 +51,10 @@ pub trait Publishing {
     /// Returns how many deltas wait for the next publish.
     fn waiting(&self) -> usize
         ensures { result ≡ length (informer_of self.now).pending };
+
+    /// Returns whether a whole list is among the deltas that wait for the next publish. It takes no memory.
+    fn has_list(&self) -> bool
+        ensures { result ≡ has_list (informer_of self.now).pending };
 
     /// Publishes the deltas that wait, all of them, and returns what they change, delta by delta. The error is running out of
     /// memory: none is published, and all wait.
@@ -58,6 +84,10 @@ impl Publishing for PlainInformer {
 
     fn waiting(&self) -> usize {
         self.waiting()
+    }
+
+    fn has_list(&self) -> bool {
+        self.has_list()
     }
 
     fn publish(&mut self) -> Result<Vec<Shift>, AllocError> {

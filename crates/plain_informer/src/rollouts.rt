@@ -16,7 +16,7 @@ use reconcile_types::Seen;
 use std::alloc::{AllocError, Global};
 
 /// Returns whether both uids are there, and are the same.
-fn is_same(uid: Option<&str>, found: Option<&str>) -> bool
+pub fn is_same(uid: Option<&str>, found: Option<&str>) -> bool
     ensures { result ≡ is_some_and (λ t. is_text t (option_map (λ s. s.now) found.entry)) (option_map (λ s. s.now) uid.entry) }
 {
     match uid {

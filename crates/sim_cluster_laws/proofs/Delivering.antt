@@ -22,7 +22,7 @@ use Rattle.sim_cluster_laws.proofs.Feeding.{same_kind, end_clears}
 use Rattle.sim_cluster_laws.proofs.Leading.{Ends, lead_to, further_leads}
 
 module _ (k : Kind) (h : History) (reached : IsReached h) where
-  sendable : (s : Reflector) (l : Link) → (was : IsOpen h k s l) → IsSent h k was.from l.stands was.lines
+  pub sendable : (s : Reflector) (l : Link) → (was : IsOpen h k s l) → IsSent h k was.from l.stands was.lines
   sendable s l was =
       let few : present h ≤ 9007199254740991 = (limited h reached).1 in
       record {

@@ -105,7 +105,7 @@ module _ (h : History) (k : Kind) (a b : ℕ) (ls : List Line) (sent : IsSent h 
 
 -- ---- the frames of a stream of initial events
 
-objects_are : (k : Kind) (a : ℕ) (ms : Entries) → AllByRecursion (IsOf k a) ms → objects_of ms ≡ objects_in k ms
+pub objects_are : (k : Kind) (a : ℕ) (ms : Entries) → AllByRecursion (IsOf k a) ms → objects_of ms ≡ objects_in k ms
 objects_are k a [] h = refl
 objects_are k a (m ∷ ms) h = ap (λ z. record { kind = z; value = m.1 } ∷ objects_of ms) (sym h.0.0) ∙ ap (λ os. record { kind = k; value = m.1 } ∷ os) (objects_are k a ms h.1)
 
@@ -119,13 +119,13 @@ closing_leads h k r a i ds happened low top is more =
     (low, top, there, subst (λ m. Leads h k m ds) (sym there) more)
 
 module _ (h : History) (k : Kind) (r a b : ℕ) (ls : List Line) (happened : IsReached h) (sent : IsSent h k a b ls) (top : b ≤ present h) (low : r ≤ a) where
-  abbrev ms : Entries
+  abbrev pub ms : Entries
   ms = list h (whole k) a
 
-  abbrev all : List Line
+  abbrev pub all : List Line
   all = opening_lines true a ms ++ ls
 
-  played : (es later : List Frame) → es ++ later ≡ map (frame_of k) all → Plays k a r ms ms ls es later (open_run k r none_yet es)
+  pub played : (es later : List Frame) → es ++ later ≡ map (frame_of k) all → Plays k a r ms ms ls es later (open_run k r none_yet es)
   played es later e =
       let few : present h ≤ 9007199254740991 = (limited h happened).1 in
       plays k a r ms [] none_yet es later ls (all_listed h k a happened) (list_ascending h (whole k) a) refl (omega arith) (omega (arith, sent.forward, top, few))
@@ -147,10 +147,10 @@ module _ (h : History) (k : Kind) (r a b : ℕ) (ls : List Line) (happened : IsR
 -- ---- the bytes of a link
 
 -- a reflector at the beginning of a link, by its parts
-watches_by : (s : Reflector) (a : ℕ) → IsAt s a → at_place s.is_streaming s.kind (record { phase = Watching; revision = a; initial = s.initial }) [] ≡ s
+pub watches_by : (s : Reflector) (a : ℕ) → IsAt s a → at_place s.is_streaming s.kind (record { phase = Watching; revision = a; initial = s.initial }) [] ≡ s
 watches_by s a at = λ i. record { kind = s.kind; revision = sym at.revision i; phase = sym at.watches i; buffered = sym at.holds i; is_streaming = s.is_streaming; initial = s.initial }
 
-streams_by : (s : Reflector) → IsAtStart s → at_place s.is_streaming s.kind (record { phase = Streaming; revision = s.revision; initial = none_yet }) [] ≡ s
+pub streams_by : (s : Reflector) → IsAtStart s → at_place s.is_streaming s.kind (record { phase = Streaming; revision = s.revision; initial = none_yet }) [] ≡ s
 streams_by s at = λ i. record { kind = s.kind; revision = s.revision; phase = sym at.streams i; buffered = sym at.holds i; is_streaming = s.is_streaming; initial = sym at.initial i }
 
 module _ (h : History) (k : Kind) (a b : ℕ) (start : Reflector) (opening ls : List Line) (o : Option Refusal) (happened : IsReached h) (kind : start.kind ≡ k) (begins : Begins h k a start opening)
@@ -168,10 +168,10 @@ module _ (h : History) (k : Kind) (a b : ℕ) (start : Reflector) (opening ls : 
       (subst (λ n. Leads h k (list_at h k start.revision) (open_run n start.revision none_yet (reading bytes).events).run.deltas) (sym kind)
       (stream_leads h k start.revision a b ls happened sent top low (reading bytes).events o es))
 
-  bytes_lead : (bytes more : List ℕ) → bytes ++ more ≡ text_of_lines k (opening ++ ls) ++ refusal_text o → GivesLeads bytes start
+  pub bytes_lead : (bytes more : List ℕ) → bytes ++ more ≡ text_of_lines k (opening ++ ls) ++ refusal_text o → GivesLeads bytes start
   bytes_lead bytes more e = leads_as bytes opening begins (begun_frames k (opening ++ ls) o bytes more back refusal e)
 
-  low_start : (opening : List Line) → Begins h k a start opening → start.revision ≤ present h
+  pub low_start : (opening : List Line) → Begins h k a start opening → start.revision ≤ present h
   low_start opening (watching at) = omega (arith, at.revision, sent.forward, top)
   low_start opening (streaming at low) = omega (arith, low, sent.forward, top)
 

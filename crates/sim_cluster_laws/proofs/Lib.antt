@@ -6,6 +6,9 @@ pub mod Growing
 pub mod Leading
 pub mod LeadMoves
 pub mod LeadRuns
+pub mod Passing
+pub mod PassMoves
+pub mod PassRuns
 mod Moving
 pub mod OpeningsRead
 mod RefusalsRead

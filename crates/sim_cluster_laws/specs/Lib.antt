@@ -1,5 +1,6 @@
 pub mod FollowerLaws
 pub mod ClusterLaws
 pub mod LeadLaws
+pub mod PassLaws
 pub mod ServedStreamLaws
 pub mod StreamingLaws

@@ -7,5 +7,6 @@
 pub mod cluster_laws;
 pub mod follower_laws;
 pub mod lead_laws;
+pub mod pass_laws;
 pub mod served_stream_laws;
 pub mod streaming_laws;

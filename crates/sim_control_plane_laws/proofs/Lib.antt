@@ -2,7 +2,7 @@ pub mod Asking
 pub mod PlaneRuns
 pub mod Replacing
 pub mod Rising
-mod StoredLists
+pub mod StoredLists
 pub mod Asked
 pub mod Collected
 pub mod CutAnswers

@@ -44,7 +44,7 @@ mod Remembering
 mod Recalled
 mod Forgetting
 mod StoredPods
-mod Strangers
+pub mod Strangers
 mod KeptPods
 mod OwnPods
 mod Matching

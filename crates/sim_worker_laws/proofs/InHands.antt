@@ -72,7 +72,7 @@ is_there zero h (None ∷ os) e = cc
 is_there zero h (Some g ∷ os) e = let is : g ≡ h = cc in ap (λ (x : Turn). same h.work_key x.work_key || is_in_hands h.work_key os) is ∙ ap (λ b. b || is_in_hands h.work_key os) (same_laws.refl h.work_key)
 is_there (suc w) h (o ∷ os) e = ap (λ b. is_of h.work_key o || b) (is_there w h os e) ∙ or_true (is_of h.work_key o)
 
-fewer : (w : ℕ) (os : List (Option Turn)) (q : WorkKey) → is_in_hands q os ≡ false → is_in_hands q (slice_set os w None) ≡ false
+pub fewer : (w : ℕ) (os : List (Option Turn)) (q : WorkKey) → is_in_hands q os ≡ false → is_in_hands q (slice_set os w None) ≡ false
 fewer w [] q e = e
 fewer zero (o ∷ os) q e = second_false (is_of q o) (is_in_hands q os) e
 fewer (suc w) (o ∷ os) q e =

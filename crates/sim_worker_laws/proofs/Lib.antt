@@ -1,11 +1,11 @@
 pub mod Acting
 mod Actions
 pub mod Counting
-mod Dirty
+pub mod Dirty
 pub mod Following
 pub mod Growing
 pub mod HandRuns
-mod InHands
+pub mod InHands
 pub mod IssuedRuns
 pub mod Lists
 pub mod LookRuns

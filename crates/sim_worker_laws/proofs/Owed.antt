@@ -81,7 +81,7 @@ module _ (j : WorkKey) where
   dirty_step : (p : ControlPlane) (s : Step) → NoRestart (s ∷ []) → is_dirty j p ≡ true → (is_dirty j (step p s).plane || tells_taken j (step p s).outcome) ≡ true
   dirty_step p s n d = by_counted IsWanted (step_in p s) (dirty_in p s n d)
 
-  dirty_run : (p : ControlPlane) (ss : List Step) → NoRestart ss → is_dirty j p ≡ true → (is_dirty j (run p ss) || was_taken j p ss) ≡ true
+  pub dirty_run : (p : ControlPlane) (ss : List Step) → NoRestart ss → is_dirty j p ≡ true → (is_dirty j (run p ss) || was_taken j p ss) ≡ true
   dirty_run p [] n d = or_false (is_dirty j p) d
   dirty_run p (s ∷ ss) n d =
       let two = first_of_none s ss n in by (is_dirty j (step p s).plane) (tells_taken j (step p s).outcome) refl (dirty_step p s two.0 d) (dirty_run (step p s).plane ss two.1)

@@ -142,6 +142,13 @@ DeletionsAreOwed =
     ≡ owed controller.ReplicaSet ReplicaSet (codes "web") ∷ owed controller.Deployment Deployment (codes "front") ∷ owed controller.Collector Pod (codes "p")
     ∷ owed controller.Collector ReplicaSet (codes "web") ∷ owed controller.Collector Deployment (codes "front") ∷ []
 
+-- one whose name another has owes them as one that is gone does
+abbrev pub ReplacedOwnersOwe : Type 0
+ReplacedOwnersOwe =
+    keys_of (of_set (Some web) (Some (web_with (codes "u-new") (codes "web") no_members))) one_pod
+    ≡ owed controller.ReplicaSet ReplicaSet (codes "web") ∷ owed controller.Deployment Deployment (codes "front") ∷ owed controller.Collector Pod (codes "p")
+    ∷ owed controller.Collector ReplicaSet (codes "web") ∷ owed controller.Collector Deployment (codes "front") ∷ []
+
 -- one that lives on does not owe its dependents
 abbrev pub LiveOwnersOweNone : Type 0
 LiveOwnersOweNone =

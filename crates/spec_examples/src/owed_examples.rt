@@ -1,5 +1,5 @@
 //! Worked facts of what a change owes, which the checker computes from the definitions.
-ghost use Rattle.spec_examples.specs.OwedExamples.{ControllersAreOwed, AdoptersAreOwed, OwnersAreOwed, BothAreOwed, DeploymentsAreOwed, DependentsAreOwed, DeletionsAreOwed, LiveOwnersOweNone};
+ghost use Rattle.spec_examples.specs.OwedExamples.{ControllersAreOwed, AdoptersAreOwed, OwnersAreOwed, BothAreOwed, DeploymentsAreOwed, DependentsAreOwed, DeletionsAreOwed, ReplacedOwnersOwe, LiveOwnersOweNone};
 
 /// Which keys a Pod owes that is new, or has another controller than before.
 pub fn pods_owe_their_sets()
@@ -24,6 +24,8 @@ pub fn sets_owe_their_pods()
     ensures gone { DependentsAreOwed }
     // One that is being deleted owes itself too.
     ensures being_deleted { DeletionsAreOwed }
+    // One whose name another has owes them as one that is gone does.
+    ensures replaced { ReplacedOwnersOwe }
     // One that lives on does not owe its dependents.
     ensures live { LiveOwnersOweNone }
 {}

@@ -1,5 +1,6 @@
 -- The commands of the Deployment controller can be asked.
 use Rattle.std.proofs.Common.{◌≡◌, ◌<◌, ◌≤◌, ◌+◌, ◌-◌, ◌^◌, ◌==◌, ◌&&◌, ℕ, List, [], ◌∷◌, ◌++◌, length, map, min, Bool, true, false, not, cond, Option, Some, None, IfSome, nat_lt, nat_le, codes, decimal, bytes_eq, option_and_then, refl, arith, rules}
+use Rattle.std.proofs.Math.Nat.{min-le_left}
 use Rattle.std.proofs.lemmas.Bool.{ltb-true, ltb-false}
 use Rattle.std.proofs.lemmas.Bool.Decides.{nat_tests}
 use Rattle.std.proofs.lemmas.Str.{IsUtf8-from_ascii, IsUtf8-append, IsAscii-take}
@@ -38,7 +39,7 @@ use Rattle.spec_reconcile.specs.Counts.{count_in_spec, count_in_status, replicas
 use Rattle.spec_reconcile.specs.Deployments.{Rollout, age_cmp, asked_by, clean_up, count_collision, counted, delete_set, due, first_of, forget, go_on, has_its_template, has_running_pods, hash_of, is_going_on, is_managed_by, is_name_taken, is_complete, make, managed, pace_of, plan_for, plan_of, recreate, renew, renew_whole, report, roll, roll_with, rollout, scale, scale_each, sets_of, summary, tally, with_replicas, with_summary, without_first}
 use Rattle.spec_reconcile.specs.MetadataEdits.{controller_reference}
 use Rattle.spec_reconcile.specs.NewPods.{template}
-use Rattle.spec_reconcile.specs.Revisions.{revision_annotation, is_revision, revision_said, revision, greatest, annotated, with_revision, raised}
+use Rattle.spec_reconcile.specs.Revisions.{revision_annotation, is_revision, revision_said, revision, greatest, greatest_revision, annotated, with_revision, raised}
 use Rattle.spec_reconcile.specs.Rollouts.{asked, growth, most, resized, shrunk}
 use Rattle.spec_reconcile.specs.Statuses.{status, with_status}
 use Rattle.spec_reconcile.specs.Templates.{collision_digits, template_hash, hash_label, selector, with_hash, labelled, selecting, set_name, new_set_metadata, new_set_spec}
@@ -206,7 +207,7 @@ object_parsed spec meta b c =
 
 module _ (r : Rollout) (valid : is_subdomain r.key.name ≡ true) (space : is_namespace r.key.namespace ≡ true) (p : IsParsed r.deployment) where
   due_low : due r < 2 ^ 64
-  due_low = let g = greatest_low r.old in omega arith
+  due_low = let g = greatest_low r.old in let least = min-le_left (greatest (map (λ (s : Key × Data). revision s.1) r.old) + 1) greatest_revision in omega arith
 
   made_asked : (n : ℕ) → n < 2 ^ 64 → AllCanBeAsked (make r n)
   made_asked n low =

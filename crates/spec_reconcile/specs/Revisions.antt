@@ -1,5 +1,5 @@
 -- The revisions of a Deployment: which of them a ReplicaSet is, as its annotation says (Kubernetes, Deployments, Checking Rollout History of a Deployment).
-use Rattle.std.specs.Prelude.{ℕ, ◌+◌, ◌&&◌, max, nat_lt, nat_le, length, List, [], ◌∷◌, Bool, codes, decimal, option_and_then, if◌then◌else◌}
+use Rattle.std.specs.Prelude.{ℕ, ◌+◌, ◌&&◌, max, min, nat_lt, nat_le, length, List, [], ◌∷◌, Bool, codes, decimal, option_and_then, if◌then◌else◌}
 use Rattle.std.specs.List.{list_all}
 use Rattle.std.specs.Str.Parse.{digits_value}
 use Rattle.serde_json.specs.Data.{Data, Members as Fields, object, string, put}
@@ -27,9 +27,13 @@ abbrev pub greatest : List ℕ → ℕ
 greatest [] = 0
 greatest (n ∷ ns) = max n (greatest ns)
 
--- the revision after all of these
+-- the greatest number of 18 digits: one above it would be read as 0 once it is written
+abbrev pub greatest_revision : ℕ
+greatest_revision = 999999999999999999
+
+-- the revision after all of these, as far as revisions go
 abbrev pub next_revision : List ℕ → ℕ
-next_revision ns = greatest ns + 1
+next_revision ns = min (greatest ns + 1) greatest_revision
 
 -- annotations that say a revision
 abbrev pub annotated : ℕ → Fields → Fields

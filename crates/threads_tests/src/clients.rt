@@ -7,6 +7,7 @@ use crate::servers::SharedServer;
 use api_client::Api;
 use desk::StorePass;
 use http_client::Answer;
+use lifecycle::DeleteOptions;
 use object_keys::Key;
 use request_parts::Request;
 use serde_json::Value;
@@ -86,6 +87,19 @@ impl<'a, R: Wait + Clock> Client<'a, R> {
             return false;
         };
         self.ask(&Request::Patch(key, body)).is_some()
+    }
+
+    /// Deletes an object, and returns whether it was deleted.
+    pub fn delete(&mut self, kind: Kind, name: &str) -> bool {
+        let Ok(key) = key(self.alloc, kind, name) else {
+            return false;
+        };
+        let options = DeleteOptions {
+            uid: None,
+            version: None,
+            policy: None,
+        };
+        self.ask(&Request::Delete(key, options)).is_some()
     }
 
     /// Returns the object of a name, if it is there.

@@ -3,11 +3,12 @@ ghost use Rattle.std.specs.Prelude.{◌≡◌, ◌<◌, All, IfOk, length};
 ghost use Rattle.desk.specs.Desks.{IsNewAt};
 
 use crate::scenes::Scene;
-use desk::{Anything, Desk, StorePass};
+use desk::{Desk, Readable, StorePass};
 use http_client::Answer;
 use http_client::statuses::CONFLICT;
 use manager::Signals;
 use request_parts::Request;
+use spec_api::kinds::Kind;
 use std::alloc::{AllocError, Global};
 use std::sync::atomic::{AtomicU64, Ordering};
 use wakeups::Bell;
@@ -20,13 +21,15 @@ const WINDOW: usize = 1024;
 #[derive(Drop)]
 pub struct Environment {
     /// The server, which threads share.
-    pub desk: Desk<Anything>,
+    pub desk: Desk<Readable>,
     /// What tells the threads to stop.
     pub signals: Signals,
     /// Rings at each write.
     pub bell: Bell,
     /// 1 while watches are paused.
     paused: AtomicU64,
+    /// 1 while watches of ConfigMaps give no events; 2 once they are lost.
+    config_maps: AtomicU64,
     update_conflicts: AtomicU64,
     delete_conflicts: AtomicU64,
 }
@@ -38,12 +41,13 @@ impl Environment {
         ensures passes { IfOk result (λ r. All (IsNewAt r.0.desk) r.1.items) }
         ensures count { IfOk result (λ r. length r.1.items ≡ count) }
     {
-        let (desk, passes) = Desk::<Anything>::open(alloc, WINDOW, count)?;
+        let (desk, passes) = Desk::<Readable>::open(alloc, WINDOW, count)?;
         let environment = Environment {
             desk,
             signals: Signals::new(None),
             bell: Bell::new(),
             paused: AtomicU64::new(0),
+            config_maps: AtomicU64::new(0),
             update_conflicts: AtomicU64::new(0),
             delete_conflicts: AtomicU64::new(0),
         };
@@ -90,6 +94,37 @@ impl Environment {
     /// Returns whether the watches are paused.
     pub fn are_watches_paused(&self) -> bool {
         self.paused.load(Ordering::SeqCst) == 1
+    }
+
+    /// Has watches of ConfigMaps give no events.
+    pub fn hold_config_maps(&self) {
+        self.config_maps.store(1, Ordering::SeqCst);
+    }
+
+    /// Cuts the watches of ConfigMaps, and has the next one be refused as expired. Those after it are as ever.
+    pub fn lose_config_maps(&self) {
+        self.config_maps.store(2, Ordering::SeqCst);
+        self.bell.ring();
+    }
+
+    /// Returns whether watches of a kind give no events.
+    pub fn are_watches_held(&self, kind: Kind) -> bool {
+        self.are_watches_paused()
+            || kind == Kind::ConfigMap && self.config_maps.load(Ordering::SeqCst) == 1
+    }
+
+    /// Returns whether watches of a kind are lost.
+    pub fn are_watches_lost(&self, kind: Kind) -> bool {
+        kind == Kind::ConfigMap && self.config_maps.load(Ordering::SeqCst) == 2
+    }
+
+    /// Returns whether a watch of a kind is refused as expired, once where they are lost.
+    pub fn is_expired(&self, kind: Kind) -> bool {
+        let is_lost = self.are_watches_lost(kind);
+        if is_lost {
+            self.config_maps.store(0, Ordering::SeqCst);
+        }
+        is_lost
     }
 
     /// Counts the answer to a request, if it is a conflict of an update or of a delete.

@@ -41,6 +41,10 @@ mod scenes;
 #[cfg(test)]
 mod servers;
 #[cfg(test)]
+mod vanishing;
+#[cfg(test)]
+mod vanishing_tests;
+#[cfg(test)]
 mod waiting;
 #[cfg(test)]
 mod watches;

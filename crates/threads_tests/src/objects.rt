@@ -24,3 +24,11 @@ pub fn owned(alloc: Global, name: &str, owners: &str) -> Result<String, AllocErr
         name, owners
     )
 }
+
+/// Returns the text of a pod with references to owners, which a comma stands between.
+pub fn owned_pod(alloc: Global, name: &str, owners: &str) -> Result<String, AllocError> {
+    format!(in alloc;
+        "{{\"metadata\":{{\"name\":\"{}\",\"ownerReferences\":[{}]}},\"spec\":{{}}}}",
+        name, owners
+    )
+}

@@ -8,7 +8,7 @@ use crate::scenes::Scene;
 use crate::watches::Watch;
 use api::Site;
 use api_client::{Api, Opened};
-use desk::{Anything, Seat, StorePass};
+use desk::{Readable, Seat, StorePass};
 use http_client::{Answer, More};
 use http_watch::WatchSource;
 use kcp_loopback::answer_of;
@@ -39,7 +39,7 @@ const PAUSE_MILLISECONDS: u64 = 20;
 pub struct SharedServer<'a, R> {
     rt: &'a R,
     alloc: Global,
-    seat: Seat<'a, Anything, BellRinger<'a>, R>,
+    seat: Seat<'a, Readable, BellRinger<'a>, R>,
     environment: &'a Environment,
     stop: &'a Stop,
     watch: Watch,
@@ -115,7 +115,7 @@ impl<'a, R: Wait + Clock> SharedServer<'a, R> {
 
     /// Takes in what the watch is given next, unless watches are paused, and waits for a write past those that were seen where that is nothing.
     fn look(&mut self, seen: u64) -> Result<(), Fault> {
-        if !self.environment.are_watches_paused() {
+        if !self.environment.are_watches_held(self.watch.kind) {
             let view = View::unfiltered(self.alloc, self.watch.kind, None);
             let after = self.watch.after;
             let watched = match self.seat.watch_from(self.alloc, &view, after, MOST_EVENTS) {
@@ -151,6 +151,9 @@ impl<R: Wait + Clock> Api for SharedServer<'_, R> {
     }
 
     fn open_watch(&mut self, alloc: Global, kind: Kind, revision: u64) -> Opened {
+        if self.environment.is_expired(kind) {
+            return Opened::Expired;
+        }
         let view = View::unfiltered(alloc, kind, None);
         match self.seat.watch_from(alloc, &view, revision, 0) {
             Ok(_) => {
@@ -179,7 +182,8 @@ impl<R: Wait + Clock> Api for SharedServer<'_, R> {
     fn more(&mut self, buf: &mut [u8]) -> More {
         for _ in self.rt.forever() {
             let seen = self.environment.bell.count();
-            if buf.is_empty() || self.stop.is_stopped() {
+            let is_lost = self.environment.are_watches_lost(self.watch.kind);
+            if buf.is_empty() || is_lost || self.stop.is_stopped() {
                 return More::Cut;
             }
             let count = self.watch.read(buf);

@@ -1,7 +1,7 @@
 //! What is written of what is published.
 ghost use Rattle.std.specs.Prelude.{⊤};
 
-use list_and_watch::{Indexed, Onward, Shift, Sink};
+use list_and_watch::{Cause, Indexed, Onward, Shift, Sink};
 use meta::Object;
 use object_keys::Key;
 use reconcile_types::Entry;
@@ -129,14 +129,14 @@ impl<W: Write> Printer<W> {
 }
 
 impl<W: Write> Sink for Printer<W> {
-    ghost takes = { λ before changes objects is_first after. ⊤ };
+    ghost takes = { λ before changes objects cause after. ⊤ };
 
     /// Writes the publish. Where memory runs out nothing was written.
     fn changed(
         &mut self,
         shifts: &[Shift],
         objects: &Indexed,
-        _is_first: bool,
+        _cause: Cause,
     ) -> Result<(), AllocError> {
         let last = self.last_entries(objects)?;
         match self.write_changed(shifts, objects, &last) {

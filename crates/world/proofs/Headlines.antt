@@ -24,6 +24,7 @@ use Rattle.world.specs.Taken.{opening, plane, followed_by_all}
 use Rattle.sim_cluster.specs.Standing as stored
 use Rattle.sim_cluster.specs.declared.stopped.Stopped.{Stopped}
 use Rattle.sim_cluster.proofs.Headlines.{shown}
+use Rattle.world.proofs.AtRest.{rests}
 use Rattle.world.proofs.PlaneHeadlines.{replaces, forgets, rises, takes, spares, overshoots}
 use Rattle.world.proofs.Stood.{stood, run_stood, run_traced}
 use Rattle.world.specs.Headline.{Headline, TurnsAreUnderWay}
@@ -108,6 +109,7 @@ headline w is =
       takes = takes w.trace;
       spares = spares w.trace;
       few = overshoots w.trace;
+      rests = rests w.trace;
     }
 
 -- ---- after a step that was taken, or changed nothing

@@ -1,4 +1,5 @@
 mod Asked
+mod AtRest
 mod Headlines
 mod PlaneHeadlines
 mod Reaching

@@ -30,6 +30,7 @@ use Rattle.sim_control_plane_laws.specs.PlaneLaws.{IsServerList}
 use Rattle.sim_control_plane_laws.specs.SparingLaws as collector
 use Rattle.sim_control_plane_laws.specs.SparingLaws.{IsOfTheCollector}
 use Rattle.sim_overshoot_laws.specs.Overshoot.{LetAlone, NeverMoreThanDeclared}
+use Rattle.world.specs.Rests.{RestsAsDeclared}
 use Rattle.world.specs.Taken.{Taken, opening, plane}
 use Rattle.sim_cluster.specs.Headline.{ShowsLists}
 use Rattle.world.specs.Standing.{StandsFor}
@@ -152,3 +153,5 @@ pub record Headline (w : WorldState) : Type 0 where
   pub spares : SparesLiveOwners w.trace
   -- of the pods that were made for a set that is let alone never more are active than the greatest number of replicas that it had
   pub few : NeverOvershoots w.trace
+  -- where nothing is left to do, what is declared is there
+  pub rests : RestsAsDeclared w.trace

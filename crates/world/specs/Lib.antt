@@ -3,6 +3,7 @@ pub mod StoredStanding
 pub mod WorldStates
 pub mod Standing
 pub mod Headline
+pub mod Rests
 pub mod Outcomes
 pub mod Taken
 pub mod Codes

@@ -7,6 +7,7 @@ ghost use Rattle.object_keys.specs.WorkKeys.{work_key_of};
 ghost use Rattle.world.specs.StoredStates.{owed};
 
 use crate::outcomes::Outcome;
+use indexer::Indexed;
 use line_session::JournalEntry;
 use object_keys::WorkKey;
 use plain_informer::{keys_of, object_in, observations};
@@ -70,7 +71,7 @@ fn owed(alloc: Global, cluster: &Cluster, change: &Notification) -> Result<Vec<W
 impl StoredWorld {
     ghost use Rattle.std.specs.Prelude.{◌≡◌, IfOk, OnOk, OnErr, map};
     ghost use Rattle.std.specs.Arc.{arc_value};
-    ghost use Rattle.sim_cluster.specs.ClusterStates.{follower};
+    ghost use Rattle.sim_cluster.specs.ClusterStates.{follower, published};
     ghost use Rattle.sim_manager.specs.Reached.{client_of};
     ghost use Rattle.spec_sim.specs.Managers.{act};
     ghost use Rattle.sim_steps.specs.Actions.{action_of};
@@ -178,6 +179,13 @@ impl StoredWorld {
         ensures { map (λ i. issued_of (arc_value i)) result.now ≡ self.now.manager.issued }
     {
         self.manager.issued()
+    }
+
+    /// Returns what is published of a kind.
+    pub(crate) fn published(&self, kind: Kind) -> &Indexed
+        ensures { result.now ≡ published kind self.now.cluster }
+    {
+        self.cluster.published(kind)
     }
 
     /// Returns the journal of all that has happened.

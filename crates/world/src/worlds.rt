@@ -2,10 +2,12 @@
 use crate::outcomes::Outcome;
 use crate::stored_worlds::StoredWorld;
 use crate::traces::Trace;
+use indexer::Indexed;
 use line_session::JournalEntry;
 use sim_cluster::Stopped;
 use sim_steps::{Config, PlaneStep};
 use sim_worker_slots::{Issued, Slots};
+use spec_api::kinds::Kind;
 use std::alloc::{AllocError, Global};
 use std::marker::Model;
 use std::sync::Arc;
@@ -42,6 +44,7 @@ impl Model for World {
 impl World {
     ghost use Rattle.std.specs.Prelude.{◌≡◌, ◌<◌, IfOk, IfErr, OnOk, OnErr, length, map, take};
     ghost use Rattle.std.specs.Arc.{arc_value};
+    ghost use Rattle.sim_cluster.specs.ClusterStates.{published};
     ghost use Rattle.spec_sim.specs.ControlPlanes as planes;
     ghost use Rattle.line_session.specs.Entries.{entry_of};
     ghost use Rattle.sim_steps.specs.PlaneSteps.{plane_step_of};
@@ -83,8 +86,10 @@ impl World {
     /// of its plan for what its worker then had in hand: looks that were published since the last restart, and live reads of what was
     /// there. Each write that names a version replaced exactly that version. Each published change is, until a restart, still to be
     /// handled, or each key that it owed then is still to be processed, or was taken after that. What a delete of the garbage
-    /// collector marked or removed named owners, none of which was there and not being deleted. And a ReplicaSet that is let alone never has
-    /// more active ones of the pods that were made for it than it was ever to have.
+    /// collector marked or removed named owners, none of which was there and not being deleted. A ReplicaSet that is let alone never has
+    /// more active ones of the pods that were made for it than it was ever to have. And where nothing is left to do, no kind was listed twice
+    /// since the start and owner references name what they mean, what is declared is there: the plans of the controllers, of what is
+    /// there, are empty.
     ///
     /// `after` and `traced` say what becomes of the world and of the steps taken, and `stands` in `headline` what they have to do with
     /// one another: the other clauses are about the control plane after these steps.
@@ -146,6 +151,16 @@ impl World {
     {
         let _stored = &self.stored;
         self.stored.issued()
+    }
+
+    /// Returns what the informer of a kind has published: the objects, and the revision at which they are the server's list; before the first
+    /// publish none, and 0. It takes no memory.
+    pub fn published(&self, kind: Kind) -> &Indexed
+        ensures published { result.now ≡ published kind self.now.stored.cluster }
+        ensures headline { Headline self.now }
+    {
+        let _stored = &self.stored;
+        self.stored.published(kind)
     }
 
     /// Returns the journal of all that has happened since the world was opened: the writes and the compactions, the oldest first. It takes

@@ -12,9 +12,9 @@ use Rattle.wakeups.proofs.bell.Bell.TheSendSync as bell
 use Rattle.wakeups.specs.contracts.bell.Bell as Bell
 use Rattle.wakeups.proofs.stop.Stop.TheSendSync as stop
 use Rattle.wakeups.specs.contracts.stop.Stop as Stop
-use Rattle.desk.proofs.Sent.{desk, pass_field}
-use Rattle.desk.specs.contracts.askings.Anything as Anything
-use Rattle.desk.specs.contracts.askings.AnythingAsking.TheImpl as asks
+use Rattle.desk.proofs.Sent.{readable_desk, pass_field}
+use Rattle.desk.specs.contracts.askings.Readable as Readable
+use Rattle.desk.specs.contracts.askings.ReadableAsking.TheImpl as asks
 use Rattle.desk.specs.contracts.desks.Desk as Desk
 use Rattle.desk.specs.contracts.seats.Seat as Seat
 use Rattle.manager_worker.proofs.signals.Signals.TheSendSync as signals
@@ -41,14 +41,14 @@ counter : IsSync (as_row AtomicU64.the_field)
 counter = search (heap.crosses, sendable) depth 20
 
 environment : IsSync Environment.the_row
-environment = declared_sync Environment.the_type (desk, (shared_signals, (shared_bell, (counter, (counter, (counter, tt))))))
+environment = declared_sync Environment.the_type (desk, (shared_signals, (shared_bell, (counter, (counter, (counter, (counter, tt)))))))
 
 module _ (a : NamedLft) (R : RattleType) (r : IsSync R) where
   pub runtime : IsSend (as_row (Field.row_field (ShrRef a.mir a.lft R)))
   runtime = search (r, sendable)
 
-  lent_desk : IsSend (as_row (Field.shr_ref_field a (Desk.the_row Anything.the_row asks.ghosts) tt))
-  lent_desk = search (desk, sendable)
+  lent_desk : IsSend (as_row (Field.shr_ref_field a (Desk.the_row Readable.the_row asks.ghosts) tt))
+  lent_desk = search (readable_desk, sendable)
 
   ringer : IsSend (Ringer.the_row a)
   ringer = search (heap.crosses, sendable) depth 20
@@ -56,8 +56,8 @@ module _ (a : NamedLft) (R : RattleType) (r : IsSync R) where
   listener : IsSend (as_row (Field.row_field (Ringer.the_row a)))
   listener = search (ringer, sendable)
 
-  seat : IsSend (Seat.the_row a Anything.the_row (Ringer.the_row a) R asks.ghosts)
-  seat = declared_send (Seat.the_type a Anything.the_row (Ringer.the_row a) R asks.ghosts) (lent_desk, (pass_field, (runtime, (listener, tt))))
+  seat : IsSend (Seat.the_row a Readable.the_row (Ringer.the_row a) R asks.ghosts)
+  seat = declared_send (Seat.the_type a Readable.the_row (Ringer.the_row a) R asks.ghosts) (lent_desk, (pass_field, (runtime, (listener, tt))))
 
   lent_environment : IsSend (as_row (Field.shr_ref_field a Environment.the_row tt))
   lent_environment = search (environment, sendable)

@@ -2,12 +2,13 @@ use Rattle.std.proofs.Common.{refl, subst, false}
 use Rattle.http_connection.proofs.Writing.{begun_to, written_to}
 use Rattle.http_connection.specs.declared.watching.Watching.{Watching}
 use Rattle.http_connection.specs.Sending.{IsSent}
+use Rattle.http_connection.specs.Stopping.{device_in, has_stopped}
 use Rattle.http_connection.proofs.sending.watch_sent.Goals as goal
 
 pub returns-in-To : goal.returns-in-To
 returns-in-To g c =
-    let before = g.W.Write.contents c.args.writer.now in
-    let after = g.W.Write.contents c.write_on.new.writer in
+    let before = g.W.Write.contents (device_in c.args.writer.now) in
+    let after = g.W.Write.contents (device_in c.write_on.new.writer) in
     let w = c.args.watching in
     let n = c.in-To.taken in
     let u : Watching = record { view = w.view; bookmarks = w.bookmarks; at = w.at; at_once = w.at_once; out = w.out; taken = n; rest = w.rest; pieces = w.pieces; later = w.later; is_paused = false } in
@@ -15,8 +16,8 @@ returns-in-To g c =
 
 pub returns-in-Failed : goal.returns-in-Failed
 returns-in-Failed g c =
-    let before = g.W.Write.contents c.args.writer.now in
-    let after = g.W.Write.contents c.write_on.new.writer in
+    let before = g.W.Write.contents (device_in c.args.writer.now) in
+    let after = g.W.Write.contents (device_in c.write_on.new.writer) in
     let w = c.args.watching in
     let s = c.in-Failed.ensures in
-    begun_to before after w s.0 (subst (λ t. IsSent before after t w.taken s.0) c.deref.ensures.value s.1)
+    (s.0, begun_to before after w s.1.0 (subst (λ t. IsSent before after t w.taken s.1.0) c.deref.ensures.value s.1.1))

@@ -11,4 +11,5 @@ returns c = record {
   servers_are_named = (refl, refl, refl, refl, refl, refl, refl, refl, refl, refl, refl);
   workers_are_counted = (refl, refl, refl, refl, refl, refl);
   usages_are_asked = (refl, refl, refl, refl, refl, refl, refl);
+  mistakes_are_named = (refl, refl, refl, refl, refl, refl, refl, refl, refl);
 }

@@ -1,9 +1,15 @@
 use Rattle.std.proofs.Common.{Ok, sym, ap, ◌∙◌}
 use Rattle.request_decoding.specs.Asked.{asked_seen}
 use Rattle.request_parts.specs.Requests.{request_of}
+use Rattle.spec_laws.proofs.ReadRequests.{requests_asked}
 use Rattle.kcp_loopback.specs.Asking.{seat_at}
 use Rattle.kcp_loopback.proofs.Asking.{asks_read, asks_refused}
 use Rattle.kcp_loopback.proofs.own_server.OwnServer.ask.Goals as goal
+
+pub answer-requires : goal.answer-requires
+answer-requires g c = record {
+  read = requests_asked c.in-Ok.text.method c.as_bytes-target.result.now c.as_bytes-body.result.now (request_of c.in-Ok-Request.request) (c.in-Ok-Request.ensures ∙ ap (λ a. Ok (asked_seen a)) c.in-Ok-Request.field-0-is);
+}
 
 pub returns-in-Ok-Request-clause-asks : goal.returns-in-Ok-Request-clause-asks
 returns-in-Ok-Request-clause-asks g c =

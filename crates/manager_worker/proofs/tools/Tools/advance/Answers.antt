@@ -1,25 +1,42 @@
--- A turn that is over was at its end, or was given up at a live read.
-use Rattle.std.proofs.Common.{◌≡◌, ◌∙◌, sym}
-use Rattle.std.proofs.lemmas.Result.{IfOk-at_ok, IfOk-weaker, on_err_weaker}
+-- A step, and what is done after it.
+use Rattle.std.proofs.Common.{◌∙◌}
 use Rattle.control_desk.specs.Desks.{known}
-use Rattle.manager_worker.proofs.Ways.{gave_up, is_over, advances}
-use Rattle.manager_worker.specs.Stepping.{Advances, is_given_up}
+use Rattle.manager_worker.proofs.Ways.{advances, not_taken, not_ended, fails, not_over}
+use Rattle.manager_worker.specs.Ending.{Advances, course_of}
+use Rattle.manager_worker.specs.Stepping.{in_turn}
 use Rattle.manager_worker.proofs.tools.Tools.advance.Goals as goal
+
+pub returns-in_err-finish-clause-advances : goal.returns-in_err-finish-clause-advances
+returns-in_err-finish-clause-advances g c =
+    let s = in_turn c.args.turn.now c.args.self.now.listers c.args.self.now.api (known c.args.pass.now) in
+    let z = in_turn c.args.turn.now c.args.self.now.listers c.args.self.now.api (known c.finish.new.pass) in
+    fails c.from_residual.result (λ x. Advances g.L.Looking.shows g.A.Api.answers c.args.key.now s z x) c.from_residual.ensures.0
+    (not_ended g.L.Looking.shows g.A.Api.answers c.args.key.now s (known c.finish.new.pass) c.in_err-finish.ensures.sees)
+
+pub returns-in_err-progress : goal.returns-in_err-progress
+returns-in_err-progress g c =
+    let s = in_turn c.args.turn.now c.args.self.now.listers c.args.self.now.api (known c.args.pass.now) in
+    let z = in_turn c.step.new.turn c.step.new.self.listers c.step.new.self.api (known c.step.new.pass) in
+    let r = c.from_residual-in_err-progress.result in
+    let is_err = c.from_residual-in_err-progress.ensures.0 in
+    record {
+      pass = c.step.ensures.pass;
+      free = λ e. absurd (not_over r is_err e);
+      mine = λ _. c.step.ensures.key;
+      advances =
+          fails r (λ x. Advances g.L.Looking.shows g.A.Api.answers c.args.key.now s z x) is_err
+          (not_taken g.L.Looking.shows g.A.Api.answers c.args.key.now s z c.in_err-progress.ensures.steps);
+    }
 
 pub returns : goal.returns
 returns g c =
-    let t = c.args.turn.now in
-    let u = c.step.new.turn in
-    let p = c.in_ok-progress.progress in
-    let taken = c.in_ok-progress.ensures.ok in
-    let went = c.go_on.ensures in
+    let s = in_turn c.args.turn.now c.args.self.now.listers c.args.self.now.api (known c.args.pass.now) in
+    let u = in_turn c.step.new.turn c.step.new.self.listers c.step.new.self.api (known c.step.new.pass) in
     record {
-      pass = went.pass;
-      over = went.free;
-      mine = λ n. went.mine n ∙ c.step.ensures.key;
-      given_back = λ e.
-          let gave = gave_up t u p taken (sym (IfOk-at_ok (λ b. b ≡ is_given_up p) e went.over)) in
-          is_over c.args.key.now t gave.0.0 (known c.step.new.pass).made (known c.go_on.new.pass).made gave.0.1 (c.step.ensures.key ∙ c.requires.mine) (went.made e);
-      ok = IfOk-weaker c.go_on.result (λ b. b ≡ is_given_up p) (λ b. Advances t u b) (λ b same. advances t u p b taken same) went.over;
-      err = on_err_weaker c.go_on.result (λ e. (gave_up t u p taken e).1) went.err;
+      pass = c.go_on.ensures.pass;
+      free = c.go_on.ensures.free;
+      mine = λ e. c.go_on.ensures.mine e ∙ c.step.ensures.key;
+      advances =
+          advances g.L.Looking.shows g.A.Api.answers c.args.key.now s u c.in_ok-progress.progress (known c.go_on.new.pass) (course_of c.go_on.result) c.in_ok-progress.ensures.steps
+          c.go_on.ensures.follows;
     }

@@ -1,8 +1,9 @@
 -- Each round goes on by a step that comes next, and has the same key until the turn is over.
-use Rattle.std.proofs.Common.{◌∙◌, Bool, refl, subst}
+use Rattle.std.proofs.Common.{◌∙◌, inl, inr, refl}
+use Rattle.control_desk.specs.Desks.{known}
 use Rattle.manager_worker.proofs.Untouched.{untouched_at_read}
-use Rattle.manager_worker.proofs.Ways.{goes-on}
-use Rattle.manager_worker.specs.Stepping.{Advances, none}
+use Rattle.manager_worker.proofs.Ways.{joined}
+use Rattle.manager_worker.specs.Stepping.{in_turn, none}
 use Rattle.manager_worker.proofs.tools.Tools.turn.Goals as goal
 
 pub loop-init : goal.loop-init
@@ -11,17 +12,37 @@ loop-init g c = (tt, tt, c.requires.pass, refl, none)
 pub loop-preserved : goal.loop-preserved
 loop-preserved g c =
     let stays = c.loop.invariant in
-    let step = c.advance_or_rest.ensures in
-    let is_on = c.if-advance_or_rest.false in
-    let goes : Bool → Type 0 = λ b. Advances c.loop.turn c.advance_or_rest.new.turn b in
-    (tt, tt, step.pass, step.mine is_on ∙ stays.3, goes-on c.args.turn c.loop.turn c.advance_or_rest.new.turn stays.4 (subst goes is_on step.turn))
+    let went = c.in-GoesOn.ensures in
+    (tt, tt, went.pass, went.mine refl ∙ stays.3, joined g.L.Looking.shows g.A.Api.answers stays.4 went.advances)
+
+pub returns-then-is_stopped-clause-cut : goal.returns-then-is_stopped-clause-cut
+returns-then-is_stopped-clause-cut g c =
+    λ _. record {
+      last = in_turn c.loop.turn c.loop.self.listers c.loop.self.api (known c.loop.pass);
+      reached = c.loop.invariant.4;
+      left_at = c.loop.turn;
+      left = inl refl;
+    }
 
 -- Where the last round is over it was taken until then.
-pub returns-then-advance_or_rest-clause-end : goal.returns-then-advance_or_rest-clause-end
-returns-then-advance_or_rest-clause-end g c =
+pub returns-in-Over-clause-over : goal.returns-in-Over-clause-over
+returns-in-Over-clause-over g c =
+    let s = in_turn c.args.turn c.args.self.now.listers c.args.self.now.api (known c.args.pass.now) in
+    let last = in_turn c.loop.turn c.loop.self.listers c.loop.self.api (known c.loop.pass) in
     λ _. record {
-      last = c.loop.turn;
+      last = last;
       reached = c.loop.invariant.4;
-      over = c.advance_or_rest.ensures.given_back c.if-advance_or_rest.true;
-      untouched = untouched_at_read c.args.turn c.loop.turn c.loop.invariant.4;
+      mine = c.loop.invariant.3 ∙ c.requires.mine;
+      left_at = c.advance_or_rest.new.turn;
+      over = c.in-Over.ensures.advances;
+      untouched = untouched_at_read g.L.Looking.shows g.A.Api.answers s last c.loop.invariant.4;
+    }
+
+pub returns-in-CutShort-clause-cut : goal.returns-in-CutShort-clause-cut
+returns-in-CutShort-clause-cut g c =
+    λ _. record {
+      last = in_turn c.loop.turn c.loop.self.listers c.loop.self.api (known c.loop.pass);
+      reached = c.loop.invariant.4;
+      left_at = c.advance_or_rest.new.turn;
+      left = inr c.in-CutShort.ensures.advances;
     }

@@ -1,0 +1,12 @@
+pub mod Elements
+pub mod Owing
+pub mod Maps
+pub mod References
+pub mod SetTurns
+pub mod ItemTurns
+pub mod DeploymentTurns
+pub mod StillPlans
+pub mod Settled
+pub mod PlainTexts
+pub mod AtPresent
+pub mod SettledRollouts

@@ -1,0 +1,9 @@
+pub mod Leads
+pub mod Deletes
+pub mod ListEdits
+pub mod Updates
+pub mod Listed
+pub mod Collecting
+pub mod Deleting
+pub mod Reports
+pub mod Controlled

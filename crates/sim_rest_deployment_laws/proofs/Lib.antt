@@ -1,0 +1,9 @@
+pub mod EditedSets
+pub mod ReadSets
+pub mod Looked
+pub mod StoredSets
+pub mod SetCreates
+pub mod ParsedSets
+pub mod SetUpdates
+pub mod Plans
+pub mod FirstCommands

@@ -1,0 +1,14 @@
+pub mod Kept
+pub mod LastTurns
+pub mod Shifted
+pub mod ShiftRuns
+pub mod TurnRuns
+pub mod TurnSteps
+pub mod OwedObjects
+pub mod Owns
+pub mod Still
+pub mod Whole
+pub mod Starts
+pub mod Unmet
+pub mod Yes
+pub mod YesRuns

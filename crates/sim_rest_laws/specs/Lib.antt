@@ -1,0 +1,9 @@
+pub mod Rests
+pub mod KeptKeyLaws
+pub mod TurnRunLaws
+pub mod ShiftRunLaws
+pub mod LastTurnLaws
+pub mod OwedObjectLaws
+pub mod StillLaws
+pub mod WholeLaws
+pub mod StartLaws

@@ -1,0 +1,6 @@
+pub mod PlanesPass
+pub mod ReadsLead
+pub mod WritesLead
+pub mod FirstCommands
+pub mod CollectorEnds
+pub mod Ends

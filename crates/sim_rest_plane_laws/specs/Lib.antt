@@ -1,0 +1,3 @@
+pub mod PlanePassLaws
+pub mod FirstCommandLaws
+pub mod RestLaws

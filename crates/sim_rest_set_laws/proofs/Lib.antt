@@ -1,0 +1,4 @@
+pub mod Begins
+pub mod Adopts
+pub mod Looked
+pub mod First
