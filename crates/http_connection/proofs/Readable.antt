@@ -1,27 +1,20 @@
 -- What bytes ask can be read of bytes.
-use Rattle.std.proofs.Common.{◌≡◌, nat_lt, ◌==◌, ◌&&◌, ◌||◌, not, ℕ, pos, negsuc, List, length, take, Bool, true, false, if◌then◌else◌, IfSome, IsUtf8, Option, Some, None, is_some, Result, Ok, Err, ok_or, inl, inr, refl, subst}
+use Rattle.std.proofs.Common.{◌≡◌, nat_lt, ◌==◌, ◌&&◌, ◌||◌, not, ℕ, pos, negsuc, List, length, take, Bool, true, false, if◌then◌else◌, IsUtf8, Option, Some, None, is_some, Result, Ok, Err, inl, inr, refl, subst}
 use Rattle.std.proofs.Math.Logic.{∥∥₁_elim}
 use Rattle.std.proofs.Props.{props}
 use Rattle.std.specs.Coded.{×_prop, Unit-prop}
 use Rattle.serde_json.specs.Data.{Data, null, boolean, number, string, array, object, unsigned, negative, float, Items, no_items, item, Members, no_members, member}
 use Rattle.spec_api.specs.declared.methods.Method.{Method}
-use Rattle.spec_api.specs.declared.methods.Method.TheVariants.{Get, Post, Put, Patch, Delete}
 use Rattle.spec_api.specs.declared.refusals.Part.{Part}
 use Rattle.spec_api.specs.declared.refusals.Part.TheVariants as part
-use Rattle.spec_api.specs.DeleteOptions.{Options}
-use Rattle.spec_api.specs.History as history
-use Rattle.spec_api.specs.Keys.{Key}
-use Rattle.spec_api.specs.ListQueries as collections
-use Rattle.spec_api.specs.ListQueries.{Read}
 use Rattle.spec_api.specs.ObjectRequests.{Request, get_object, list_objects, create_object, update_object, update_status, patch_object, delete_object}
 use Rattle.spec_api.specs.Reached.{CanBeRead, IsBefore, IsParsed, AreParsed, AreInOrder}
 use Rattle.spec_api.specs.Refusals.{Refusal, bad_request, length_required, method_not_allowed, too_large, unsupported_media_type}
-use Rattle.spec_api.specs.Targets.{Query, Asked, request, list, watch, Route, collection, object_at, status_of, route, path_of, query_for, names_namespace, is_allowed, longest_body, body_of, asks_with, delete_options, read_as, selected, asked}
-use Rattle.spec_api.specs.Values.{data_of}
+use Rattle.spec_api.specs.Targets.{Query, Asked, request, list, watch, Route, route, path_of, query_for, names_namespace, is_allowed, longest_body, asked}
 use Rattle.spec_http.specs.Checks.{Opening, checked, is_watch, length_checked, length_or_none, path_checked, method_checked, query_checked}
 use Rattle.spec_http.specs.Connections.{Asks, asked_after}
 use Rattle.spec_http.specs.Heads.{Head, has_transfer_coding, head_of, media_type, method_named, needs_length, stated_length, takes_type}
-use Rattle.spec_laws.proofs.Parsed.{parsed_data}
+use Rattle.spec_laws.proofs.ReadRequests.{AsksWell, well_asked}
 use Rattle.api.specs.Askable.{CanBeAsked}
 use Rattle.http_connection.specs.Arriving.{IsAskedBySome}
 
@@ -31,49 +24,14 @@ abbrev CanBe : Result Asked Refusal → Type 0
 CanBe (Err f) = Unit {0}
 CanBe (Ok a) = CanBeAsked a
 
-abbrev IsOrderedBody : Result Data Refusal → Type 0
-IsOrderedBody (Err f) = Unit {0}
-IsOrderedBody (Ok d) = IsParsed d
-
-ordered_or : (o : Option Data) → IfSome o IsParsed → IsOrderedBody (ok_or o (bad_request part.Body))
-ordered_or None h = tt
-ordered_or (Some d) h = h
-
-ordered_body : (text : List ℕ) → IsOrderedBody (body_of text)
-ordered_body text = ordered_or (data_of text) (parsed_data text)
-
-can_with : (f : Data → Request) (r : Result Data Refusal) → ((d : Data) → IsParsed d → CanBeRead (f d)) → IsOrderedBody r → CanBe (asks_with f r)
-can_with f (Err e) each h = tt
-can_with f (Ok d) each h = each d h
-
-can_body : (f : Data → Request) (text : List ℕ) → ((d : Data) → IsParsed d → CanBeRead (f d)) → CanBe (asks_with f (body_of text))
-can_body f text each = can_with f (body_of text) each (ordered_body text)
-
-can_delete : (n : Key) (r : Result Options Refusal) → CanBe (asks_with (delete_object n) r)
-can_delete n (Err e) = tt
-can_delete n (Ok o) = tt
-
-can_collect : (v : history.View) (r : Read) → CanBe (Ok (read_as v r))
-can_collect v (collections.list o) = tt
-can_collect v (collections.watch o) = tt
+can_be : (r : Result Asked Refusal) → AsksWell r → CanBe r
+can_be (Err f) well = tt
+can_be (Ok (request q)) well = well
+can_be (Ok (list v o)) well = tt
+can_be (Ok (watch v o)) well = tt
 
 can_ask : (method : Method) (r : Route) (q : Query) (text : List ℕ) → names_namespace r ≡ true → CanBe (asked method r q text)
-can_ask Get (collection k ns) q text h = can_collect (selected k ns q.collection) q.collection.read
-can_ask Get (object_at n) q text h = tt
-can_ask Get (status_of n) q text h = tt
-can_ask Post (collection k None) q text h = tt
-can_ask Post (collection k (Some ns)) q text h = can_body (create_object k ns) text (λ d a. (h, a))
-can_ask Post (object_at n) q text h = tt
-can_ask Post (status_of n) q text h = tt
-can_ask Put (collection k ns) q text h = tt
-can_ask Put (object_at n) q text h = can_body (update_object n) text (λ d a. a)
-can_ask Put (status_of n) q text h = can_body (update_status n) text (λ d a. a)
-can_ask Patch (collection k ns) q text h = tt
-can_ask Patch (object_at n) q text h = can_body (patch_object n) text (λ d a. a)
-can_ask Patch (status_of n) q text h = tt
-can_ask Delete (collection k ns) q text h = tt
-can_ask Delete (object_at n) q text h = can_delete n (delete_options q text)
-can_ask Delete (status_of n) q text h = tt
+can_ask method r q text names = can_be (asked method r q text) (well_asked method r q text names)
 
 -- ---- heads
 

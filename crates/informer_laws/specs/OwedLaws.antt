@@ -1,22 +1,16 @@
 -- Laws of what a change owes.
 use Rattle.std.specs.Prelude.{◌≡◌, ◌⊎◌, ℕ, List, true, false, Some}
-use Rattle.std.specs.List.{Contains, list_any}
-use Rattle.std.specs.Ordering.{is_eq}
+use Rattle.std.specs.List.{Contains}
 use Rattle.serde_json.specs.Data.{Data}
 use Rattle.spec_api.specs.declared.kinds.Kind.TheVariants.{Pod, ReplicaSet}
 use Rattle.spec_api.specs.History.{Entries}
 use Rattle.spec_api.specs.Keys.{Key}
 use Rattle.spec_api.specs.Metadata.{uid}
-use Rattle.spec_client_go.specs.declared.controller.Controller.{Controller}
 use Rattle.spec_client_go.specs.declared.controller.Controller.TheVariants as controller
 use Rattle.spec_client_go.specs.Informers.{Looks, of_namespace, of_owner}
-use Rattle.spec_client_go.specs.OwedKeys.{Change, keys_of, selects, lives_on}
+use Rattle.spec_client_go.specs.OwedKeys.{Change, selects, lives_on}
 use Rattle.spec_client_go.specs.OwnerReferences.{has_controller, namespace_of, controller_keys, owner_keys}
-use Rattle.spec_client_go.specs.WorkQueues.{work_key_cmp}
-
--- a change owes that a controller looks at a key
-abbrev pub Owes : Change → Looks → Controller → Key → Type 0
-Owes c l w k = list_any (λ q. is_eq (work_key_cmp (record { controller = w; key = k }) q)) (keys_of c l) ≡ true
+use Rattle.reconcile_locality_laws.specs.Differences.{Owes}
 
 -- the object as it was before the change, or as it is
 abbrev pub IsOf : Change → Data → Type 0

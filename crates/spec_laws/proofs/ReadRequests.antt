@@ -30,7 +30,7 @@ use Rattle.spec_laws.proofs.Runs.{kept_asked, kept_watched, by_compaction}
 use Rattle.spec_api.specs.Reached.{IsParsed, CanBeRead, IsTimestamp, IsReached, opened, asks, compacts}
 use Rattle.spec_laws.specs.ReachedLaws.{RunsAreReached, RequestsAreAsked, MomentsAreTimes}
 
-abbrev AsksWell : Result Asked Refusal → Type 0
+abbrev pub AsksWell : Result Asked Refusal → Type 0
 AsksWell (Err f) = Unit {0}
 AsksWell (Ok (request q)) = CanBeRead q
 AsksWell (Ok (list v o)) = Unit {0}
@@ -66,7 +66,7 @@ well_read : (v : history.View) (r : Read) → AsksWell (Ok (read_as v r))
 well_read v (collections.list o) = tt
 well_read v (collections.watch o) = tt
 
-well_asked : (method : Method) (r : Route) (q : Query) (text : List ℕ) → names_namespace r ≡ true → AsksWell (asked method r q text)
+pub well_asked : (method : Method) (r : Route) (q : Query) (text : List ℕ) → names_namespace r ≡ true → AsksWell (asked method r q text)
 well_asked Get (collection k ns) q text h = well_read (selected k ns q.collection) q.collection.read
 well_asked Get (object_at n) q text h = tt
 well_asked Get (status_of n) q text h = tt
