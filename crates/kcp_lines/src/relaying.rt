@@ -1,5 +1,5 @@
 //! The loop that relays lines.
-ghost use Rattle.std.specs.Prelude.{◌≡◌, ◌⊎◌, IfErr, IfOk, IfSome, first, is_some, true};
+ghost use Rattle.std.specs.Prelude.{◌≡◌, ◌⊎◌, IfErr, IfOk, IfSome, length, nat_lt, true};
 ghost use Rattle.chunked.specs.Devices.{device_of, has_failed};
 
 use crate::lines::reply_lines;
@@ -115,7 +115,7 @@ fn relay_line<C: Connect, R: BufRead + Drop, W: Write + Drop>(
     writer: &mut Watched<W>,
     line: &mut Vec<u8>,
 ) -> Result<bool, RelayFault>
-    ensures was { IfOk result (λ was. IfSome (R.remaining (device_of reader.old)) (λ bytes. was ≡ is_some (first bytes))) }
+    ensures was { IfOk result (λ was. IfSome (R.remaining (device_of reader.old)) (λ bytes. was ≡ nat_lt 0 (length bytes))) }
     ensures reader { IfErr result (λ fault. fault ≡ RelayFault.Run RunFault.Read → has_failed reader.new ≡ true) }
     ensures writer { IfErr result (λ fault. fault ≡ RelayFault.Run RunFault.Write → has_failed writer.new ≡ true) }
 {
@@ -141,7 +141,7 @@ pub fn relay<C: Connect, R: BufRead + Drop, W: Write + Drop>(
     reader: &mut Watched<R>,
     writer: &mut Watched<W>,
 ) -> Result<bool, RelayFault>
-    ensures was { IfOk result (λ was. IfSome (R.remaining (device_of reader.old)) (λ bytes. was ≡ is_some (first bytes))) }
+    ensures was { IfOk result (λ was. IfSome (R.remaining (device_of reader.old)) (λ bytes. was ≡ nat_lt 0 (length bytes))) }
     ensures reader { IfErr result (λ fault. fault ≡ RelayFault.Run RunFault.Read → has_failed reader.new ≡ true) }
     ensures writer { IfErr result (λ fault. fault ≡ RelayFault.Run RunFault.Write → has_failed writer.new ≡ true) }
 {
