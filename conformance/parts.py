@@ -65,7 +65,7 @@ PROGRAM = {
     "recorded": Part("conformance/recorded/run.py", FOLLOWER, "", "a follower over what a real API server wrote"),
     "controllers": Part("conformance/controllers/run.py", KCP, "--short", "the controllers over HTTP, 32 scenarios in about a minute; whole, a quarter of an hour"),
     "arguments": Part("conformance/arguments.py", KCP, "", "how the program says it is used, and which fault ended it"),
-    "readme": Part("conformance/readme.py", KCP, "", "what README.md shows"),
+    "readme": Part("conformance/readme.py", KCP, "", "what README.md shows, and the request lines of docs/API.md"),
     "benchmarks": Part("conformance/benchmarks.py", BENCHMARKS, "", "each part of the program of benchmarks once, on little"),
     "pictures": Part("conformance/simulate/pictures.py", {}, "", "each simulated case as a page; a browser opens some where one is installed"),
 }

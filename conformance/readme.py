@@ -1,9 +1,9 @@
 #!/usr/bin/env python3
-"""Does what README.md shows: its commands with a built program, and its request lines, and compares what is shown as their output.
+"""Does what README.md shows with a built program, and the request lines of docs/API.md, and compares what is shown as their output.
 
 A block between two lines of ``` is a script. In it a line that begins with `{`, but for those of a here-document, is what the command before it has to print, and
-`..` in it stands for any text. In the section on lines, what follows a request line is its reply. The block that proves and builds is left out,
-and a port that is free takes the place of the one that is shown.
+`..` in it stands for any text. In the section on lines of docs/API.md, what follows a request line is its reply. The block that proves and builds is
+left out, and a port that is free takes the place of the one that is shown.
 Usage: readme.py [--program PATH]
 """
 import argparse
@@ -94,12 +94,12 @@ def main():
     parser = argparse.ArgumentParser(description=__doc__.splitlines()[0])
     parser.add_argument("--program", default=BUILT)
     program = str((ROOT / parser.parse_args().program).resolve())
-    text = (ROOT / "README.md").read_text(encoding="utf-8")
+    texts = {page: (ROOT / page).read_text(encoding="utf-8") for page in ("README.md", "docs/API.md")}
     wrong, count = [], 0
-    for found, shown in (run_commands(program, text), run_lines(program, text)):
+    for found, shown in (run_commands(program, texts["README.md"]), run_lines(program, texts["docs/API.md"])):
         wrong, count = wrong + found, count + shown
     for line in wrong:
-        print(f"FAILED README shows: {line}")
+        print(f"FAILED it is shown: {line}")
     print(f"{count - len(wrong)} passed, {len(wrong)} failed")
     sys.exit(1 if wrong or not count else 0)
 
