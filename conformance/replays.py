@@ -9,6 +9,19 @@ named. `--program PATH` runs all on one that is built already.
 A case of many or of long lines is written in short: NAME.replay.short and NAME.expect.short. Each of their lines is a number, a
 space, and a line that is meant so many times, for which Python's `%` fills in `number`, from 1 on over the whole file, `revision`,
 one more than that, and `blank`, which is empty: `%(blank)1000s` is a thousand blanks.
+What the names of cases begin with, or have:
+
+    paths, methods, lines        paths- routes- methods- lines-of- order-of-path-method-query-body
+    queries                      query-members queries- limits- revisions-of-bad-form watch-revisions-
+    names, moments, uids         names- namespaces- labels- moment- moments- uids- generate
+    bodies, how they are read    bodies- nulls- numbers- nesting- keys-that-come-twice of-another-type api-version-
+    checks                       check-of- order-of-checks a-selector-stays
+    creates, updates, patches    create what-the-server-sets update patches- status generations
+    deletes and finalizers       delete preconditions- policies- options- finalizers- orphan- foreground- background-
+    lists, pages, selectors      list exact-list limit page token selector
+    watches, bookmarks, streams  watch bookmark stream initial-events frames
+    windows and compactions      compaction window
+
 Usage: replays.py [--program PATH] [WORD]      WORD: only cases whose name has it
 """
 import argparse

@@ -12,6 +12,7 @@ one than the sources are, `replay` and `simulate` build one without proofs (`rt 
 """
 import ast
 import os
+import signal
 import subprocess
 import sys
 
@@ -48,11 +49,12 @@ def run(name, given, own):
     """Runs a part, and returns its status."""
     part = PARTS[name]
     if {"-h", "--help"} & set(own):
-        print(ast.get_docstring(ast.parse((ROOT / part.script).read_text(encoding="utf-8"))), end="\n\n", flush=True)
+        print(ast.get_docstring(ast.parse((ROOT / part.script).read_text(encoding="utf-8"))))
+        return 0
     old = [path for option, path in part.takes.items() if option not in given and is_old(path)]
     if old and name in parts.TRIED:
         part = parts.Part(part.script, {}, part.words, part.shows)
-    elif missing := [] if {"-h", "--help"} & set(own) else [path for path in old if not (ROOT / path).exists()]:
+    elif missing := [path for path in old if not (ROOT / path).exists()]:
         print(f"{name}: {missing[0]} is not built: see docs/GATE.md, or name another by {next(iter(part.takes))}", file=sys.stderr)
         return 1
     elif old:
@@ -68,6 +70,7 @@ def listed():
 
 
 def main():
+    signal.signal(signal.SIGPIPE, signal.SIG_DFL)
     names, given, own = split(sys.argv[1:])
     if not names:
         print(__doc__.rstrip("\n") + "\n" + listed())

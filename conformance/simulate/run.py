@@ -7,6 +7,13 @@ bytes, and 2,000 changes in windows of several sizes, with exact
 lists and watches from below each window to above the present, whose text is the oracle's. With `--random N` come N schedules of a hundred random
 steps each, whose text is the oracle's; `--oracle` runs nothing, and compares the cases with what the oracle says.
 
+What the names of cases begin with, or have:
+
+    links, cuts, expiries, restarts      cut expire send deliver bookmark stream restart publish
+    plans, workers and their keys        replica-set deployment rollout owner dependent lost-create key revision-of- update-that-
+    names that come again, and rest      made-again-between came-and-went collision loses-the-name names-another
+    windows, lines and sizes             window configuration of-no-form no-step-
+
 The program is built from the sources by `rt try`, which proves nothing; `--program PATH` runs one that is built already.
 Usage: run.py [--program PATH | --oracle] [--random N] [--seed N] [WORD]      WORD: only cases whose name has it
 """
