@@ -3,7 +3,8 @@
 
     run.py                   lists them, a line each
     run.py NAME ..           runs these, as the gate does
-    run.py NAME WORD ..      runs one with words of its own: `--help`, `--seed 7`, or a word that the names of its cases have
+    run.py NAME WORD ..      runs one with words of its own: `--help`, `--seed 7`, or a word that the names of its cases have (`--` before one
+                             that is the name of a part too)
     run.py first             what takes a second: whether negative tests, wakings and pages fit the text
     run.py program           all that the gate runs with the built program, in some six minutes
 
@@ -29,6 +30,8 @@ def split(words):
     words = list(words)
     while words:
         option, is_whole, path = words[0].partition("=")
+        if option == "--":
+            return names, given, own + words[1:]
         if option in OPTIONS and (is_whole or len(words) > 1):
             given[option] = os.path.abspath(path if is_whole else words.pop(1))
         elif not own and words[0] in (*PARTS, *parts.GROUPS):
@@ -55,7 +58,7 @@ def run(name, given, own):
     if old and name in parts.TRIED:
         part = parts.Part(part.script, {}, part.words, part.shows)
     elif missing := [path for path in old if not (ROOT / path).exists()]:
-        print(f"{name}: {missing[0]} is not built: see docs/GATE.md, or name another by {next(iter(part.takes))}", file=sys.stderr)
+        print(f"{name}: there is no {missing[0]}: `python3 build.py` makes kcp, `rt run` in its folder another program", file=sys.stderr)
         return 1
     elif old:
         print(f"{name}: {old[0]} is older than the sources", file=sys.stderr)

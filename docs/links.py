@@ -1,10 +1,11 @@
 #!/usr/bin/env python3
-"""Looks whether what the pages name is there: files and headings that they link to, files and folders that stand in them as code, crates of
+"""Looks whether what the pages name is there: files and headings that they link to, files, folders and names of crates that stand in them as code,
 pieces of wrong code, and parts of conformance/run.py.
 
     python3 docs/links.py [--check]    changes nothing; the status is 1 where something is not there
 """
 
+import functools
 import re
 import sys
 from pathlib import Path
@@ -46,6 +47,32 @@ def missing_paths(text):
             yield word
 
 
+def missing_names(text):
+    """Returns the names that stand in a page as code after one of a crate of this repository, and that this crate does not have."""
+    for code in re.findall(r"`([^`\n]+)`", text):
+        for crate, many, one in re.findall(r"(?<![\w:])(\w+)::(?:\{([^}]*)\}|(\w+))", code):
+            names = re.findall(r"\w+(?=$|[,:( ])", re.sub(r"::\w+", "", many)) if many else [one]
+            yield from (f"{crate}::{name}" for name in names if (ROOT / "crates" / crate).is_dir() and name not in words_of(crate))
+
+
+def missing_calls(text):
+    """Returns the calls of tables whose first column names crates, and the second calls of these, that none of them has."""
+    crates = []
+    for first, second in re.findall(r"(?m)^\| ([^|]*)\| ([^|]*) \|", text):
+        named = re.findall(r"`(\w+)`", first)
+        crates = named if named and all((ROOT / "crates" / it).is_dir() for it in named) else [] if first.strip() else crates
+        if crates and "`" not in re.sub(r"`[^`]*`", "", first):
+            called = re.findall(r"\w+", " ".join(re.findall(r"`([^`]+)`", second)))
+            yield from (f"{' or '.join(crates)}: {it}" for it in called if not any(it in words_of(crate) or it == crate for crate in crates))
+
+
+@functools.cache
+def words_of(crate):
+    """Returns all words of a crate's code and definitions."""
+    files = [it for part in ("src", "specs") for it in (ROOT / "crates" / crate / part).rglob("*.*t")]
+    return set(re.findall(r"\w+", " ".join(it.read_text(encoding="utf-8") for it in files)))
+
+
 def missing_pieces(text):
     """Returns the pieces of wrong code of the table in docs/PROVED.md that are not there, and the parts that conformance/run.py does not have."""
     rows = "\n".join(line for line in text.split("## Wrong bodies", 1)[-1].splitlines() if line.startswith("|")) if "## Wrong bodies" in text else ""
@@ -64,7 +91,7 @@ def main():
     wrong = []
     for page in PAGES:
         text = page.read_text(encoding="utf-8")
-        found = [*missing_links(page, text), *missing_paths(text), *missing_pieces(text)]
+        found = [*missing_links(page, text), *missing_paths(text), *missing_names(text), *missing_calls(text), *missing_pieces(text)]
         wrong += [f"{page.relative_to(ROOT)}: {it} is not there" for it in dict.fromkeys(found)]
     print("\n".join(wrong), end="\n" if wrong else "")
     sys.exit(1 if wrong else 0)
