@@ -8,6 +8,7 @@
 """
 
 import re
+import signal
 import sys
 from pathlib import Path
 
@@ -186,6 +187,7 @@ def index():
 
 def main():
     """Prints an index, or writes the page of laws, or says that it is not the present one."""
+    signal.signal(signal.SIGPIPE, signal.SIG_DFL)
     asked, page = sys.argv[1:], DOCS / "LAWS.md"
     if not asked:
         print(index())

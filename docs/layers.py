@@ -9,6 +9,7 @@ A layer is a line `# Name: what its crates are for` of crates.txt, and the crate
 """
 
 import re
+import signal
 import sys
 from pathlib import Path
 
@@ -96,6 +97,7 @@ def page_of(found):
 
 def main():
     """Writes the page, or says that it is not the present one, or prints the crates."""
+    signal.signal(signal.SIGPIPE, signal.SIG_DFL)
     asked, found = sys.argv[1:], layers()
     said, text = "\n".join(sentences(found)), page_of(found)
     if asked == ["--crates"]:
