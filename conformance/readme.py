@@ -2,8 +2,8 @@
 """Does what README.md shows with a built program, and the request lines of docs/API.md, and compares what is shown as their output.
 
 A block between two lines of ``` is a script. In it a line that begins with `{`, but for those of a here-document, is what the command before it has to print, and
-`..` in it stands for any text. In the section on lines of docs/API.md, what follows a request line is its reply. The block that proves and builds is
-left out, and a port that is free takes the place of the one that is shown.
+`..` in it stands for any text. In the section on lines of docs/API.md, what follows a request line is its reply. The commands that clone,
+prove and build are left out, and a port that is free takes the place of the one that is shown.
 Usage: readme.py [--program PATH]
 """
 import argparse
@@ -21,6 +21,7 @@ from programs import lasting_port
 
 BUILT, PORT = "crates/kcp/out/kcp", "8080"
 SECONDS = 300
+LEFT_OUT = ("git clone ", "python3 build.py")
 METHODS = ("GET ", "POST ", "PUT ", "PATCH ", "DELETE ")
 
 
@@ -52,7 +53,8 @@ def pattern(shown):
 
 def run_commands(program, text):
     """Runs the commands of the section on running, and returns what was not as it is shown."""
-    steps = [step for block in blocks(text, "Run it") if "build.py" not in "".join(block) for step in steps_of(block)]
+    shown = [[line for line in block if not line.startswith(LEFT_OUT)] for block in blocks(text, "Run it")]
+    steps = [step for block in shown for step in steps_of(block)]
     script = "\n".join("\n".join([*lines, f"echo; echo @{number}"]) for number, (lines, _) in enumerate(steps))
     script = script.replace(BUILT, program).replace(PORT, str(lasting_port()))
     started = subprocess.Popen(["bash", "-c", script], cwd=ROOT, stdin=subprocess.DEVNULL, stdout=subprocess.PIPE, stderr=subprocess.DEVNULL, text=True, start_new_session=True)
