@@ -47,7 +47,6 @@ import sys
 import time
 
 sys.dont_write_bytecode = True
-sys.path[:0] = [str(pathlib.Path(__file__).resolve().parent)]
 import adoptions
 import cluster_rollouts
 import dripping
