@@ -113,6 +113,13 @@ def wrong_of_faults(program):
                 yield f"kcp {words}, {source} to {sink}: {found}, not {fault}"
 
 
+def wrong_of_no_input(program):
+    """Returns what is wrong where a server with its controllers is given an input that is empty, a line at most: it says so, and is no fault."""
+    found = ended(program, "all --port 0", b"", os.devnull)
+    if found != (["kcp: all ended with its input, which was empty (serve and control read none)\n"], 0):
+        yield f"kcp all, with no input: {found}"
+
+
 def main():
     parser = argparse.ArgumentParser(description=__doc__.splitlines()[0])
     parser.add_argument("--program", default=BUILT)
@@ -121,9 +128,10 @@ def main():
     failed = [] if all(options.values()) and len(options) == 3 else ["docs/API.md lacks tables of options"]
     failed += wrong_of(program, options)
     failed += wrong_of_faults(program)
+    failed += wrong_of_no_input(program)
     for line in failed:
         print(f"FAILED {line}")
-    print(f"{len(TOLD) + len(COMMANDS) + len(FAULTS) - len(failed)} passed, {len(failed)} failed")
+    print(f"{len(TOLD) + len(COMMANDS) + len(FAULTS) + 1 - len(failed)} passed, {len(failed)} failed")
     sys.exit(1 if failed else 0)
 
 

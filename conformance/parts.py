@@ -36,6 +36,7 @@ FIRST = {
     "wakings-apply": Part("conformance/wakings/run.py", {}, "--check", "each waking that is taken away fits the text that it changes"),
     "laws": Part("docs/definitions.py", {}, "--check", "each file of definitions says what it is for, and docs/LAWS.md has the laws' own words"),
     "layers": Part("docs/layers.py", {}, "--check", "docs/ARCHITECTURE.md has the layers of crates.txt"),
+    "untested": Part("conformance/untested.py", {}, "--check", "each public function with an error result is called by a test or a program, or known not to be"),
     "links": Part("docs/links.py", {}, "--check", "what the pages link to, and which files they name, is there"),
 }
 

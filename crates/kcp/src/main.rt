@@ -26,6 +26,9 @@ use std::{env, io};
 /// What it is called that a port cannot be listened on.
 const LISTEN: &str = "listen";
 
+/// What is said where a server with its controllers has ended with an input of no line.
+const NO_INPUT: &[u8] = b"kcp: all ended with its input, which was empty (serve and control read none)\n";
+
 /// What reads standard input, and what writes to standard output.
 type StandardLines<'a> = (
     BufReader<StdinLock<'a>>,
@@ -170,6 +173,11 @@ where
     }
 }
 
+/// Says that a server with its controllers has ended with its input, of which there was none, if it can be said.
+fn tell_no_input<E: Write>(told: &mut E) {
+    let _ = told.write_all(NO_INPUT);
+}
+
 /// Serves with the controllers at work, answers lines, and returns what a fault of that is called.
 fn all_over<R, I, W, E>(
     rt: &R,
@@ -186,7 +194,14 @@ where
 {
     match lines {
         Ok((mut reader, mut writer)) => {
-            all(rt, alloc, options, &mut reader, &mut writer, &mut told).map_err(all_fault_name)
+            match all(rt, alloc, options, &mut reader, &mut writer, &mut told) {
+                Ok(true) => Ok(()),
+                Ok(false) => {
+                    tell_no_input(&mut told);
+                    Ok(())
+                }
+                Err(fault) => Err(all_fault_name(fault)),
+            }
         }
         Err(fault) => Err(fault_name(fault)),
     }

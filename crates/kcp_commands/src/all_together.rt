@@ -41,12 +41,12 @@ fn no_memory(_: AllocError) -> AllFault {
     AllFault::Serve(ListenFault::NoMemory)
 }
 
-/// Answers the lines over connections, and tells all threads to stop once they end.
+/// Answers the lines over connections, tells all threads to stop once they end, and returns whether anything was read.
 fn answer_lines<R, I, W>(
     own: &OwnDesk<'_, R>,
     reader: &mut I,
     writer: &mut W,
-) -> Result<(), RelayFault>
+) -> Result<bool, RelayFault>
 where
     R: Net<Listener = TcpListener, Stream = TcpStream> + Eprint + Wait + Clock,
     I: BufRead,
@@ -63,12 +63,12 @@ where
     outcome
 }
 
-/// Returns why all threads have ended, where it is a fault.
+/// Returns whether anything was read, or why all threads have ended, where it is a fault.
 fn outcome_of(
     served: Result<(), ListenFault>,
     worked: Result<(), AllocError>,
-    relayed: Result<(), RelayFault>,
-) -> Result<(), AllFault> {
+    relayed: Result<bool, RelayFault>,
+) -> Result<bool, AllFault> {
     served.map_err(AllFault::Serve)?;
     worked.map_err(no_memory)?;
     relayed.map_err(AllFault::Relay)
@@ -82,7 +82,7 @@ fn run_threads<'a, R, L, I, W>(
     controllers: Controllers<'a, R, Own<'a, R>>,
     reader: &mut I,
     writer: &mut W,
-) -> Result<(), AllFault>
+) -> Result<bool, AllFault>
 where
     R: Net<Listener = TcpListener, Stream = TcpStream> + Eprint + Threads + Wait + Clock + Sync,
     L: Ledger + Send + Sync,
@@ -120,7 +120,7 @@ fn run_over<'a, R, L, I, W>(
     listener: TcpListener,
     reader: &mut I,
     writer: &mut W,
-) -> Result<(), AllFault>
+) -> Result<bool, AllFault>
 where
     R: Net<Listener = TcpListener, Stream = TcpStream> + Eprint + Threads + Wait + Clock + Sync,
     L: Ledger + Send + Sync,
@@ -148,7 +148,7 @@ fn run_at<R, L, I, W, E>(
     reader: &mut I,
     writer: &mut W,
     told: &mut E,
-) -> Result<(), AllFault>
+) -> Result<bool, AllFault>
 where
     R: Net<Listener = TcpListener, Stream = TcpStream> + Eprint + Threads + Wait + Clock + Sync,
     L: Ledger + Send + Sync,
@@ -187,7 +187,7 @@ fn all_most<R, L, I, W, E>(
     reader: &mut I,
     writer: &mut W,
     told: &mut E,
-) -> Result<(), AllFault>
+) -> Result<bool, AllFault>
 where
     R: Net<Listener = TcpListener, Stream = TcpStream> + Eprint + Threads + Wait + Clock + Sync,
     L: Ledger + Send + Sync,
@@ -218,7 +218,7 @@ where
 /// Serves requests over HTTP/1.1 on the loopback address, from the empty store on, with the controllers at work there; sends the request of
 /// each line that is read to this server, writes the reply lines, and stops all threads at the end of the lines. Where it listens is written
 /// to `told`. Where the server or the controllers cannot go on, all threads stop: the next line that asks something gets no reply, and is the
-/// last.
+/// last. Returns whether anything was read.
 pub fn all<R, I, W, E>(
     rt: &R,
     alloc: Global,
@@ -226,7 +226,7 @@ pub fn all<R, I, W, E>(
     reader: &mut I,
     writer: &mut W,
     told: &mut E,
-) -> Result<(), AllFault>
+) -> Result<bool, AllFault>
 where
     R: Net<Listener = TcpListener, Stream = TcpStream> + Eprint + Threads + Wait + Clock + Sync,
     I: BufRead,

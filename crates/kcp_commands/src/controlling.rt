@@ -1,6 +1,6 @@
 //! `kcp control`: the controllers, which work at a server.
 ghost use Rattle.std.specs.Prelude.{◌≡◌, ◌<◌, ◌^◌};
-ghost use Rattle.kcp_commands.specs.Resting.{still_counted};
+ghost use Rattle.kcp_commands.specs.Resting.{rest_after, still_counted};
 
 use crate::made::add;
 use api_client::Remote;
@@ -19,6 +19,9 @@ use tcp_client::WallClock;
 
 /// How many milliseconds a run lasts at least after which those before it count no longer.
 const LONG_RUN_MILLISECONDS: u64 = 60_000;
+
+/// The longest rest after a run whose server answered, in milliseconds: one that is started anew so often is a test's.
+const LONGEST_REST: u64 = 5_000;
 
 /// How a server of another process is asked.
 type Asked<'a, R> = OtherServer<'a, R, Remote<LoopbackConnector<'a, R>>>;
@@ -130,8 +133,21 @@ fn still_counted(failures: u32, began: u64, ended: u64) -> u32
     }
 }
 
+/// Returns how long to rest before the next run, in milliseconds, where a follower would pause for so long: at most 5 seconds where the server of
+/// the run that ended answered.
+fn rest_after(has_answered: bool, pause: u64) -> u64
+    ensures { result ≡ rest_after has_answered pause }
+{
+    if has_answered {
+        pause.min(LONGEST_REST)
+    } else {
+        pause
+    }
+}
+
 /// Runs the controllers anew until they are not to begin anew again. Before each run it rests as a follower does after a try that failed
-/// (`Pauses`), but that a run of a minute or more ends the row of failures: so a server that cuts all that it is asked is asked now and then.
+/// (`Pauses`), but that a run of a minute or more ends the row of failures, and that it rests 5 seconds at most after a run whose server
+/// answered: so a server that cuts all that it is asked is asked now and then, and one that a test starts again and again is not waited with.
 /// Where memory is short for a run it is tried again after a rest. Meanwhile no thread works, so none is there to stop it.
 fn work_again<R>(
     rt: &R,
@@ -154,7 +170,8 @@ where
     for _ in rt.forever() {
         let ended = clock.milliseconds();
         pauses.failures = still_counted(pauses.failures, began, ended);
-        thread::sleep(rt, Duration::from_millis(pauses.on_failed(ended)));
+        let rest = rest_after(reach.has_answered(), pauses.on_failed(ended));
+        thread::sleep(rt, Duration::from_millis(rest));
         began = clock.milliseconds();
         if let Ok(false) = work_anew(rt, alloc, port, workers, left, reach) {
             return;
@@ -163,7 +180,7 @@ where
 }
 
 /// Runs the controllers at the server of a port until so many turns are finished, if a number is given. Where the server ends, loses its
-/// memory or is another one, they begin anew after a rest of 0.8 to 30 seconds: they know nothing then but what the server lists that comes
+/// memory or is another one, they begin anew after a rest of 0.8 to 5 seconds, or of up to 30 where it answered nothing: they know nothing then but what the server lists that comes
 /// after it. The error is running out of memory before they have begun once.
 pub fn control<R>(rt: &R, alloc: Global, options: ControlOptions) -> Result<(), AllocError>
 where

@@ -1,6 +1,6 @@
 //! The loop that relays lines.
-ghost use Rattle.std.specs.Prelude.{◌≡◌, ◌⊎◌, IfErr, true};
-ghost use Rattle.chunked.specs.Devices.{has_failed};
+ghost use Rattle.std.specs.Prelude.{◌≡◌, ◌⊎◌, IfErr, IfOk, IfSome, first, is_some, true};
+ghost use Rattle.chunked.specs.Devices.{device_of, has_failed};
 
 use crate::lines::reply_lines;
 use crate::relay_fault::RelayFault;
@@ -107,29 +107,52 @@ fn reply_to<C: Connect>(
     }
 }
 
+/// Reads a line and relays it, and returns whether there was one.
+fn relay_line<C: Connect, R: BufRead + Drop, W: Write + Drop>(
+    alloc: Global,
+    connector: &mut C,
+    reader: &mut Watched<R>,
+    writer: &mut Watched<W>,
+    line: &mut Vec<u8>,
+) -> Result<bool, RelayFault>
+    ensures was { IfOk result (λ was. IfSome (R.remaining (device_of reader.old)) (λ bytes. was ≡ is_some (first bytes))) }
+    ensures reader { IfErr result (λ fault. fault ≡ RelayFault.Run RunFault.Read → has_failed reader.new ≡ true) }
+    ensures writer { IfErr result (λ fault. fault ≡ RelayFault.Run RunFault.Write → has_failed writer.new ≡ true) }
+{
+    make_ready(line);
+    match reader.read_through(b'\n', line) {
+        Ok(0) => return Ok(false),
+        Ok(_) => {}
+        Err(fault) => return Err(RelayFault::Run(unread(fault))),
+    }
+    let reply = reply_to(alloc, connector, without_newline(line.as_slice()))?;
+    send(writer, reply.as_slice()).map_err(RelayFault::Run)?;
+    Ok(true)
+}
+
 /// Sends the request of each line that is read to a server, each over a connection of its own, and writes the reply lines, in the form of a
-/// replay. A watch ends where the server ends it. Each reply is flushed before the next line is waited for. The error is that a line could
-/// not be read, or its reply not be had or written, or running out of memory; it ends the run. That the reader or the writer failed is the error
-/// only where its flag is up.
+/// replay. A watch ends where the server ends it. Each reply is flushed before the next line is waited for. Returns whether anything was read.
+///
+/// The error is that a line could not be read, or its reply not be had or written, or running out of memory; it ends the run. That the reader or
+/// the writer failed is the error only where its flag is up.
 pub fn relay<C: Connect, R: BufRead + Drop, W: Write + Drop>(
     alloc: Global,
     connector: &mut C,
     reader: &mut Watched<R>,
     writer: &mut Watched<W>,
-) -> Result<(), RelayFault>
+) -> Result<bool, RelayFault>
+    ensures was { IfOk result (λ was. IfSome (R.remaining (device_of reader.old)) (λ bytes. was ≡ is_some (first bytes))) }
     ensures reader { IfErr result (λ fault. fault ≡ RelayFault.Run RunFault.Read → has_failed reader.new ≡ true) }
     ensures writer { IfErr result (λ fault. fault ≡ RelayFault.Run RunFault.Write → has_failed writer.new ≡ true) }
 {
     let mut line = Vec::new(alloc);
-    for _ in 0..u64::MAX {
-        make_ready(&mut line);
-        match reader.read_through(b'\n', &mut line) {
-            Ok(0) => return Ok(()),
-            Ok(_) => {}
-            Err(fault) => return Err(RelayFault::Run(unread(fault))),
+    if !relay_line(alloc, connector, reader, writer, &mut line)? {
+        return Ok(false);
+    }
+    for _ in 1..u64::MAX {
+        if !relay_line(alloc, connector, reader, writer, &mut line)? {
+            return Ok(true);
         }
-        let reply = reply_to(alloc, connector, without_newline(line.as_slice()))?;
-        send(writer, reply.as_slice()).map_err(RelayFault::Run)?;
     }
     Err(RelayFault::Run(RunFault::Want))
 }

@@ -34,6 +34,8 @@ pub struct Reach {
     puzzled: AtomicU64,
     /// 1 if the last that it sent began as where TLS is wanted.
     wants_tls: AtomicU64,
+    /// 1 once something that it sent was understood, since it was begun with.
+    answered: AtomicU64,
     /// Which lists it refuses.
     pub(crate) refusals: Refusals,
     /// What it fails at.
@@ -55,6 +57,7 @@ impl Drop for Reach {
             unreadable: _unreadable,
             puzzled: _puzzled,
             wants_tls: _wants_tls,
+            answered: _answered,
             refusals: _refusals,
             failures: _failures,
             losses: _losses,
@@ -73,6 +76,7 @@ impl Reach {
             unreadable: AtomicU64::new(WELL),
             puzzled: AtomicU64::new(0),
             wants_tls: AtomicU64::new(0),
+            answered: AtomicU64::new(0),
             refusals: Refusals::new(),
             failures: Failures::new(),
             losses: Losses::new(),
@@ -85,6 +89,7 @@ impl Reach {
     pub fn begin(&self) {
         self.found.store(UNREACHED, Ordering::SeqCst);
         self.puzzled.store(0, Ordering::SeqCst);
+        self.answered.store(0, Ordering::SeqCst);
     }
 
     /// Notes that a connection was made.
@@ -104,6 +109,16 @@ impl Reach {
     /// Returns whether the server was reached and has ended.
     pub fn is_gone(&self) -> bool {
         self.found.load(Ordering::SeqCst) == GONE
+    }
+
+    /// Notes that something that the server sent was understood.
+    pub(crate) fn note_answered(&self) {
+        self.answered.store(1, Ordering::SeqCst);
+    }
+
+    /// Returns whether something that the server sent was understood, a list or a part of a watch, since it was begun with.
+    pub fn has_answered(&self) -> bool {
+        self.answered.load(Ordering::SeqCst) != 0
     }
 
     /// Notes a trouble with the server, and returns whether it is news: of its sort another one was said last, or none.

@@ -212,6 +212,7 @@ impl<R: Eprint> Teller<'_, R> {
 
     /// Notes that what the server sent was read as what it is to be, by one that may not have understood what came before.
     pub(crate) fn note_understood(&self, was_puzzled: bool) {
+        self.reach.note_answered();
         if self.reach.is_understood_again(was_puzzled) {
             self.say("is understood again");
         }

@@ -50,7 +50,7 @@ use Rattle.sim_overshoot_laws.proofs.PodLabels.{new_pods_match_their_set}
 use Rattle.sim_overshoot_laws.proofs.PodsStay.{Known, Upto, Onward, grown, one_more, replaced_stays, with_new}
 use Rattle.sim_overshoot_laws.proofs.PodWrites.{Planned, releases, adopts, creates, deletes, reports, planned_next, planned_writes, Replaces, WasPod}
 use Rattle.sim_overshoot_laws.proofs.Replaced.{news}
-use Rattle.sim_overshoot_laws.proofs.SameTexts.{stored_reads}
+use Rattle.reconcile_locality_laws.proofs.PlainTexts.{stored_reads}
 use Rattle.sim_overshoot_laws.proofs.StoredSets.{sets_match_their_templates}
 use Rattle.sim_overshoot_laws.proofs.Strangers.{new_pods_are_of_their_set, plain}
 

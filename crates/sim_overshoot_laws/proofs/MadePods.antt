@@ -45,7 +45,8 @@ use Rattle.sim_overshoot_laws.proofs.Matching.{its_uid}
 use Rattle.sim_overshoot_laws.proofs.OneSelector.{Next, along_at}
 use Rattle.sim_overshoot_laws.proofs.PodsStay.{Onward, known_later, matches_set, many_more, with_labels}
 use Rattle.sim_overshoot_laws.proofs.PodWrites.{WasPod}
-use Rattle.sim_overshoot_laws.proofs.SameTexts.{same_labels, stored_plain}
+use Rattle.reconcile_locality_laws.proofs.PlainTexts.{stored_plain}
+use Rattle.sim_overshoot_laws.proofs.SameTexts.{same_labels}
 use Rattle.sim_overshoot_laws.proofs.Sound.{planes_are_sound}
 
 -- ---- where anybody else writes

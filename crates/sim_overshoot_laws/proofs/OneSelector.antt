@@ -16,7 +16,8 @@ use Rattle.spec_laws.proofs.Versions.{tells}
 use Rattle.sim_overshoot_laws.specs.KeptPods.{Along}
 use Rattle.sim_overshoot_laws.specs.SetLaws.{SelectorsStay}
 use Rattle.sim_overshoot_laws.proofs.Births.{le_or}
-use Rattle.sim_overshoot_laws.proofs.SameTexts.{Plain, one_text, stored_plain, plain_in_spec}
+use Rattle.reconcile_locality_laws.proofs.PlainTexts.{Plain, one_text, stored_plain}
+use Rattle.sim_overshoot_laws.proofs.SameTexts.{plain_in_spec}
 use Rattle.sim_overshoot_laws.proofs.StoredSets.{KeepsSelector, selector_text, selectors_kept, sets_match_their_templates}
 
 -- ---- from one revision to the next

@@ -24,7 +24,8 @@ use Rattle.spec_reconcile.specs.NewPods.{new_pod, template}
 use Rattle.spec_reconcile.specs.Pods.{matches}
 use Rattle.sim_overshoot_laws.specs.SetLaws.{NewPodsMatchTheirSet}
 use Rattle.sim_overshoot_laws.proofs.StoredParts.{member-created}
-use Rattle.sim_overshoot_laws.proofs.StoredPods.{Under, under_put, under_without, under_stored, under_tidied, has_tidied, one_found, metadata_read}
+use Rattle.sim_overshoot_laws.proofs.StoredPods.{metadata_read}
+use Rattle.sim_rest_command_laws.proofs.UnderNames.{Under, under_put, under_without, under_stored, under_tidied, has_tidied, one_found}
 use Rattle.sim_overshoot_laws.proofs.TidyMembers.{Fine, tidy_in, inner_get, then_some, tidied_fine, none_at}
 
 -- ---- the labels of a set's template

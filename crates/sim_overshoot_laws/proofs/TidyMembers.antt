@@ -1,5 +1,5 @@
--- What is found among members that are tidy, or are tidied.
-use Rattle.std.proofs.Common.{◌≡◌, ℕ, List, Bool, true, false, true≢false, cond, bytes_eq, Option, Some, None, option_and_then, Ordering, Less, Equal, Greater, nat_cmp, is_eq, refl, sym, ap, ◌∙◌, subst}
+-- What is found among members that are tidy.
+use Rattle.std.proofs.Common.{◌≡◌, ℕ, List, Bool, true, false, cond, bytes_eq, Option, Some, None, option_and_then, Ordering, Less, Equal, Greater, nat_cmp, is_eq, refl, sym, subst}
 use Rattle.std.proofs.lemmas.Map.Text.{is_eq-slice_cmp}
 use Rattle.std.specs.Cmp.Lexicographic.{slice_cmp}
 use Rattle.std.specs.Ordering.{match_ordering}
@@ -7,11 +7,11 @@ use Rattle.serde_json.specs.Data.{Data, null, boolean, number, string, array, ob
 use Rattle.serde_json.specs.Find.{get, get_member}
 use Rattle.spec_api.specs.declared.schemas.Schema.{Schema}
 use Rattle.spec_api.specs.declared.schemas.Shape.TheVariants.{Object as ObjectOf}
-use Rattle.spec_api.specs.Reading.{is_absent, tidied, tidied_members}
+use Rattle.spec_api.specs.Reading.{is_absent, tidied}
 use Rattle.spec_api.specs.Schemas.{property_at}
 use Rattle.spec_api.specs.Values.{inner_of}
 use Rattle.spec_laws.proofs.ReadAgain.{IsTidy, MembersTidy, same_name, tidied_members-MembersTidy}
-use Rattle.sim_overshoot_laws.proofs.StoredPods.{Under}
+use Rattle.sim_rest_command_laws.proofs.UnderNames.{Under}
 
 -- ---- what is found among tidy members
 
@@ -72,44 +72,3 @@ tidied_fine p q v fine =
     by : (b : Bool) (e : Data) → cond b no_members (member q e no_members) ≡ member q v no_members → e ≡ v
     by true e is = cc
     by false e is = cc
-
--- what is found first, and left, is found still
-module _ (p : Schema) (q l : List ℕ) (e v : Data) (rest : Members) where
-  abbrev out : Data
-  out = tidied (property_at p l).shape e
-
-  abbrev Goal : Option Data → Type 0
-  Goal x = x ≡ Some (tidied (property_at p q).shape v)
-
-  past : (o : Ordering) (x : Option Data) → is_eq o ≡ false → match_ordering o x (Some out) x ≡ x
-  past Less x h = refl
-  past Equal x h = cc
-  past Greater x h = refl
-
-  other : (b : Bool) → is_eq (slice_cmp nat_cmp q l) ≡ false → Goal (get_member q rest) → Goal (get_member q (cond b rest (member l out rest)))
-  other true h is = is
-  other false h is = past (slice_cmp nat_cmp q l) (get_member q rest) h ∙ is
-
-  stays : (b : Bool) → slice_cmp nat_cmp q l ≡ Equal → q ≡ l → e ≡ v → is_absent (property_at p l) out ≡ b → is_absent (property_at p l) out ≡ false → Goal (get_member q (cond b rest (member l out rest)))
-  stays true is name same gone kept = absurd (true≢false (sym gone ∙ kept))
-  stays false is name same gone kept =
-      ap (λ o. match_ordering o (get_member q rest) (Some out) (get_member q rest)) is
-      ∙ ap (λ n. Some (tidied (property_at p n).shape e)) (sym name) ∙ ap (λ x. Some (tidied (property_at p q).shape x)) same
-
-  here : (b : Bool) → slice_cmp nat_cmp q l ≡ Equal → is_absent (property_at p l) out ≡ b → e ≡ v → is_absent (property_at p q) (tidied (property_at p q).shape v) ≡ false → Goal (get_member q (cond b rest (member l out rest)))
-  here b is gone same there =
-      let name = same_name q l is in
-      stays b is name same gone
-      (subst (λ n. is_absent (property_at p n) (tidied (property_at p n).shape e) ≡ false) name (subst (λ x. is_absent (property_at p q) (tidied (property_at p q).shape x) ≡ false) (sym same) there))
-
-  by_order : (o : Ordering) (x : Option Data) → slice_cmp nat_cmp q l ≡ o → (b : Bool) → is_absent (property_at p l) out ≡ b → match_ordering o x (Some e) x ≡ Some v
-      → is_absent (property_at p q) (tidied (property_at p q).shape v) ≡ false → (x ≡ Some v → Goal (get_member q rest)) → Goal (get_member q (cond b rest (member l out rest)))
-  by_order Less x is b gone f there later = other b (ap is_eq is) (later f)
-  by_order Equal x is b gone f there later = let same : e ≡ v = cc in here b is gone same there
-  by_order Greater x is b gone f there later = other b (ap is_eq is) (later f)
-
-pub found_tidied : (p : Schema) (q : List ℕ) (ms : Members) (v : Data) → get_member q ms ≡ Some v → is_absent (property_at p q) (tidied (property_at p q).shape v) ≡ false
-    → get_member q (tidied_members p ms) ≡ Some (tidied (property_at p q).shape v)
-found_tidied p q no_members v at there = cc
-found_tidied p q (member l e ms) v at there =
-    by_order p q l e v (tidied_members p ms) (slice_cmp nat_cmp q l) (get_member q ms) refl (is_absent (property_at p l) (tidied (property_at p l).shape e)) refl at there (λ f. found_tidied p q ms v f there)

@@ -24,9 +24,8 @@ use Rattle.spec_laws.proofs.ReadAgain.{opened}
 use Rattle.spec_laws.proofs.VerbLaws.{found-state, same}
 use Rattle.spec_laws.proofs.Versions.{tells, names_one}
 use Rattle.spec_reconcile.specs.MetadataEdits.{with_list}
-use Rattle.sim_overshoot_laws.proofs.StoredPods.{metadata_of-filled}
 use Rattle.sim_overshoot_laws.proofs.Strangers.{plain}
-use Rattle.sim_overshoot_laws.proofs.TidyMembers.{found_tidied}
+use Rattle.sim_rest_command_laws.proofs.UnderNames.{meta_name, metadata_filled, found_tidied}
 
 -- ---- what is read of it
 
@@ -45,9 +44,6 @@ refs = codes "ownerReferences"
 abbrev version_name : List ℕ
 version_name = codes "resourceVersion"
 
-abbrev meta_name : List ℕ
-meta_name = codes "metadata"
-
 -- what is read of a pod with other references has the version that the pod has
 version_read : (items : Items) (e o : Data) (t : List ℕ) → (length t == 0) ≡ false → version e ≡ Some t → reading Pod (with_list refs items e) ≡ Ok o → version o ≡ Some t
 version_read items e o t some is read =
@@ -60,7 +56,7 @@ version_read items e o t some is read =
     let at : get_member version_name meta ≡ Some (string t) = get_member-put_other version_name refs (array items) (metadata_of e) (apart version_name refs refl) ∙ is_text (get_member version_name (metadata_of e)) t is in
     let kept : get_member version_name (tidied_members TheMetadata meta) ≡ Some (string t) = found_tidied TheMetadata version_name meta (string t) at some in
     let of_o : metadata_of o ≡ tidied_members TheMetadata meta =
-    ap metadata_of (sym parts.2) ∙ ap inner_of (metadata_of-filled (tidied root (object ms)) (ap is_some there) ∙ there) in
+    ap metadata_of (sym parts.2) ∙ ap inner_of (metadata_filled Pod (tidied root (object ms)) (ap is_some there) ∙ there) in
     ap (λ m. option_and_then as_str (get_member version_name m)) of_o ∙ ap (option_and_then as_str) kept
 
 -- ---- what it replaces

@@ -1,5 +1,6 @@
 pub mod Leads
 pub mod Deletes
+pub mod UnderNames
 pub mod ListEdits
 pub mod Updates
 pub mod Listed

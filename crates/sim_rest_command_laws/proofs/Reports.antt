@@ -53,7 +53,7 @@ use Rattle.sim_rest_laws.specs.OwedObjectLaws.{LooksAfter}
 use Rattle.sim_rest_laws.specs.StillLaws.{ShownIn}
 use Rattle.sim_rest_command_laws.specs.CommandLaws.{Unowed, WasUnowed, IsCounted, as_it_was, counts, ReportsOwe}
 use Rattle.sim_rest_command_laws.proofs.Leads.{before, own_coming, own_writes}
-use Rattle.sim_rest_command_laws.proofs.ListEdits.{default_other, metadata_filled}
+use Rattle.sim_rest_command_laws.proofs.UnderNames.{default_other, metadata_filled}
 use Rattle.sim_rest_command_laws.proofs.Updates.{held, plain, one_text, is_there}
 
 -- ---- tidy members, with one put among them

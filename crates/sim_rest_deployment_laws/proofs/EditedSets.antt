@@ -23,7 +23,7 @@ use Rattle.spec_laws.proofs.ReadAgain.{MembersTidy, opened, tidied_members-Membe
 use Rattle.spec_laws.proofs.WholeObjects.{AreWhole}
 use Rattle.spec_reconcile.specs.Deployments.{with_replicas}
 use Rattle.spec_reconcile.specs.Revisions.{revision_annotation, revision, annotated, with_revision, raised}
-use Rattle.sim_rest_command_laws.proofs.ListEdits.{default_other, metadata_filled}
+use Rattle.sim_rest_command_laws.proofs.UnderNames.{default_other, metadata_filled}
 use Rattle.sim_rest_command_laws.proofs.Reports.{inner_tidy, tidy_put}
 use Rattle.sim_rest_command_laws.proofs.Updates.{not_zero}
 

@@ -25,7 +25,8 @@ use Rattle.spec_reconcile.specs.NewPods.{template}
 use Rattle.spec_reconcile.specs.Revisions.{annotated}
 use Rattle.spec_reconcile.specs.Templates.{selector, new_set_metadata, new_set_spec, with_hash}
 use Rattle.spec_api.specs.Metadata.{labels_of}
-use Rattle.sim_rest_command_laws.proofs.ListEdits.{meta_read, found_tidied}
+use Rattle.sim_rest_command_laws.proofs.ListEdits.{meta_read}
+use Rattle.sim_rest_command_laws.proofs.UnderNames.{found_tidied}
 use Rattle.sim_rest_command_laws.proofs.Updates.{said}
 
 generation_other : (b : Bool) (ms : Members) → get_member (codes "ownerReferences") (cond b (put (codes "generation") (unsigned_value 1) ms) ms) ≡ get_member (codes "ownerReferences") ms

@@ -40,7 +40,8 @@ use Rattle.sim_worker_laws.specs.OwedLaws.{IsAmong}
 use Rattle.sim_rest_laws.specs.StillLaws.{ShownIn}
 use Rattle.sim_rest_command_laws.specs.CommandLaws.{Unowed, WasUnowed}
 use Rattle.sim_rest_command_laws.proofs.Leads.{before, is_newer}
-use Rattle.sim_rest_command_laws.proofs.ListEdits.{found_tidied, meta_read, tidied_count}
+use Rattle.sim_rest_command_laws.proofs.ListEdits.{meta_read, tidied_count}
+use Rattle.sim_rest_command_laws.proofs.UnderNames.{found_tidied}
 use Rattle.sim_rest_command_laws.proofs.Updates.{held, said, same_in_place, placed_other, update_done, references_are, list_names}
 use Rattle.sim_rest_create_laws.proofs.Creates.{coming}
 

@@ -41,7 +41,7 @@ counter : IsSync (as_row AtomicU64.the_field)
 counter = search (heap.crosses, sendable) depth 20
 
 environment : IsSync Environment.the_row
-environment = declared_sync Environment.the_type (desk, (shared_signals, (shared_bell, (counter, (counter, (counter, (counter, tt)))))))
+environment = declared_sync Environment.the_type (readable_desk, (shared_signals, (shared_bell, (counter, (counter, (counter, (counter, tt)))))))
 
 module _ (a : NamedLft) (R : RattleType) (r : IsSync R) where
   pub runtime : IsSend (as_row (Field.row_field (ShrRef a.mir a.lft R)))
