@@ -78,5 +78,19 @@ ASIDE = {
     "times": Part("conformance/clients/times.py", KCP, "", "how long a test waits that has a `kcp all` of its own"),
 }
 
+# What measures, also by hand.
+MEASURES = {
+    "measure-http": Part("bench/http.py", KCP, "", "requests a second over HTTP, beside the least that such a server has to do; watches, streams and pages"),
+    "measure-lists": Part("bench/lists.py", KCP, "", "what lists cost others"),
+    "measure-controllers": Part("bench/controllers.py", KCP, "", "how long a Deployment of 100 takes to come and go"),
+    "measure-replay": Part("bench/replay.py", KCP, "", "what each kind of line costs, and memory, in stores of three sizes"),
+    "measure-simulate": Part("bench/simulate.py", KCP, "", "steps of a simulation a second"),
+    "measure-decoder": Part("bench/decoder.py", BENCHMARKS, "", "frames by the size of their pieces"),
+    "measure-informer": Part("bench/informer.py", BENCHMARKS, "", "an indexed copy of 10,000 Pods"),
+    "measure-listers": Part("bench/listers.py", BENCHMARKS, "", "a map that is read without waiting"),
+    "measure-plans": Part("bench/plans.py", BENCHMARKS, "", "plans for sets of many pods"),
+    "measure-queue": Part("bench/queue.py", BENCHMARKS, "", "a million keys through the work queue"),
+}
+
 GROUPS = {"first": FIRST, "program": PROGRAM}
-PARTS = {**FIRST, **PROGRAM, **ASIDE}
+PARTS = {**FIRST, **PROGRAM, **ASIDE, **MEASURES}

@@ -68,7 +68,7 @@ def run(name, given, own):
 def listed():
     """Returns the lines that tell what there is."""
     width = max(len(name) for name in PARTS)
-    heads = (("Before the proofs, in a second (first)", parts.FIRST), ("With the built program (program)", parts.PROGRAM), ("By hand", parts.ASIDE))
+    heads = (("Before the proofs, in a second (first)", parts.FIRST), ("With the built program (program)", parts.PROGRAM), ("By hand", parts.ASIDE), ("Measured (bench/README.md)", parts.MEASURES))
     return "\n".join(line for head, group in heads for line in ["", f"{head}:", *(f"  {name:{width}}  {part.shows}" for name, part in group.items())])
 
 
