@@ -1,7 +1,7 @@
 """Shows what a run of the gate took, as tables, and writes them into docs/GATE.md.
 
     figures.py FILE            prints the tables of a figures.json that .ci/gate.py has kept
-    figures.py --write FILE    puts them into docs/GATE.md, between its two marker lines
+    figures.py --write FILE    puts them into docs/GATE.md, between its two marker lines, with fewer columns
 
 FILE may also be an output of the gate, or its last lines: they say the figures once more, briefly.
 """
@@ -24,6 +24,8 @@ BEGIN, END = "<!-- figures begin -->\n", "<!-- figures end -->\n"
 KINDS = ("proofs", "tests", "programs", "negative tests")
 # Those that the table of crates shows.
 SHOWN = ("proofs", "tests", "negative tests")
+# How many columns the table of crates has in docs/GATE.md, where these are read again, and where it is printed.
+IN_GUIDE, ALL = 4, None
 # What the gate runs: the first, and then the others beside one another.
 STAGES = ("rt ci", "negative tests", "conformance")
 
@@ -70,8 +72,8 @@ def whole_table(of):
     return table(["Work", "From second", "To second", "Processor seconds"], rows)
 
 
-def crates_table(of):
-    """Returns the lines of the table of crates, the dearest first."""
+def crates_table(of, columns):
+    """Returns the lines of the table of crates, the dearest first, with so many columns."""
 
     def row(name, crate):
         proved = "" if crate["proved"] is None else crate["proved"]
@@ -82,7 +84,7 @@ def crates_table(of):
     sums = [sum(crate[part] for _, crate in crates) for part in ("lines", *SHOWN, "pieces", "others")]
     rows.append(["all", *sums, ""])
     head = ["Crate", "Lines", "Proof", "Tests", "Negative tests", "In must-fail", "In wrong-code", "Proved at second"]
-    return table(head, rows)
+    return table(head[:columns], [row[:columns] for row in rows])
 
 
 def seconds_after(of):
@@ -99,8 +101,8 @@ def modelled(of):
     return f"By the model (`.ci/model.py`) `rt ci` takes {said}; with all that follows it {whole}."
 
 
-def text_of(of):
-    """Returns the figures of a run as text."""
+def text_of(of, columns):
+    """Returns the figures of a run as text, with a table of crates of so many columns at its end."""
     chain = longest_chain(of["crates"])
     steps = ", ".join(f"`{name}` {of['crates'][name]['proofs']:,.0f}" for name in chain)
     counts = ", ".join(f"{what} {passed} passed, {failed} failed" for what, (passed, failed) in of["passed"].items())
@@ -110,13 +112,13 @@ def text_of(of):
         "",
         *whole_table(of),
         "",
-        "Processor seconds, crate by crate:",
-        "",
-        *crates_table(of),
-        "",
         f"The longest chain of proofs takes {sum(of['crates'][name]['proofs'] for name in chain):,.0f} processor seconds: {steps}.",
         "",
         modelled(of),
+        "",
+        "Processor seconds, crate by crate:",
+        "",
+        *crates_table(of, columns),
     ]
     return "\n".join(lines)
 
@@ -176,7 +178,7 @@ def main():
     parser.add_argument("--write", action="store_true", help="put the tables into docs/GATE.md")
     parser.add_argument("file", metavar="FILE", help="a figures.json that .ci/gate.py has kept, or what it printed")
     asked = parser.parse_args()
-    text = text_of(figures_in(asked.file))
+    text = text_of(figures_in(asked.file), IN_GUIDE if asked.write else ALL)
     if not asked.write:
         print(text)
         return

@@ -21,10 +21,6 @@ from concurrent.futures import ThreadPoolExecutor
 
 sys.dont_write_bytecode = True
 ROOT = pathlib.Path(__file__).resolve().parent.parent
-PROGRAM = "crates/kcp/out/kcp"
-FOLLOWER = "crates/watch_example/out/watch_example"
-BENCHMARKS = "crates/benchmarks/out/benchmarks"
-CONTROLLER = "crates/controller_example/out/controller_example"
 # How long negative tests may take, the least and the most, and by which second they are to be over, so that what follows has its time too.
 SECONDS_FOR_NEGATIVE_TESTS, FEWEST_SECONDS, NEGATIVE_TESTS_END = 900, 120, 9000
 # By which second those of must-fail are to have been tried, and when whatever still runs is stopped, so that the gate can say what went wrong.
@@ -32,19 +28,13 @@ MUST_FAIL_END, END = 10_000, 10_500
 BEGAN = time.monotonic()
 # The conformance cases run beside the negative tests, which get the processors only while no case wants them: so no case waits for a prover.
 LAST_OF_ALL = ["nice", "-n", "19"]
-RANDOM_HEADS = 5000
-RANDOM_BYTES = 100_000
-RANDOM_SCHEDULES = 200
-RANDOM_TURNS = 100
-RANDOM_RESTS = 100
-# Within what time a controller has to have made what follows from one change: a second where nothing runs beside it.
-SECONDS_FOR_A_CHANGE = "20"
 # What `rt ci` says of a proof, a negative test, a test or a program that is not as it has to be, and the scripts of a case.
 WRONG = re.compile(r"NOT PROVED|NOT REFUSED|NOT TRIED|BAD EDIT|FAILED|not what|ended with status|^fn \S+: (?:not proved|no proof|could not tell)|^error\b")
 # How many of these lines are shown before the tables, and how many at the end; and how many where a script said none.
 MOST_WRONG, FEW_WRONG, LAST_LINES = 40, 5, 5
 sys.path[:0] = [str(ROOT / ".ci"), str(ROOT / "conformance")]
 import figures
+import parts
 import sampler
 
 
@@ -152,52 +142,15 @@ def used_by_children():
     return used.ru_utime + used.ru_stime
 
 
-def asked_first(log):
-    """Runs what takes a second: whether the negative tests, and what takes wakings away, still apply, and whether the documents that scripts make
-    are the present ones."""
-    scripts = {
-        "negative tests apply": "conformance/wrong_code.py",
-        "wakings apply": "conformance/wakings/run.py",
-        "index of definitions": "docs/definitions.py",
-        "picture of the layers": "docs/layers.py",
-    }
-    return {name: Run([sys.executable, "-B", script, "--check"], log) for name, script in scripts.items()}
+def part(name, log):
+    """Runs a part of the conformance cases, with the programs that `rt ci` built."""
+    programs = [word for option in parts.PARTS[name].takes.items() for word in option]
+    return Run([sys.executable, "-B", "conformance/run.py", name, *programs], log)
 
 
-def asked_of_program(log):
-    """Runs what asks the program that `rt ci` built: request lines, also while growths of its memory are refused, schedules of a simulated
-    cluster, a rollout, schedules of controllers, also to rest, and over sockets cases, random heads, many clients at once, real clients where they are
-    installed, a follower through a proxy and over recorded bytes, a controller of one's own, and the controllers at work."""
-    words = {
-        "conformance": ["run.py"],
-        "refused growths": ["refusals/run.py"],
-        "random bytes": ["random_bytes/run.py", "--bytes", str(RANDOM_BYTES)],
-        "schedules": ["simulate/run.py", "--random", str(RANDOM_SCHEDULES)],
-        "a rollout": ["simulate/rollout.py"],
-        "schedules of controllers": ["simulate/schedules.py", "--count", str(RANDOM_TURNS), "--oracle"],
-        "schedules that come to rest": ["simulate/at_rest.py", "--count", str(RANDOM_RESTS)],
-        "cases over HTTP": ["http/run.py"],
-        "random heads": ["http/heads.py", "--count", str(RANDOM_HEADS)],
-        "many connections": ["http/many.py"],
-        "histories": ["histories/run.py"],
-        "histories, 500 watchers": ["histories/run.py", "--threads", "4", "--clients", "4", "--seconds", "3", "--watchers", "500"],
-        "clients": ["clients/run.py"],
-        "kubectl": ["clients/kubectl.py"],
-        "fixtures": ["clients/fixtures.py"],
-        "following": ["following/run.py", "--follower", FOLLOWER, "--short"],
-        "following, cut at each byte": ["following/cuts.py", "--follower", FOLLOWER, "--short"],
-        "following, in scopes": ["following/scopes.py", "--follower", FOLLOWER],
-        "a controller of one's own": ["following/controllers.py", "--controller", CONTROLLER, "--within", SECONDS_FOR_A_CHANGE],
-        "controllers": ["controllers/run.py", "--short"],
-        "arguments": ["arguments.py"],
-        "README": ["readme.py"],
-    }
-    ran = {name: Run([sys.executable, "-B", f"conformance/{script}", "--program", PROGRAM, *rest], log) for name, (script, *rest) in words.items()}
-    ran["a controller from nothing"] = Run([sys.executable, "-B", "conformance/clients/walk.py"], log)
-    ran["pictures"] = Run([sys.executable, "-B", "conformance/simulate/pictures.py"], log)
-    ran["benchmarks"] = Run([sys.executable, "-B", "conformance/benchmarks.py", "--program", BENCHMARKS], log)
-    ran["recorded bytes"] = Run([sys.executable, "-B", "conformance/recorded/run.py", "--follower", FOLLOWER], log)
-    return ran
+def parts_of(group, log):
+    """Runs the parts of a group, one after another, whatever the others say."""
+    return {name: part(name, log) for name in group}
 
 
 def seconds_for_negative_tests(passed):
@@ -241,7 +194,7 @@ def main():
     sys.stdout.reconfigure(encoding="utf-8", errors="replace")
     room = pathlib.Path(tempfile.mkdtemp(prefix="kcp-gate-"))
     with open(room / "output.txt", "w", encoding="utf-8") as log:
-        first = asked_first(log)
+        first = parts_of(parts.FIRST, log)
         looking, before = sampler.Sampler(), used_by_children()
         looking.start()
         proved = Run([sys.executable, "-B", ".ci/rt.py", "ci", "--edits-later"], log)
@@ -252,14 +205,14 @@ def main():
         with ThreadPoolExecutor(max_workers=1) as beside:
             words = [*LAST_OF_ALL, sys.executable, "-B", "conformance/wrong_code.py", "--within", within, "--at-most", at_most]
             trying = beside.submit(Run, words, log, "negative tests: ")
-            asked = asked_of_program(log)
+            asked = parts_of(parts.PROGRAM, log)
             tried = trying.result()
         looking.is_ended.set()
     runs = {**first, "rt ci": proved, "negative tests": tried, **asked}
     tell_wrong(runs, MOST_WRONG)
     show(room, proved, tried, asked, looking, used)
     print(f"kept: {room}/output.txt, {room}/figures.json\n")
-    print("\n".join(line for _, line in first["negative tests apply"].lines))
+    print("\n".join(line for _, line in first["negative-tests-apply"].lines))
     tell_end(runs)
     sys.exit(1 if failed(runs) else 0)
 

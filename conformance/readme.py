@@ -1,9 +1,9 @@
 #!/usr/bin/env python3
-"""Does what README.md shows: its commands with a built program, and its request lines, and compares what is shown as their output.
+"""Does what README.md shows with a built program, and the request lines of docs/API.md, and compares what is shown as their output.
 
 A block between two lines of ``` is a script. In it a line that begins with `{`, but for those of a here-document, is what the command before it has to print, and
-`..` in it stands for any text. In the section on lines, what follows a request line is its reply. The block that proves and builds is left out,
-and a port that is free takes the place of the one that is shown.
+`..` in it stands for any text. In the section on lines of docs/API.md, what follows a request line is its reply. The commands that clone,
+prove and build are left out, and a port that is free takes the place of the one that is shown.
 Usage: readme.py [--program PATH]
 """
 import argparse
@@ -21,6 +21,7 @@ from programs import lasting_port
 
 BUILT, PORT = "crates/kcp/out/kcp", "8080"
 SECONDS = 300
+LEFT_OUT = ("git clone ", "python3 build.py")
 METHODS = ("GET ", "POST ", "PUT ", "PATCH ", "DELETE ")
 
 
@@ -52,7 +53,8 @@ def pattern(shown):
 
 def run_commands(program, text):
     """Runs the commands of the section on running, and returns what was not as it is shown."""
-    steps = [step for block in blocks(text, "Run it") if "build.py" not in "".join(block) for step in steps_of(block)]
+    shown = [[line for line in block if not line.startswith(LEFT_OUT)] for block in blocks(text, "Run it")]
+    steps = [step for block in shown for step in steps_of(block)]
     script = "\n".join("\n".join([*lines, f"echo; echo @{number}"]) for number, (lines, _) in enumerate(steps))
     script = script.replace(BUILT, program).replace(PORT, str(lasting_port()))
     started = subprocess.Popen(["bash", "-c", script], cwd=ROOT, stdin=subprocess.DEVNULL, stdout=subprocess.PIPE, stderr=subprocess.DEVNULL, text=True, start_new_session=True)
@@ -94,12 +96,12 @@ def main():
     parser = argparse.ArgumentParser(description=__doc__.splitlines()[0])
     parser.add_argument("--program", default=BUILT)
     program = str((ROOT / parser.parse_args().program).resolve())
-    text = (ROOT / "README.md").read_text(encoding="utf-8")
+    texts = {page: (ROOT / page).read_text(encoding="utf-8") for page in ("README.md", "docs/API.md")}
     wrong, count = [], 0
-    for found, shown in (run_commands(program, text), run_lines(program, text)):
+    for found, shown in (run_commands(program, texts["README.md"]), run_lines(program, texts["docs/API.md"])):
         wrong, count = wrong + found, count + shown
     for line in wrong:
-        print(f"FAILED README shows: {line}")
+        print(f"FAILED it is shown: {line}")
     print(f"{count - len(wrong)} passed, {len(wrong)} failed")
     sys.exit(1 if wrong or not count else 0)
 

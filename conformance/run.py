@@ -1,120 +1,92 @@
 #!/usr/bin/env python3
-"""Runs the program on each case and compares what it writes.
+"""Runs parts of the conformance cases by name, or lists them.
 
-A case is a pair of files in cases/: NAME.replay has the bytes of standard input of `kcp replay`, NAME.expect those of its
-standard output (simulate/run.py runs cases of `kcp simulate` likewise). The program is built from the sources by `rt try`,
-which takes seconds, proves nothing, and lets a program write a mebibyte at most: cases that write more are left out, and
-named. `--program PATH` runs all on one that is built already.
+    run.py                   lists them, a line each
+    run.py NAME ..           runs these, as the gate does
+    run.py NAME WORD ..      runs one with words of its own: `--help`, `--seed 7`, or a word that the names of its cases have (`--` before one
+                             that is the name of a part too)
+    run.py first             what takes a second: whether negative tests, wakings and pages fit the text
+    run.py program           all that the gate runs with the built program, in some six minutes
 
-A case of many or of long lines is written in short: NAME.replay.short and NAME.expect.short. Each of their lines is a number, a
-space, and a line that is meant so many times, for which Python's `%` fills in `number`, from 1 on over the whole file, `revision`,
-one more than that, and `blank`, which is empty: `%(blank)1000s` is a thousand blanks.
-Usage: run.py [--program PATH] [WORD]      WORD: only cases whose name has it
+The programs are those that build.py and `rt ci` leave; --program, --follower and --controller name others. Where no kcp is built, or an older
+one than the sources are, `replay` and `simulate` build one without proofs (`rt try`).
 """
-import argparse
-import dataclasses
-import pathlib
+import ast
+import os
+import signal
 import subprocess
 import sys
-import tempfile
 
-HERE = pathlib.Path(__file__).resolve().parent
-PROGRAM = HERE.parent / "crates" / "kcp"
-SECONDS = 60
-LONGEST_TRIED = 1_048_576
+sys.dont_write_bytecode = True
+import parts
+from parts import PARTS, ROOT
 
-
-def whole(short):
-    """Returns the bytes that a file in short means."""
-    lines, number = [], 0
-    for line in short.decode().splitlines():
-        count, text = line.split(" ", 1)
-        for number in range(number + 1, number + 1 + int(count)):
-            lines.append(text % {"number": number, "revision": number + 1, "blank": ""} + "\n")
-    return "".join(lines).encode()
+OPTIONS = ("--program", "--follower", "--controller")
 
 
-@dataclasses.dataclass
-class Case:
-    """What is read, and what is to be written."""
-
-    name: str
-    given: bytes
-    wanted: bytes
-
-
-def cases(folder, command, word):
-    """Returns the cases of a command in a folder whose names have a word, in order."""
-    names = sorted({path.name.split(".")[0] for path in folder.iterdir()})
-    return [Case(name, read(folder, name, command), read(folder, name, "expect")) for name in names if word in name]
-
-
-def read(folder, name, end):
-    """Returns the bytes of a file of a case."""
-    path = folder / f"{name}.{end}"
-    return path.read_bytes() if path.exists() else whole((folder / f"{name}.{end}.short").read_bytes())
+def split(words):
+    """Returns the names with which the words begin, the programs that they name, and the other words."""
+    names, given, own = [], {}, []
+    words = list(words)
+    while words:
+        option, is_whole, path = words[0].partition("=")
+        if option == "--":
+            return names, given, own + words[1:]
+        if option in OPTIONS and (is_whole or len(words) > 1):
+            given[option] = os.path.abspath(path if is_whole else words.pop(1))
+        elif not own and words[0] in (*PARTS, *parts.GROUPS):
+            names += parts.GROUPS.get(words[0], [words[0]])
+        else:
+            own.append(words[0])
+        words.pop(0)
+    return names, given, own
 
 
-def by_program(program, command, asked):
-    """Returns the names of the cases that a built program fails."""
-    failed = []
-    for case in asked:
-        run = subprocess.run([program, command], input=case.given, capture_output=True, timeout=SECONDS)
-        if run.stdout != case.wanted or run.returncode != 0:
-            failed.append(case.name)
-            show(case.name, case.wanted, run.stdout, run.returncode)
-    return failed
+def is_old(path):
+    """Returns whether there is no such program, or a source that was changed after it was built."""
+    program = ROOT / path
+    return not program.exists() or any(it.stat().st_mtime > program.stat().st_mtime for it in ROOT.glob("crates/*/src/**/*.rt"))
 
 
-def show(name, wanted, written, code):
-    """Returns the first line that differs."""
-    print(f"FAILED {name} (exit {code})")
-    for number, (want, got) in enumerate(zip(wanted.split(b"\n"), written.split(b"\n")), 1):
-        if want != got:
-            print(f"  line {number}\n    wanted  {want[:400]!r}\n    written {got[:400]!r}")
-            return
-    print(f"  wanted {len(wanted)} bytes, written {len(written)}")
+def run(name, given, own):
+    """Runs a part, and returns its status."""
+    part = PARTS[name]
+    if {"-h", "--help"} & set(own):
+        print(ast.get_docstring(ast.parse((ROOT / part.script).read_text(encoding="utf-8"))))
+        return 0
+    old = [path for option, path in part.takes.items() if option not in given and is_old(path)]
+    if old and name in parts.TRIED:
+        part = parts.Part(part.script, {}, part.words, part.shows)
+    elif missing := [path for path in old if not (ROOT / path).exists()]:
+        print(f"{name}: there is no {missing[0]}: `python3 build.py` makes kcp, `rt run` in its folder another program", file=sys.stderr)
+        return 1
+    elif old:
+        print(f"{name}: {old[0]} is older than the sources", file=sys.stderr)
+    return subprocess.run([sys.executable, "-B", *part.command(given, own)]).returncode
 
 
-def by_try(command, asked):
-    """Returns the names of the cases that the program fails as `rt try` builds it."""
-    with tempfile.TemporaryDirectory() as folder:
-        for case in asked:
-            (pathlib.Path(folder) / case.name).write_bytes(case.given)
-            (pathlib.Path(folder) / f"{case.name}.stdout").write_bytes(case.wanted)
-        words = ["rt", "try", "--seconds", str(SECONDS), "--cases", folder, "--", command]
-        run = subprocess.run(words, cwd=PROGRAM, capture_output=True, text=True, errors="replace")
-        said = run.stdout + run.stderr
-        passed = {line.split()[0][len("case="):] for line in said.splitlines() if has_passed(line.split())}
-        failed = [case.name for case in asked if case.name not in passed]
-        if failed or run.returncode != 0:
-            print(said[-20000:])
-        return failed if failed or run.returncode == 0 else [case.name for case in asked]
-
-
-def has_passed(words):
-    """Returns whether the words of a line of `rt try --cases` say that a case ended well, with the output that is wanted."""
-    return words[:1] != [] and words[0].startswith("case=") and {"run=ended", "status=0", "output=expected"} <= set(words)
-
-
-def judge(program, command, asked):
-    """Runs the program on these cases, says how many passed, and ends with a status that says whether all did. Without a program that is
-    built, the cases that write more than `rt try` lets them are left out."""
-    if not program:
-        long = [case.name for case in asked if len(case.wanted) > LONGEST_TRIED]
-        asked = [case for case in asked if case.name not in long]
-        print("".join(f"left out, for --program: {name}\n" for name in long), end="")
-    failed = by_program(program, command, asked) if program else by_try(command, asked)
-    print(f"{len(asked) - len(failed)} passed, {len(failed)} failed")
-    sys.exit(1 if failed or not asked else 0)
+def listed():
+    """Returns the lines that tell what there is."""
+    width = max(len(name) for name in PARTS)
+    heads = (("Before the proofs, in a second (first)", parts.FIRST), ("With the built program (program)", parts.PROGRAM), ("By hand", parts.ASIDE), ("Measured (bench/README.md)", parts.MEASURES))
+    return "\n".join(line for head, group in heads for line in ["", f"{head}:", *(f"  {name:{width}}  {part.shows}" for name, part in group.items())])
 
 
 def main():
-    parser = argparse.ArgumentParser(description=__doc__.splitlines()[0])
-    parser.add_argument("--program")
-    parser.add_argument("word", nargs="?", default="")
-    asked = parser.parse_args()
-    judge(asked.program, "replay", cases(HERE / "cases", "replay", asked.word))
+    signal.signal(signal.SIGPIPE, signal.SIG_DFL)
+    names, given, own = split(sys.argv[1:])
+    if not names:
+        print(__doc__.rstrip("\n") + "\n" + listed())
+        sys.exit(0 if own in ([], ["--list"], ["--help"]) else f"\nno part is named {own[0]}")
+    if len(names) == 1:
+        sys.exit(run(names[0], given, own))
+    statuses = {}
+    for name in names:
+        print(f"== {name}", flush=True)
+        statuses[name] = run(name, given, own)
+    failed = [name for name, status in statuses.items() if status]
+    print(f"{len(names) - len(failed)} of {len(names)} parts passed" + "".join(f"\nFAILED {name}" for name in failed))
+    sys.exit(1 if failed else 0)
 
 
 if __name__ == "__main__":

@@ -1,11 +1,14 @@
 #!/usr/bin/env python3
-"""Writes docs/DEFINITIONS.md, the index of the words, and docs/LAWS.md, what follows from them, from the files' own comments.
+"""Prints the index of the words, and the laws that follow from them, of the files' own comments; and writes docs/LAWS.md.
 
-    python3 docs/definitions.py            writes both
-    python3 docs/definitions.py --check    changes nothing; the status is 1 where one of them is not the present one
+    python3 docs/definitions.py                   prints the index of the definitions
+    python3 docs/definitions.py --laws [WORD]     prints all laws, or those of which a line has the word
+    python3 docs/definitions.py --write           writes docs/LAWS.md: those of CHOSEN, in their own words
+    python3 docs/definitions.py --check           changes nothing; the status is 1 where that page is not the present one, or a file says nothing of itself
 """
 
 import re
+import signal
 import sys
 from pathlib import Path
 
@@ -34,8 +37,7 @@ LAWS = ["spec_laws", "keyed_queues", "informer_laws", "sim_worker_laws", "sim_re
 
 HEAD = """# Definitions
 
-What a reader has to believe: the words by which contracts speak. What follows from them is in [LAWS.md](LAWS.md).
-`docs/definitions.py` makes both pages of the comments of the files.
+What a reader has to believe: the words by which contracts speak.
 
 What the API server does is in `crates/spec_api/specs`, in reading order; what is said over lines and over connections, what a
 server stores, and what controllers work by stand in crates of their own. A row has the words that other definitions or laws use.
@@ -44,11 +46,38 @@ Texts are lists of bytes, and numbers are natural, unless a definition says othe
 
 LAWS_HEAD = """# Laws
 
-What follows from the [definitions](DEFINITIONS.md), whatever code meets them, and what crates of code say of their own words. Each law is
-the contract of a public function with an empty body, and proved; a heading has its crate and its file, in the order of `crates.txt`.
-Single cases, computed, are in `crates/spec_examples`, and those of other crates here too, in files named `*examples.rt`. `docs/definitions.py`
-makes this page.
+What follows from the definitions, whatever code meets them, and what crates say of their own words: here the laws that users rely on, by what they
+are for, in their own words. Each is the contract of a public function with an empty body, and proved. `python3 docs/definitions.py --laws` prints all
+of them, and `--write` makes this page; single cases, computed, are in `crates/spec_examples` and in files named `*examples.rt`.
 """
+
+# The laws of docs/LAWS.md, by what they are for.
+CHOSEN = {
+    "For who writes": [
+        "spec_laws::named_versions_are_replaced", "spec_laws::refusals_write_nothing", "spec_laws::answers_are_read", "spec_laws::writes_keep_identity",
+        "spec_laws::statuses_change_nothing_else", "spec_laws::uids_are_given_once", "spec_laws::generations_count",
+    ],
+    "For who lists and watches": [
+        "spec_laws::page_replies_are_lists", "spec_laws::remembered_are_served", "spec_laws::changes_are_applied", "spec_laws::looks_are_one_stream",
+        "spec_laws::initial_streams_are_applied", "reflector::lists_and_watches_are_followed", "list_and_watch::changes_are_given_once",
+    ],
+    "For who deletes": [
+        "spec_laws::deletes_find_their_uid", "spec_laws::deletes_spare_finalizers", "spec_laws::last_finalizers_remove", "spec_laws::no_finalizer_is_added",
+        "spec_laws::collector_spares_live_owners",
+    ],
+    "For who declares": [
+        "spec_laws::only_own_pods_are_deleted", "spec_laws::never_both", "spec_laws::surge_is_never_passed", "spec_laws::taken_leave_fewest",
+        "spec_laws::only_spent_sets_are_deleted", "sim_overshoot_laws::no_overshoot", "sim_rest_plane_laws::nothing_is_left_at_rest",
+        "sim_rest_plane_laws::sets_are_as_declared_at_rest", "sim_rest_plane_laws::deployments_are_rolled_out_at_rest",
+    ],
+    "For who writes a controller": [
+        "keyed_queues::hands_apart", "keyed_queues::nothing_is_lost", "keyed_queues::delays_double", "shared_keyed_board::nothing_is_forgotten",
+        "manager_worker::commands_are_issued_once",
+    ],
+    "For who speaks over connections": [
+        "spec_http::one_thing_is_asked", "spec_http::half_a_body_asks_nothing", "spec_http::cut_replies_are_lost", "api_client::requests_are_asked",
+    ],
+}
 
 
 def text_of(path):
@@ -116,37 +145,60 @@ def laws_of(path):
     return [(name, " ".join(line.removeprefix("///").strip() for line in lines.splitlines())) for lines, name in found]
 
 
-def law_rows():
-    """Returns for each file of laws, crate by crate, its heading, its own sentence, and for each law its name and what it says."""
-    crates, rows = re.findall(r"^(\w+):", text_of(DOCS.parent / "crates.txt"), re.M), []
-    for path in (path for crate in crates for path in sorted((CRATES / crate / "src").glob("*.rt")) if "spec_examples" not in str(path)):
-        if laws := laws_of(path):
-            rows += ["", f"## `{path.parent.parent.name}`, `{path.name}`", "", sentence_of(path), ""]
-            rows += [f"- `{name}`: {sentence}" for name, sentence in laws]
+def all_laws():
+    """Returns the laws of each file that has some, in the order of crates.txt: its crate, the file, and of each law its name and what it says."""
+    crates = re.findall(r"^(\w+):", text_of(DOCS.parent / "crates.txt"), re.M)
+    paths = [path for crate in crates for path in sorted((CRATES / crate / "src").glob("*.rt")) if crate != "spec_examples"]
+    return [(path.parent.parent.name, path, laws) for path in paths if (laws := laws_of(path))]
+
+
+def law_rows(word):
+    """Returns for each file of laws its heading, its own sentence, and for each law its name and what it says; or, with a word, a line for each."""
+    if word:
+        return [line for crate, _, laws in all_laws() for name, said in laws if word in (line := f"{crate}::{name}: {said}")]
+    rows = ["# Laws"]
+    for crate, path, laws in all_laws():
+        rows += ["", f"## `{crate}`, `{path.name}`", "", sentence_of(path), ""]
+        rows += [f"- `{name}`: {said}" for name, said in laws]
     return rows
 
 
-def pages():
-    """Returns both pages by their names."""
+def chosen_page():
+    """Returns the page of the laws to rely on."""
+    said = {f"{crate}::{name}": sentence for crate, _, laws in all_laws() for name, sentence in laws}
+    rows = [LAWS_HEAD.rstrip("\n")]
+    for purpose, names in CHOSEN.items():
+        if missing := [name for name in names if name not in said]:
+            sys.exit(f"there is no law {missing[0]}")
+        rows += ["", f"## {purpose}", "", *(f"- {said[name]} (`{name}`)" for name in names)]
+    return "\n".join(rows) + "\n"
+
+
+def index():
+    """Returns the index of the definitions."""
     used = used_words()
-    words, laws = [HEAD.rstrip("\n")], [LAWS_HEAD.rstrip("\n"), *law_rows()]
+    words = [HEAD.rstrip("\n")]
     for folder in modules_of(SPECS / "Lib.antt"):
         words += folder_rows(folder, used)
     for crate, modules in BESIDE.items():
         words += crate_rows(crate, modules, used)
-    return {"DEFINITIONS.md": "\n".join(words) + "\n", "LAWS.md": "\n".join(laws) + "\n"}
+    return "\n".join(words)
 
 
 def main():
-    """Writes the pages, or says which is not the present one."""
-    if sys.argv[1:] not in ([], ["--check"]):
+    """Prints an index, or writes the page of laws, or says that it is not the present one."""
+    signal.signal(signal.SIGPIPE, signal.SIG_DFL)
+    asked, page = sys.argv[1:], DOCS / "LAWS.md"
+    if not asked:
+        print(index())
+    elif asked[0] == "--laws" and len(asked) < 3:
+        print("\n".join(law_rows("".join(asked[1:]))))
+    elif asked == ["--write"]:
+        page.write_text(chosen_page(), encoding="utf-8")
+    elif asked != ["--check"]:
         sys.exit(__doc__)
-    for name, page in pages().items():
-        path = DOCS / name
-        if not sys.argv[1:]:
-            path.write_text(page, encoding="utf-8")
-        elif not path.exists() or text_of(path) != page:
-            sys.exit(f"docs/{name} is not the present one: run python3 docs/definitions.py")
+    elif index() and (not page.exists() or text_of(page) != chosen_page()):
+        sys.exit(f"docs/{page.name} is not the present one: run python3 docs/definitions.py --write")
 
 
 if __name__ == "__main__":

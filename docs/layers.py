@@ -1,27 +1,21 @@
 #!/usr/bin/env python3
-"""Writes the layers of docs/ARCHITECTURE.md, a picture and a table, and docs/CRATES.md, from crates.txt and the crates' own first lines.
+"""Writes the layers of docs/ARCHITECTURE.md, a picture and a table, from crates.txt.
 
-    python3 docs/layers.py            writes them
-    python3 docs/layers.py --check    changes nothing; the status is 1 where one of them is not the present one
+    python3 docs/layers.py             writes them
+    python3 docs/layers.py --check     changes nothing; the status is 1 where they are not the present ones, or a crate says nothing of itself
+    python3 docs/layers.py --crates    prints each crate in a sentence, the first of its own
 
 A layer is a line `# Name: what its crates are for` of crates.txt, and the crates below it.
 """
 
 import re
+import signal
 import sys
 from pathlib import Path
 
 ROOT = Path(__file__).resolve().parent.parent
 PAGE = ROOT / "docs/ARCHITECTURE.md"
-INDEX = ROOT / "docs/CRATES.md"
 BEGIN, END = "<!-- made by docs/layers.py -->\n", "<!-- end -->\n"
-
-HEAD = """# Crates
-
-What each crate is for, in its own words: the first sentence of `crates/NAME/src/lib.rt`. What the layers are for, and which stands on
-which, is in [ARCHITECTURE.md](ARCHITECTURE.md); which crate uses which is in `crates.txt`. `docs/layers.py` makes this page.
-
-"""
 
 # Layers that no other stands on are left out of the picture.
 ASIDE = ("Examples", "Tests", "Benchmarks")
@@ -87,33 +81,33 @@ def table(found):
     return rows
 
 
-def index(found):
-    """Returns a row for each crate: its layer and what it is for."""
-    rows = ["| Layer | Crate | What it is for |", "|---|---|---|"]
-    for name, (_, crates) in found.items():
-        for place, crate in enumerate(crates):
-            rows.append(f"| {name if place == 0 else ''} | `{crate}` | {job_of(crate)} |")
-    return rows
+def sentences(found):
+    """Returns for each layer what it is for, and of each of its crates a sentence."""
+    for name, (job, crates) in found.items():
+        yield f"# {name}: {job}"
+        yield from (f"{crate}: {job_of(crate)}" for crate in crates)
 
 
-def pages():
-    """Returns the text that each page is to have."""
-    found = layers()
+def page_of(found):
+    """Returns the text that the page is to have."""
     before, rest = PAGE.read_text(encoding="utf-8").split(BEGIN)
     after = rest.split(END, 1)[1]
-    made = "\n".join([*picture(found), "", *table(found)]) + "\n"
-    return {PAGE: before + BEGIN + made + END + after, INDEX: HEAD + "\n".join(index(found)) + "\n"}
+    return before + BEGIN + "\n".join([*picture(found), "", *table(found)]) + "\n" + END + after
 
 
 def main():
-    """Writes the pages, or says which is not the present one."""
-    if sys.argv[1:] not in ([], ["--check"]):
+    """Writes the page, or says that it is not the present one, or prints the crates."""
+    signal.signal(signal.SIGPIPE, signal.SIG_DFL)
+    asked, found = sys.argv[1:], layers()
+    said, text = "\n".join(sentences(found)), page_of(found)
+    if asked == ["--crates"]:
+        print(said)
+    elif not asked:
+        PAGE.write_text(text, encoding="utf-8")
+    elif asked != ["--check"]:
         sys.exit(__doc__)
-    for path, text in pages().items():
-        if not sys.argv[1:]:
-            path.write_text(text, encoding="utf-8")
-        elif not path.exists() or path.read_text(encoding="utf-8") != text:
-            sys.exit(f"docs/{path.name} is not the present one: run python3 docs/layers.py")
+    elif PAGE.read_text(encoding="utf-8") != text:
+        sys.exit(f"docs/{PAGE.name} is not the present one: run python3 docs/layers.py")
 
 
 if __name__ == "__main__":

@@ -1,17 +1,40 @@
 #!/usr/bin/env python3
 """Checks over HTTP what the controllers make of what is declared, with `kcp all`, and with `kcp control` beside a `kcp serve`.
 
-A Deployment is made, rolled, scaled and deleted by each policy, where the script marks pods ready, as a kubelet does; a ReplicaSet adopts
-and releases pods; 20 ReplicaSets are declared at once, undisturbed, while the server is killed and started again, and while a proxy cuts
-connections, and no list of pods ever shows a pod too many of a set; each kind of command is lost once on its way, or its reply; a server is
-started anew behind a proxy, and known as another one; what is not understood is told of, lists that are refused, and a port that wants TLS;
-the controllers end after so many turns; workers are woken though the clock stands still; commands are answered 503 for a while, creates 500
-and others as conflicts, which is told of; live reads of a set are refused; a reply and a watch drip; streams of initial events are given, and
-refused; a stand-in for a Kubernetes API server takes each request of a rollout; watches fall silent; and what comes and goes unseen between two
-lists is made good. Each scenario begins with nothing.
+The script marks pods ready, as a kubelet does, and only once the statuses of the sets are as they are to be after the one before. Each
+scenario begins with nothing:
 
-Nothing has to happen within a certain time but that of `--limit`, which is long. In short, answers and watches are cut, but no requests:
-a controller that cannot know whether a create has arrived waits 300 seconds for the pod.
+    rolls, scales            a Deployment is made and its template changed: at each revision the sets ask for no more pods than the surge lets them, and
+                             no fewer are available than may be; it is scaled to 0 and back, with the same set
+    deleted-in-background, -in-foreground, deleted-with-orphans
+                             in which order what it owns goes, or that it stays
+    owner-unseen, set-unseen, pod-unseen
+                             what comes and goes while a proxy hides its kind, up to a new list, is collected, made again, or replaced
+    shown-owners-are-not-read
+                             a later list causes no live read of objects whose owners are shown
+    adopts-and-releases      a ReplicaSet takes in a pod whose labels match, lets it go when they no longer do, and takes it in again
+    answers-one-line, answers-lines
+                             lines of `kcp all` are answered as requests over HTTP are, and it ends with them
+    many-sets, -many-workers, -server-killed, -connections-cut
+                             20 ReplicaSets of 20 pods at once: no list ever has more than 20 of one, and in the end each has its own
+    restarted-behind-a-proxy, not-understood, lists-refused, no-whole-reply
+                             another server is known as another; what is not understood, refused lists, and a port that wants TLS, are told of, once
+    streams-given, streams-refused
+                             the controllers begin with streams of initial events, and with lists where these are refused
+    commands-lost, commands-lost-hurried
+                             each kind of command is lost once, on its way or its reply; what was declared is there in the end
+    ends-after-turns         controllers end by themselves after as many turns as they are told, and say nothing
+    workers-are-woken        at controllers whose clock stands still, where a worker that is not woken never looks again
+    refused-for-now, conflicts-are-told, failures-are-told
+                             the first commands are answered 503, or 409, or creates 500: each is made again; conflicts and failures are told of, once
+    reads-refused            live reads of one set are refused: the one worker makes and scales another set meanwhile
+    at-a-cluster             a stand-in for a Kubernetes API server takes each request by which a Deployment is made, rolled out and collected
+    drops-are-left           a reply and a watch that drip are given up, with a clock that is 300 times as fast
+    silent-watches, replies-lost
+                             not in short: watches that fall silent are given up after 60 seconds; a part of all replies is lost for a minute
+
+Nothing has to happen within a certain time but that of `--limit`, which is long, and no check depends on which of two threads is faster. In
+short, answers and watches are cut, but no requests: a controller that cannot know whether a create has arrived waits 300 seconds for the pod.
 Usage: run.py --program PATH [--short] [--seed N] [--limit S] [WORD]
   --program PATH   the executable of kcp
   --short          fewer pods, lists and kills, and no requests cut: about a minute in place of thirteen
@@ -24,7 +47,6 @@ import sys
 import time
 
 sys.dont_write_bytecode = True
-sys.path[:0] = [str(pathlib.Path(__file__).resolve().parent)]
 import adoptions
 import cluster_rollouts
 import dripping

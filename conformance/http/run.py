@@ -14,7 +14,8 @@ A case is a file cases/NAME.http. The program begins with nothing and serves the
     < nothing        the connection is closed without a reply
     # ..             a comment
 
-and an empty line stands between two connections.
+and an empty line stands between two connections. The names of cases begin with, or have: head, field, length, type, transfer-coding, method;
+body, pieces, byte-by-byte, half-; watch, streamed.
 Usage: run.py --program PATH [WORD]      WORD: only cases whose name has it
 """
 import argparse

@@ -20,7 +20,7 @@ sys.dont_write_bytecode = True
 HERE = pathlib.Path(__file__).resolve().parent
 sys.path.insert(0, str(HERE.parent))
 import preloading
-import run as replays
+import replays
 
 NO_MEMORY = (
     b'503 {"apiVersion":"v1","code":503,"kind":"Status","message":"no memory","metadata":{},"reason":"ServiceUnavailable","status":"Failure"}\n'

@@ -7,6 +7,13 @@ bytes, and 2,000 changes in windows of several sizes, with exact
 lists and watches from below each window to above the present, whose text is the oracle's. With `--random N` come N schedules of a hundred random
 steps each, whose text is the oracle's; `--oracle` runs nothing, and compares the cases with what the oracle says.
 
+What the names of cases begin with, or have:
+
+    links, cuts, expiries, restarts      cut expire send deliver bookmark stream restart publish
+    plans, workers and their keys        replica-set deployment rollout owner dependent lost-create key revision-of- update-that-
+    names that come again, and rest      made-again-between came-and-went collision loses-the-name names-another
+    windows, lines and sizes             window configuration of-no-form no-step-
+
 The program is built from the sources by `rt try`, which proves nothing; `--program PATH` runs one that is built already.
 Usage: run.py [--program PATH | --oracle] [--random N] [--seed N] [WORD]      WORD: only cases whose name has it
 """
@@ -19,7 +26,7 @@ sys.dont_write_bytecode = True
 HERE = pathlib.Path(__file__).resolve().parent
 sys.path[:0] = [str(HERE.parent), str(HERE)]
 import oracle
-import run
+import replays
 
 CASES = HERE / "cases"
 WORKED = "a-letter-is-cut"
@@ -45,7 +52,7 @@ def cut_after_each_byte():
     made = []
     for count in range(1, len(frame) + 1):
         lines = given.replace(CUT_IN_THE_LETTER, b"deliver configmaps %d\n" % count)
-        made.append(run.Case(f"the-frame-is-cut-after-{count:03}-bytes", lines, wanted if count < len(frame) else taken_whole(wanted)))
+        made.append(replays.Case(f"the-frame-is-cut-after-{count:03}-bytes", lines, wanted if count < len(frame) else taken_whole(wanted)))
     return made
 
 
@@ -69,7 +76,7 @@ def stream_cut_after_each_byte():
     for count in range(1, len("".join(follower.link["initial"]).encode()) + 1):
         cut = ["stream configmaps", "send configmaps 3", f"deliver configmaps {count}", "cut configmaps"]
         given = "".join(f"{line}\n" for line in begin + cut + again).encode()
-        made.append(run.Case(f"the-stream-is-cut-after-{count:03}-bytes", given, oracle.simulate(given)))
+        made.append(replays.Case(f"the-stream-is-cut-after-{count:03}-bytes", given, oracle.simulate(given)))
     return made
 
 
@@ -111,7 +118,7 @@ def random_cases(count, seed):
     """Returns so many random schedules."""
     chosen = random.Random(seed)
     schedules = [random_schedule(chosen) for _ in range(count)]
-    return [run.Case(f"random-{number:05}", given, oracle.simulate(given)) for number, given in enumerate(schedules)]
+    return [replays.Case(f"random-{number:05}", given, oracle.simulate(given)) for number, given in enumerate(schedules)]
 
 
 def change(chosen, server):
@@ -143,7 +150,7 @@ def window_case(window, chosen):
         if number % ASKED_AFTER == 0:
             lines += [f"request {asked}" for asked in looks(chosen, server)]
     given = "".join(f"{line}\n" for line in lines).encode()
-    return run.Case(f"a-window-of-{window:04}-serves-as-a-plain-list", given, oracle.simulate(given))
+    return replays.Case(f"a-window-of-{window:04}-serves-as-a-plain-list", given, oracle.simulate(given))
 
 
 def by_oracle(asked):
@@ -165,10 +172,10 @@ def main():
     chosen = random.Random(asked.seed)
     windows = [window_case(window, chosen) for window in WINDOWS]
     made = cut_after_each_byte() + stream_cut_after_each_byte() + windows + random_cases(asked.random, asked.seed)
-    wanted = run.cases(CASES, "simulate", asked.word) + [case for case in made if asked.word in case.name]
+    wanted = replays.cases(CASES, "simulate", asked.word) + [case for case in made if asked.word in case.name]
     if asked.oracle:
         by_oracle(wanted)
-    run.judge(asked.program, "simulate", wanted)
+    replays.judge(asked.program, "simulate", wanted)
 
 
 if __name__ == "__main__":

@@ -25,12 +25,10 @@ import argparse
 import collections
 import concurrent.futures
 import os
-import pathlib
 import random
 import sys
 
 sys.dont_write_bytecode = True
-sys.path[:0] = [str(pathlib.Path(__file__).resolve().parent)]
 import oracle
 import plane
 from plane import KINDS

@@ -5,9 +5,10 @@ No contract says that a thread gets on, so no prover refuses code whose threads 
 file NAME.edit beside this one takes one waking away (wakings.py says what such a file has). The tree is copied, without what was built, the edit is made in
 the copy, and what has to fail is built without proof and run: a test that passes all the same is named.
 
-Usage: run.py [--plain | --check] [WORD ..]      WORD: only wakings whose names have one of these
+Usage: run.py [--plain | --check | --list] [WORD ..]      WORD: only wakings whose names have one of these
   --plain   takes nothing away: then all these tests have to pass
   --check   runs nothing, and says in a second whether each edit still applies
+  --list    runs nothing, and tells what waits, what ends that, and what fails without
 """
 import argparse
 import pathlib
@@ -94,13 +95,27 @@ def does_apply(waking):
     return not why
 
 
+def listed(asked):
+    """Returns what waits, each with what ends that, and what has to fail where it is taken away."""
+    lines = []
+    for waking in asked:
+        shown = [f"{crate} {' '.join(names)}" for crate, names in waking.tests] + [" ".join(it) for it in waking.scripts]
+        shown += [f"refused: {it}" for it in waking.refused]
+        lines += [f"{waking.waits}", f"    ended by   {waking.ended_by}", f"    shown by   {'; '.join(shown)}   ({waking.name})"]
+    return "\n".join(lines)
+
+
 def main():
     parser = argparse.ArgumentParser(description=__doc__.splitlines()[0])
     parser.add_argument("--plain", action="store_true", help="take nothing away")
     parser.add_argument("--check", action="store_true", help="run nothing")
+    parser.add_argument("--list", action="store_true", help="run nothing, and tell what waits")
     parser.add_argument("words", nargs="*", metavar="WORD")
     given = parser.parse_args()
     asked = wakings.all_wakings(given.words)
+    if given.list:
+        print(listed(sorted(asked, key=lambda it: it.waits)))
+        return
     if given.plain:
         sys.exit(0 if asked and does_pass(asked) else 1)
     went_well = [(does_apply if given.check else does_fail)(it) for it in asked]

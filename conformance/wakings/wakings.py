@@ -1,6 +1,6 @@
 """Reads what ends each wait, and how that is taken away.
 
-NAME.edit has a wait of the table in docs/ARCHITECTURE.md: lines 'waits: TEXT' and 'ended by: TEXT', what is taken away of that; 'crate: NAME', and
+NAME.edit has a wait of the running program: lines 'waits: TEXT' and 'ended by: TEXT', what is taken away of that; 'crate: NAME', and
 the change of its code as in crates/NAME/wrong-code; and what has to fail then, one or more of
 
     tests: CRATE TEST ..        tests of a crate
