@@ -6,9 +6,9 @@ and releases pods; 20 ReplicaSets are declared at once, undisturbed, while the s
 connections, and no list of pods ever shows a pod too many of a set; each kind of command is lost once on its way, or its reply; a server is
 started anew behind a proxy, and known as another one; what is not understood is told of, lists that are refused, and a port that wants TLS;
 the controllers end after so many turns; workers are woken though the clock stands still; commands are answered 503 for a while, creates 500
-and others as conflicts, which is told of; live reads of a set are refused; a reply and a watch drip; streams of initial events are given, and
-refused; a stand-in for a Kubernetes API server takes each request of a rollout; watches fall silent; and what comes and goes unseen between two
-lists is made good. Each scenario begins with nothing.
+and others as conflicts, which is told of; a server that asks to be left alone is asked no sooner, and a quota denies creates; live reads of a
+set are refused; a reply and a watch drip; streams of initial events are given, and refused; a stand-in for a Kubernetes API server takes each
+request of a rollout; watches fall silent; and what comes and goes unseen between two lists is made good. Each scenario begins with nothing.
 
 Nothing has to happen within a certain time but that of `--limit`, which is long. In short, answers and watches are cut, but no requests:
 a controller that cannot know whether a create has arrived waits 300 seconds for the pod.
@@ -30,6 +30,7 @@ import cluster_rollouts
 import dripping
 import hurried
 import losing
+import patience
 import refusing
 import restarting
 import rollouts
@@ -71,6 +72,9 @@ def scenarios(asked):
         "drops-are-left": lambda: dripping.drops_are_left(program),
         "conflicts-are-told": lambda: refusing.conflicts(program),
         "failures-are-told": lambda: refusing.creates_fail(program),
+        "one-key-left-alone": lambda: patience.one_key_left_alone(program),
+        "all-left-alone": lambda: patience.all_left_alone(program),
+        "denials-are-told": lambda: patience.denied(program),
         "streams-given": lambda: streaming.streamed(program),
         "streams-refused": lambda: streaming.streams_refused(program, [400, 422]),
         "owner-unseen": lambda: unseen.owner_unseen(program),
