@@ -27,6 +27,9 @@ scenario begins with nothing:
     workers-are-woken        at controllers whose clock stands still, where a worker that is not woken never looks again
     refused-for-now, conflicts-are-told, failures-are-told
                              the first commands are answered 503, or 409, or creates 500: each is made again; conflicts and failures are told of, once
+    one-key-left-alone, all-left-alone
+                             a server that asks by Retry-After to be left alone, for one set or for all, is asked no sooner
+    denials-are-told         a quota denies creates: told once, with the object and the reason, and once when that is over
     reads-refused            live reads of one set are refused: the one worker makes and scales another set meanwhile
     at-a-cluster             a stand-in for a Kubernetes API server takes each request by which a Deployment is made, rolled out and collected
     drops-are-left           a reply and a watch that drip are given up, with a clock that is 300 times as fast
@@ -52,6 +55,7 @@ import cluster_rollouts
 import dripping
 import hurried
 import losing
+import patience
 import refusing
 import restarting
 import rollouts
@@ -93,6 +97,9 @@ def scenarios(asked):
         "drops-are-left": lambda: dripping.drops_are_left(program),
         "conflicts-are-told": lambda: refusing.conflicts(program),
         "failures-are-told": lambda: refusing.creates_fail(program),
+        "one-key-left-alone": lambda: patience.one_key_left_alone(program),
+        "all-left-alone": lambda: patience.all_left_alone(program),
+        "denials-are-told": lambda: patience.denied(program),
         "streams-given": lambda: streaming.streamed(program),
         "streams-refused": lambda: streaming.streams_refused(program, [400, 422]),
         "owner-unseen": lambda: unseen.owner_unseen(program),

@@ -35,7 +35,7 @@ all_added_sound ks w s = runs_are_sound w (list_map queues.add ks) s
 step_sound : (b : Board) (e : Step) → IsSound b.work → IsSound (after b e).work
 step_sound b (take k) s = after-sound b.work queues.get s
 step_sound b (finish k) s = after-sound b.work (queues.finish k) s
-step_sound b (requeue k ss) s = after-sound b.work (queues.finish k) s
+step_sound b (requeue k ss least) s = after-sound b.work (queues.finish k) s
 step_sound b (observe ss ks) s = all_added_sound ks b.work s
 step_sound b (expect_creations o n) s = s
 step_sound b (expect_deletions o pods) s = s
@@ -110,9 +110,9 @@ hands_after h name (take k) s may =
 hands_after h name (finish k) s may =
     subst (AreHands (hand (h ++ (name, finish k) ∷ []))) (sym (done_holds k (board h).work (s.hands.processed name k may.1)))
     (emptied_hands work_key_cmp work_key_total work_key_tells (hand h) (hand (h ++ (name, finish k) ∷ [])) (board h).work.processing s.hands name k may.1 (hand_here h name (finish k)) (hand_else h name (finish k)))
-hands_after h name (requeue k ss) s may =
-    subst (AreHands (hand (h ++ (name, requeue k ss) ∷ []))) (sym (done_holds k (board h).work (s.hands.processed name k may.1)))
-    (emptied_hands work_key_cmp work_key_total work_key_tells (hand h) (hand (h ++ (name, requeue k ss) ∷ [])) (board h).work.processing s.hands name k may.1 (hand_here h name (requeue k ss)) (hand_else h name (requeue k ss)))
+hands_after h name (requeue k ss least) s may =
+    subst (AreHands (hand (h ++ (name, requeue k ss least) ∷ []))) (sym (done_holds k (board h).work (s.hands.processed name k may.1)))
+    (emptied_hands work_key_cmp work_key_total work_key_tells (hand h) (hand (h ++ (name, requeue k ss least) ∷ [])) (board h).work.processing s.hands name k may.1 (hand_here h name (requeue k ss least)) (hand_else h name (requeue k ss least)))
 hands_after h name (observe ss ks) s may =
     subst (AreHands (hand (h ++ (name, observe ss ks) ∷ []))) (sym (all_added_holds ks (board h).work)) (hands_stay h name (observe ss ks) s (hand_here h name (observe ss ks)))
 hands_after h name (expect_creations o n) s may = hands_stay h name (expect_creations o n) s (hand_here h name (expect_creations o n))

@@ -126,9 +126,9 @@ pub key_finished : (h : List (ℕ × Step)) (made : List Step) (name : ℕ) (cha
     → in_hand (made ++ entries (marked name change)) ≡ None
 key_finished h made name change k can is mine entry = emptied (board h) made name change (finish k) k refl (λ m. refl) (in_process h name made k can is mine) entry
 
-pub key_requeued : (h : List (ℕ × Step)) (made : List Step) (name : ℕ) (change : Option Step) (k : WorkKey) (ss : List Observation) → CanHappen MayFollow h → made_by name h ≡ made → in_hand made ≡ Some k → change ≡ changing (requeue k ss) (board h)
+pub key_requeued : (h : List (ℕ × Step)) (made : List Step) (name : ℕ) (change : Option Step) (k : WorkKey) (ss : List Observation) (least : ℕ) → CanHappen MayFollow h → made_by name h ≡ made → in_hand made ≡ Some k → change ≡ changing (requeue k ss least) (board h)
     → in_hand (made ++ entries (marked name change)) ≡ None
-key_requeued h made name change k ss can is mine entry = emptied (board h) made name change (requeue k ss) k refl (λ m. refl) (in_process h name made k can is mine) entry
+key_requeued h made name change k ss least can is mine entry = emptied (board h) made name change (requeue k ss least) k refl (λ m. refl) (in_process h name made k can is mine) entry
 
 -- ---- a whole call
 

@@ -28,7 +28,7 @@ observation_code = code_by (Owner ⊎ (Owner × List ℕ)) (coded⊎ owner_code 
 
 -- the steps of a worker's turn, and the others
 abbrev TurnSteps : Type 0
-TurnSteps = WorkKey ⊎ (WorkKey ⊎ (WorkKey × List Observation))
+TurnSteps = WorkKey ⊎ (WorkKey ⊎ (WorkKey × (List Observation × ℕ)))
 
 abbrev OtherSteps : Type 0
 OtherSteps = (List Observation × List WorkKey) ⊎ ((Owner × ℕ) ⊎ ((Owner × List (List ℕ)) ⊎ (Key ⊎ ℕ)))
@@ -36,7 +36,7 @@ OtherSteps = (List Observation × List WorkKey) ⊎ ((Owner × ℕ) ⊎ ((Owner 
 abbrev step_cases : Step → TurnSteps ⊎ OtherSteps
 step_cases (take k) = inl (inl k)
 step_cases (finish k) = inl (inr (inl k))
-step_cases (requeue k ss) = inl (inr (inr (k, ss)))
+step_cases (requeue k ss least) = inl (inr (inr (k, (ss, least))))
 step_cases (observe ss ks) = inr (inl (ss, ks))
 step_cases (expect_creations o n) = inr (inr (inl (o, n)))
 step_cases (expect_deletions o pods) = inr (inr (inr (inl (o, pods))))
@@ -46,7 +46,7 @@ step_cases (tick n) = inr (inr (inr (inr (inr n))))
 abbrev step_from : TurnSteps ⊎ OtherSteps → Step
 step_from (inl (inl k)) = take k
 step_from (inl (inr (inl k))) = finish k
-step_from (inl (inr (inr p))) = requeue p.0 p.1
+step_from (inl (inr (inr p))) = requeue p.0 p.1.0 p.1.1
 step_from (inr (inl p)) = observe p.0 p.1
 step_from (inr (inr (inl p))) = expect_creations p.0 p.1
 step_from (inr (inr (inr (inl p)))) = expect_deletions p.0 p.1
@@ -56,7 +56,7 @@ step_from (inr (inr (inr (inr (inr n))))) = tick n
 pub step_back : (e : Step) → step_from (step_cases e) ≡ e
 step_back (take k) = refl
 step_back (finish k) = refl
-step_back (requeue k ss) = refl
+step_back (requeue k ss least) = refl
 step_back (observe ss ks) = refl
 step_back (expect_creations o n) = refl
 step_back (expect_deletions o pods) = refl
@@ -64,7 +64,7 @@ step_back (forget k) = refl
 step_back (tick n) = refl
 
 abbrev turn_code : Coded TurnSteps
-turn_code = coded⊎ coded_work_key (coded⊎ coded_work_key (coded× coded_work_key (coded_list observation_code)))
+turn_code = coded⊎ coded_work_key (coded⊎ coded_work_key (coded× coded_work_key (coded× (coded_list observation_code) coded_ℕ)))
 
 abbrev other_code : Coded OtherSteps
 other_code =

@@ -1,17 +1,19 @@
 -- The steps of a board, what each makes of it, and which key a worker's own steps leave in its hands.
 use Rattle.std.specs.Prelude.{◌≡◌, ◌==◌, ◌&&◌, ℕ, List, [], ◌∷◌, Bool, true, false, Option, Some, None, if◌then◌else◌}
 use base.Stored.{Gv, gnil, gnum, gcons}
-use Rattle.spec_client_go.specs.Boards.{Board, Observation, taken, finished, requeued, observed, expecting_creations, expecting_deletions, forgotten, ticked}
+use Rattle.spec_client_go.specs.Boards.{Board, Observation, taken, finished, observed, expecting_creations, expecting_deletions, forgotten, ticked}
+use Rattle.work_board.specs.Later.{requeued_after}
 use Rattle.work_board.specs.Seen.{board_code}
 use Rattle.spec_client_go.specs.Expectations.{Owner}
 use Rattle.spec_client_go.specs.WorkQueues.{WorkKey, handed}
 use Rattle.spec_api.specs.Keys.{Key}
 
--- a key is taken, is done, or failed and is to be tried again; a change is handled; pods are expected, or no longer; time passes
+-- a key is taken, is done, or failed and is to be tried again, after its delay and at least so many milliseconds; a change is handled; pods are expected, or
+-- no longer; time passes
 pub data Step : Type 0 where
   take : WorkKey → Step
   finish : WorkKey → Step
-  requeue : WorkKey → List Observation → Step
+  requeue : WorkKey → List Observation → ℕ → Step
   observe : List Observation → List WorkKey → Step
   expect_creations : Owner → ℕ → Step
   expect_deletions : Owner → List (List ℕ) → Step
@@ -21,7 +23,7 @@ pub data Step : Type 0 where
 abbrev pub after : Board → Step → Board
 after b (take k) = taken b
 after b (finish k) = finished k b
-after b (requeue k ss) = requeued k ss b
+after b (requeue k ss least) = requeued_after k ss least b
 after b (observe ss ks) = observed ss ks b
 after b (expect_creations o n) = expecting_creations o n b
 after b (expect_deletions o pods) = expecting_deletions o pods b
@@ -66,7 +68,7 @@ taking b = taking_of (handed b.work) b
 abbrev pub in_hand_after : Option WorkKey → Step → Option WorkKey
 in_hand_after mine (take k) = Some k
 in_hand_after mine (finish k) = None
-in_hand_after mine (requeue k ss) = None
+in_hand_after mine (requeue k ss least) = None
 in_hand_after mine (observe ss ks) = mine
 in_hand_after mine (expect_creations o n) = mine
 in_hand_after mine (expect_deletions o pods) = mine
@@ -85,7 +87,7 @@ in_hand es = in_hand_from None es
 abbrev pub IsAllowed : Option WorkKey → Board → Step → Type 0
 IsAllowed mine b (take k) = (mine ≡ None) × (handed b.work ≡ Some k)
 IsAllowed mine b (finish k) = mine ≡ Some k
-IsAllowed mine b (requeue k ss) = mine ≡ Some k
+IsAllowed mine b (requeue k ss least) = mine ≡ Some k
 IsAllowed mine b (observe ss ks) = Unit {0}
 IsAllowed mine b (expect_creations o n) = Unit {0}
 IsAllowed mine b (expect_deletions o pods) = Unit {0}

@@ -90,13 +90,37 @@ impl ControlDesk {
         requires mine { key_in_hand pass.old ≡ Some (work_key_of key.now) }
         ensures pass { IsPassAt self.now pass.new }
         ensures step { IsCall (known pass.old)
-            (λ b. once_ok result (changing (requeue (work_key_of key.now) (map observation_of undone.now)) b))
+            (λ b. once_ok result (changing (requeue (work_key_of key.now) (map observation_of undone.now) 0) b))
+            Nothing (known pass.new) }
+        ensures key { OnOk result (key_in_hand pass.new ≡ None) }
+        ensures still { OnErr result (key_in_hand pass.new ≡ key_in_hand pass.old) }
+    {
+        self.requeue_after(rt, pass, key, undone, 0)
+    }
+
+    /// Gives back the key in the hands of the pass, which failed: it waits for its delay, and for at least so many milliseconds, and
+    /// what was not done is expected no longer. Where a change adds the key meanwhile it is handed out before, and so is one that was
+    /// delayed to an earlier moment. The error is running out of memory, and gives nothing back: the key is still in the hands of the
+    /// pass.
+    pub fn requeue_after<R: Wait>(
+        &self,
+        rt: &R,
+        pass: &mut WorkPass,
+        key: &WorkKey,
+        undone: &[Observation],
+        least: u32,
+    ) -> Result<(), AllocError>
+        requires pass { IsPassAt self.now pass.old }
+        requires mine { key_in_hand pass.old ≡ Some (work_key_of key.now) }
+        ensures pass { IsPassAt self.now pass.new }
+        ensures step { IsCall (known pass.old)
+            (λ b. once_ok result (changing (requeue (work_key_of key.now) (map observation_of undone.now) least) b))
             Nothing (known pass.new) }
         ensures key { OnOk result (key_in_hand pass.new ≡ None) }
         ensures still { OnErr result (key_in_hand pass.new ≡ key_in_hand pass.old) }
     {
         let held = self.take(rt, pass);
-        self.requeue_held::<Brand, R>(rt, pass, held, key, undone)
+        self.requeue_held::<Brand, R>(rt, pass, held, key, undone, least)
     }
 
     /// Compares what two passes know of one another: one has seen all that the other has, and in it stands what both made. No key
@@ -188,18 +212,19 @@ impl ControlDesk {
         held: Held<Board>,
         key: &WorkKey,
         undone: &[Observation],
+        least: u32,
     ) -> Result<(), AllocError>
         requires pass { IsHolding self.now pass.old held }
         requires mine { key_in_hand pass.old ≡ Some (work_key_of key.now) }
         requires entry { M.entry
-            ≡ changing (requeue (work_key_of key.now) (map observation_of undone.now)) (board (known pass.old).seen) }
+            ≡ changing (requeue (work_key_of key.now) (map observation_of undone.now) least) (board (known pass.old).seen) }
         ensures pass { IsPassAt self.now pass.new }
         ensures key { OnOk result (key_in_hand pass.new ≡ None) }
         ensures still { OnErr result (key_in_hand pass.new ≡ key_in_hand pass.old) }
         ensures known { known pass.new ≡ after_give (known pass.old) (once_ok result M.entry) }
     {
         let mut held = held;
-        match steps::requeue(&mut held, key, undone) {
+        match steps::requeue(&mut held, key, undone, least) {
             Ok(()) => {
                 self.baton.give::<M, R>(rt, pass, held);
                 Ok(())

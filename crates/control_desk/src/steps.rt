@@ -1,6 +1,7 @@
 //! The steps of a board that a pass holds.
 ghost use Rattle.std.specs.Prelude.{◌≡◌, IfOk, OnOk, OnErr, map, option_map, string_bytes};
-ghost use Rattle.spec_client_go.specs.Boards.{taken, finished, requeued, observed, expecting_creations, expecting_deletions, forgotten, may_tick, ticked};
+ghost use Rattle.spec_client_go.specs.Boards.{taken, finished, observed, expecting_creations, expecting_deletions, forgotten, may_tick, ticked};
+ghost use Rattle.work_board.specs.Later.{requeued_after};
 ghost use Rattle.work_board.specs.Seen.{owner_of, observation_of};
 ghost use Rattle.spec_client_go.specs.WorkQueues.{handed};
 ghost use Rattle.object_keys.specs.Keys.{key_of};
@@ -32,11 +33,12 @@ pub(crate) fn requeue(
     held: &mut Held<Board>,
     key: &WorkKey,
     undone: &[Observation],
+    least: u32,
 ) -> Result<(), AllocError>
-    ensures ok { OnOk result (held.new ≡ requeued (work_key_of key.now) (map observation_of undone.now) held.old) }
+    ensures ok { OnOk result (held.new ≡ requeued_after (work_key_of key.now) (map observation_of undone.now) least held.old) }
     ensures err { OnErr result (held.new ≡ held.old) }
 {
-    held.get_mut().requeue(key, undone)
+    held.get_mut().requeue_after(key, undone, least)
 }
 
 /// Notes what a change shows of the pods that are expected, and adds the keys that it owes.

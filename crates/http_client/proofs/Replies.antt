@@ -8,6 +8,7 @@ use Rattle.chunked.specs.Bodies.{IsBodyWithin}
 use Rattle.chunked.specs.Reading.{longest_line}
 use Rattle.spec_http.specs.Answers.{Replied, Says, HasLength, IsChunked, fields_of, transfer_codings}
 use Rattle.http_client.specs.Heads.{BeginsWithNoHead, SaysNothing, IsFramed, IsHeadOf}
+use Rattle.http_client.specs.Patience.{AsksPatience}
 use Rattle.http_client.specs.Reading.{IfKnown, IsShorterThan, ReadsHead, ReadsLongerHead}
 use Rattle.http_client.specs.Bodies.{ReadsBody, HasNoBody, HasLongBody, IsStatedWithin}
 use Rattle.http_client.specs.Replies.{ReadsReply, SaysInChunks, SaysWhole, SaysNoReply, IsNoBody, IsLonger}
@@ -139,6 +140,13 @@ pub whole_says : (most : ℕ) (before mid : Option (List ℕ)) (head : ReplyHead
     → IfKnown before (λ bytes. SaysWhole bytes r)
 whole_says most None mid head r read body same = tt
 whole_says most (Some xs) mid head r read body same = whole_by most head.framing xs mid head r read refl body same
+
+-- a head that was read says for how long its server asks to be left alone
+pub patience_says : (most : ℕ) (before mid : Option (List ℕ)) (head : ReplyHead) (wait : Option ℕ) → HeadRead most before mid head → wait ≡ head.retry_after
+    → IfKnown before (λ bytes. AsksPatience bytes wait)
+patience_says most None mid head wait read same = tt
+patience_says most (Some xs) None head wait (h, reads, of) same = absurd reads.2
+patience_says most (Some xs) (Some ys) head wait (h, (well, limits, read), of) same = (h, ys, (well, read), limits, same ∙ of.2)
 
 -- without a head
 headless : (xs : List ℕ) (r : Replied) → BeginsWithNoHead xs → SaysWhole xs r → ⊥

@@ -4,6 +4,7 @@ use Rattle.std.specs.Str.{str_eq_ignore_ascii_case}
 use Rattle.httparse.specs.Grammar.{ResponseHead, ReadsResponse, status_code}
 use Rattle.spec_http.specs.Heads.{Field, values_of, length_in}
 use Rattle.spec_http.specs.Answers.{Replied, Says, IsWithinLimits, HasLength, fields_of}
+use Rattle.http_client.specs.Patience.{retry_after}
 use Rattle.http_client.specs.declared.framing.Framing.{Framing}
 use Rattle.http_client.specs.declared.framing.Framing.TheVariants as framing
 use Rattle.http_client.specs.declared.reply_head.ReplyHead.{ReplyHead}
@@ -45,4 +46,4 @@ IsFramed most fields framing.Other =
 
 -- what counts of a head, where so many bytes of a body are read at most
 abbrev pub IsHeadOf : ℕ → ResponseHead → ReplyHead → Type 0
-IsHeadOf most h r = (status_code h ≡ r.code) × IsFramed most (fields_of h) r.framing
+IsHeadOf most h r = (status_code h ≡ r.code) × IsFramed most (fields_of h) r.framing × (r.retry_after ≡ retry_after (fields_of h))

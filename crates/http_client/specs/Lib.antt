@@ -1,4 +1,5 @@
 -- The definitions, in reading order.
+pub mod Patience
 pub mod Heads
 pub mod Reading
 pub mod Replies

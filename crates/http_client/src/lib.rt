@@ -13,6 +13,7 @@ pub mod limit;
 pub mod more;
 pub mod opening;
 pub mod outgoing;
+pub mod patience;
 pub mod reading;
 pub mod reply;
 pub mod reply_head;

@@ -3,6 +3,7 @@ ghost use Rattle.std.specs.Prelude.{◌≡◌, ◌≤◌, IfOk, IfErr, vec_len, 
 ghost use Rattle.chunked.specs.Devices.{device_of, has_failed};
 ghost use Rattle.spec_http.specs.Answers.{Says};
 ghost use Rattle.http_client.specs.Heads.{SaysNothing};
+ghost use Rattle.http_client.specs.Patience.{AsksPatience};
 ghost use Rattle.http_client.specs.Replies.{replied, ReadsReply};
 ghost use Rattle.http_client.specs.Reading.{IsWatched, IfKnown, ReadsLongerHead};
 ghost use Rattle.http_client.specs.declared.fault.ReplyFault.TheVariants as fault;
@@ -20,6 +21,8 @@ use std::io::Read;
 pub struct HttpReply {
     /// The status code.
     pub code: u16,
+    /// How many seconds the server asks to be left alone, if it asks that: 3,600 where it asks for more (RFC 9110, Retry-After).
+    pub retry_after: Option<u16>,
     pub body: Vec<u8>,
 }
 
@@ -36,6 +39,7 @@ pub fn read_reply<R: Read + Drop>(
 ) -> Result<HttpReply, ReplyFault>
     ensures says { IfOk result (λ r. IfKnown (R.remaining (device_of reader.old)) (λ bytes. Says bytes (replied r))) }
     ensures read { IfOk result (λ r. ReadsReply (R.remaining (device_of reader.old)) (R.remaining (device_of reader.new)) (replied r)) }
+    ensures patience { IfOk result (λ r. IfKnown (R.remaining (device_of reader.old)) (λ bytes. AsksPatience bytes r.retry_after)) }
     ensures within { IfOk result (λ r. vec_len r.body ≤ most) }
     ensures long { IfErr result (λ f. f ≡ fault.TooLong → ReadsLongerHead most (R.remaining (device_of reader.old)) (R.remaining (device_of reader.new))) }
     ensures none { IfErr result (λ f. f ≡ fault.NotAReply → IfKnown (R.remaining (device_of reader.old)) SaysNothing) }
@@ -53,6 +57,7 @@ pub fn read_reply<R: Read + Drop>(
         Framing::Length(size) => match read_body(alloc, reader, size) {
             Ok(body) => Ok(HttpReply {
                 code: head.code,
+                retry_after: head.retry_after,
                 body,
             }),
             Err(fault) => Err(fault),

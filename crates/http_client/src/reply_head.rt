@@ -9,6 +9,7 @@ ghost use Rattle.http_client.specs.declared.fault.ReplyFault.TheVariants as faul
 
 use crate::fault::ReplyFault;
 use crate::framing::{Framing, framing_of};
+use crate::patience::retry_after_of;
 use crate::reading::find_head;
 use chunked::Watched;
 use http_request_head::reading::MOST_FIELDS;
@@ -24,6 +25,8 @@ pub struct ReplyHead {
     pub code: u16,
     /// How the end of the body is known.
     pub framing: Framing,
+    /// How many seconds the server asks to be left alone, if it asks that (RFC 9110, Retry-After).
+    pub retry_after: Option<u16>,
 }
 
 /// Returns what counts of the head that was found at the front of these bytes.
@@ -41,6 +44,7 @@ fn head_of(
     Ok(ReplyHead {
         code: found.code,
         framing: framing_of(&fields, most),
+        retry_after: retry_after_of(&fields),
     })
 }
 

@@ -2,6 +2,7 @@
 ghost use Rattle.std.specs.Prelude.{◌≡◌, ◌≤◌, IfOk, IfErr, vec_len, true, false, Err};
 ghost use Rattle.chunked.specs.Devices.{device_of, has_failed};
 ghost use Rattle.http_client.specs.Bodies.{ReadsBody, HasNoBody, HasLongBody, IsStatedWithin};
+ghost use Rattle.http_client.specs.Patience.{AsksPatience};
 ghost use Rattle.http_client.specs.Replies.{replied, SaysWhole, SaysNoReply, IsLonger};
 ghost use Rattle.http_client.specs.Reading.{IfKnown};
 ghost use Rattle.http_client.specs.declared.fault.ReplyFault.TheVariants as fault;
@@ -90,6 +91,7 @@ pub fn read_whole<R: Read + Drop>(
     most: u32,
 ) -> Result<HttpReply, ReplyFault>
     ensures says { IfOk result (λ r. IfKnown (R.remaining (device_of reader)) (λ bytes. SaysWhole bytes (replied r))) }
+    ensures patience { IfOk result (λ r. IfKnown (R.remaining (device_of reader)) (λ bytes. AsksPatience bytes r.retry_after)) }
     ensures within { IfOk result (λ r. vec_len r.body ≤ most) }
     ensures long { IfErr result (λ f. f ≡ fault.TooLong → IfKnown (R.remaining (device_of reader)) (IsLonger most)) }
     ensures none { IfErr result (λ f. f ≡ fault.NotAReply → IfKnown (R.remaining (device_of reader)) SaysNoReply) }
@@ -106,6 +108,7 @@ pub fn read_whole<R: Read + Drop>(
     match body_framed(alloc, reader, head.framing, most) {
         Ok(body) => Ok(HttpReply {
             code: head.code,
+            retry_after: head.retry_after,
             body,
         }),
         Err(fault) => Err(fault),

@@ -36,6 +36,42 @@ const LENGTHS: [(&[u8], ReplyFault); 4] = [
     ),
 ];
 
+/// Refusals that ask for patience, or not, and for how many seconds (RFC 9110, Retry-After): a date is not understood, and the first field counts.
+const WAITS: [(&[u8], Option<u16>); 8] = [
+    (
+        b"HTTP/1.1 429 Too Many Requests\r\nRetry-After: 120\r\nContent-Length: 0\r\n\r\n",
+        Some(120),
+    ),
+    (
+        b"HTTP/1.1 503 Service Unavailable\r\nContent-Length: 0\r\nretry-after:0\r\n\r\n",
+        Some(0),
+    ),
+    (
+        b"HTTP/1.1 429 Too Many Requests\r\nRETRY-AFTER: 99999999999999999999999999\r\nContent-Length: 0\r\n\r\n",
+        Some(3600),
+    ),
+    (
+        b"HTTP/1.1 429 Too Many Requests\r\nRetry-After: Fri, 31 Dec 1999 23:59:59 GMT\r\nContent-Length: 0\r\n\r\n",
+        None,
+    ),
+    (
+        b"HTTP/1.1 429 Too Many Requests\r\nRetry-After: -1\r\nContent-Length: 0\r\n\r\n",
+        None,
+    ),
+    (
+        b"HTTP/1.1 429 Too Many Requests\r\nRetry-After:\r\nContent-Length: 0\r\n\r\n",
+        None,
+    ),
+    (
+        b"HTTP/1.1 429 Too Many Requests\r\nRetry-After: 3601\r\nRetry-After: 1\r\nContent-Length: 0\r\n\r\n",
+        Some(3600),
+    ),
+    (
+        b"HTTP/1.1 429 Too Many Requests\r\nContent-Length: 0\r\n\r\n",
+        None,
+    ),
+];
+
 /// Returns the code and the length of the body of the reply that a source gives, and how many bytes are left.
 fn reply(alloc: Global, source: Source<'_>) -> Result<(u16, usize, usize), ReplyFault> {
     let mut reader = Watched::new(source);
@@ -151,4 +187,21 @@ fn first_unlike(alloc: Global) -> Option<u64> {
 #[test]
 fn failures_are_the_readers_and_interruptions_are_none(rt: HostRuntime) {
     assert_eq!(rt; first_unlike(rt.alloc()), None);
+}
+
+/// Returns the first of the refusals that is not read to ask for as much patience as it does.
+fn first_misread(alloc: Global) -> Option<usize> {
+    for (place, &(text, seconds)) in WAITS.iter().enumerate() {
+        match read_whole(alloc, Watched::new(Source::new(text, 100)), LARGEST_BODY) {
+            Ok(reply) if reply.retry_after == seconds => {}
+            Ok(_) => return Some(place),
+            Err(_) => return Some(place),
+        }
+    }
+    None
+}
+
+#[test]
+fn patience_is_read(rt: HostRuntime) {
+    assert_eq!(rt; first_misread(rt.alloc()), None);
 }

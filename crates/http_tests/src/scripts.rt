@@ -32,7 +32,11 @@ fn replied(alloc: Global, code: u16, body: &str) -> Answer {
     if body.is_empty() || bytes.extend_from_slice(body.as_bytes()).is_err() {
         return Answer::Lost;
     }
-    Answer::Replied(HttpReply { code, body: bytes })
+    Answer::Replied(HttpReply {
+        code,
+        retry_after: None,
+        body: bytes,
+    })
 }
 
 /// Answers lists, first objects and watches in their order, and then no more. What is empty is lost.

@@ -11,7 +11,7 @@ use Rattle.kcp_loopback.specs.Told.{Tells, TellsResult}
 
 -- a client that is told of what a site answers is told of an outcome that is so
 pub told : (is_so : Outcome → Type 0) (r : Result Reply Fault) (a : Answer) → sites.Tells is_so r → TellsResult r a → (o : Outcome) × is_so o × Tells o a
-told is_so (Ok r) (Replied p) (x, says, so) (code, text) = (answered x, so, (code ∙ sym says.code, text ∙ says.text))
+told is_so (Ok r) (Replied p) (x, says, so) (code, text, patience) = (answered x, so, (code ∙ sym says.code, text ∙ says.text, patience))
 told is_so (Ok r) NotSent so tells = absurd tells
 told is_so (Ok r) Lost so tells = absurd tells
 told is_so (Err e) a so tells = (refused (refusal_of e), so, tells.0)

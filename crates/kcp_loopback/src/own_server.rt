@@ -48,6 +48,7 @@ pub fn answer_of(alloc: Global, outcome: Result<reply::Reply, Fault>) -> Answer
     };
     Answer::Replied(http_client::HttpReply {
         code: reply.code,
+        retry_after: None,
         body: reply.text.into_bytes(),
     })
 }

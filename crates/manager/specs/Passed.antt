@@ -5,7 +5,7 @@ use Rattle.control_desk.specs.Steps.{Step, take, finish, requeue, observe, expec
 abbrev pub milliseconds_of : Step → ℕ
 milliseconds_of (take k) = 0
 milliseconds_of (finish k) = 0
-milliseconds_of (requeue k ss) = 0
+milliseconds_of (requeue k ss least) = 0
 milliseconds_of (observe ss ks) = 0
 milliseconds_of (expect_creations o n) = 0
 milliseconds_of (expect_deletions o pods) = 0

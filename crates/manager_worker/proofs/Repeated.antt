@@ -18,6 +18,7 @@ use Rattle.reconcile_turn.specs.declared.answers.CommandAnswer.{CommandAnswer}
 use Rattle.reconcile_turn.proofs.Steps.{step_by}
 use Rattle.manager_worker.proofs.Untouched.{given_up, added, noted}
 use Rattle.manager_worker.specs.Learning.{AsksIf, AsksOnce, LearnsOf}
+use Rattle.manager_worker.specs.Patience.{Hears}
 use Rattle.manager_worker.specs.Repeating.{may_be_done, answer_if, answer_again, AreIssuedOnce, AreIssuedInOrder}
 use Rattle.manager_worker.specs.Stepping.{InTurn, Notes, Issues, Takes, Reaches, none, more, sees}
 use Rattle.manager_worker.specs.declared.answers.Learnt.TheVariants as learnt
@@ -30,7 +31,7 @@ is_503 : (code : ℕ) → code ≡ 503 → not (nat_eq code 503) ≡ false
 is_503 code is = rw is refl
 
 undone : (a : client.Answer) → LearnsOf a learnt.Again → may_be_done a ≡ false
-undone (outcome.Replied r) is = is_503 r.code is
+undone (outcome.Replied r) is = is_503 r.code is.0
 undone outcome.NotSent is = refl
 undone outcome.Lost is = absurd (cc)
 
@@ -135,4 +136,4 @@ module _ {L A : Type 0} (shows : L → Kind → Option Snapshot → L → Type 0
   stay (sees m w reached seen) = stay reached
 
   pub issued_in_order : AreIssuedInOrder shows answers
-  issued_in_order = record { once = issued_once answers; stay = λ s z reached. stay reached; next = next_issued }
+  issued_in_order = record { once = issued_once (Hears answers); stay = λ s z reached. stay reached; next = next_issued }

@@ -13,6 +13,7 @@ use Rattle.spec_sim.specs.NextSteps.{NextStep, next, look, ask_satisfied, read, 
 use Rattle.http_client.specs.declared.answer.Answer as client
 use Rattle.control_desk.specs.Steps.{Step}
 use Rattle.manager_worker.specs.Ending.{giving_back, course_of, is_over, Makes, Follows, at_end, given_up, Advances}
+use Rattle.manager_worker.specs.Patience.{Hears}
 use Rattle.manager_worker.specs.Stepping.{InTurn, in_turn, OnlySees, Takes, Steps, Reaches, none, more, sees, is_going}
 use Rattle.manager_worker.specs.declared.steps.Progress.{Progress}
 use Rattle.manager_worker.specs.declared.steps.Progress.TheVariants as progress
@@ -37,7 +38,7 @@ module _ {L A : Type 0} (shows : L → Kind → Option Snapshot → L → Type 0
   gave_up_at s z (look k) at takes = absurd takes.0
   gave_up_at s z ask_satisfied at takes = absurd takes.0
   gave_up_at s z (read k) at takes =
-      ((k, at), ((untouched.given_up takes.0.0 k s.turn z.turn takes.0.2, at_most answers k s.api z.api takes.0.0 takes.0.1), takes.1, takes.2))
+      ((k, at), ((untouched.given_up takes.0.0 k s.turn z.turn takes.0.2, at_most (Hears answers) k s.server z.server takes.0.0 takes.0.1), takes.1, takes.2))
   gave_up_at s z (expect e) at takes = absurd takes.0
   gave_up_at s z (issue x) at takes = absurd takes.0
   gave_up_at s z finish at takes = let other : progress.GivenUp ≡ progress.AtEnd = takes.0 in absurd (cc)
@@ -46,22 +47,22 @@ module _ {L A : Type 0} (shows : L → Kind → Option Snapshot → L → Type 0
   gave_up s z takes = gave_up_at s z (next s.turn) refl takes
 
   went_on : (k : WorkKey) (s u : InTurn L A) (p : Progress) (w : Known Board Step) (c : Course) → is_going p ≡ true → Steps shows answers s u p
-      → c ≡ course.GoesOn → w ≡ u.known → Advances shows answers k s (in_turn u.turn u.listers u.api w) c
+      → c ≡ course.GoesOn → w ≡ u.known → Advances shows answers k s (in_turn u.turn u.listers u.server w) c
   went_on k s u p w course.GoesOn going takes e same =
-      let reaches : Known Board Step → Type 0 = λ v. Reaches shows answers s (in_turn u.turn u.listers u.api v) in
+      let reaches : Known Board Step → Type 0 = λ v. Reaches shows answers s (in_turn u.turn u.listers u.server v) in
       subst reaches (sym same) (more s u p none takes going)
   went_on k s u p w course.Over going takes e same = absurd (cc)
   went_on k s u p w course.CutShort going takes e same = absurd (cc)
 
   was_cut : (k : WorkKey) (s u : InTurn L A) (w : Known Board Step) (c : Course) → Steps shows answers s u progress.CutShort
-      → c ≡ course.CutShort → w ≡ u.known → Advances shows answers k s (in_turn u.turn u.listers u.api w) c
+      → c ≡ course.CutShort → w ≡ u.known → Advances shows answers k s (in_turn u.turn u.listers u.server w) c
   was_cut k s u w course.CutShort takes e same =
-      let steps : Known Board Step → Type 0 = λ v. Steps shows answers s (in_turn u.turn u.listers u.api v) progress.CutShort in subst steps (sym same) takes
+      let steps : Known Board Step → Type 0 = λ v. Steps shows answers s (in_turn u.turn u.listers u.server v) progress.CutShort in subst steps (sym same) takes
   was_cut k s u w course.Over takes e same = absurd (cc)
   was_cut k s u w course.GoesOn takes e same = absurd (cc)
 
-  pub advances : (k : WorkKey) (s u : InTurn L A) (p : Progress) (w : Known Board Step) (c : Course) → Steps shows answers s u p → Follows k p u.known w c
-      → Advances shows answers k s (in_turn u.turn u.listers u.api w) c
+  pub advances : (k : WorkKey) (s u : InTurn L A) (p : Progress) (w : Known Board Step) (c : Course) → Steps shows answers s u p → Follows k u.server.patience p u.known w c
+      → Advances shows answers k s (in_turn u.turn u.listers u.server w) c
   advances k s u progress.Went w c takes is = went_on k s u progress.Went w c refl takes is.0 is.1
   advances k s u progress.Again w c takes is = went_on k s u progress.Again w c refl takes is.0 is.1
   advances k s u progress.AtEnd w c takes is = went_on k s u progress.AtEnd w c refl takes is.0 is.1
@@ -74,12 +75,12 @@ module _ {L A : Type 0} (shows : L → Kind → Option Snapshot → L → Type 0
   pub not_taken : (k : WorkKey) (s z : InTurn L A) → Steps shows answers s z progress.Again → Advances shows answers k s z course.GoesOn
   not_taken k s z takes = more s z progress.Again none takes refl
 
-  pub ended : (k : WorkKey) (s : InTurn L A) (w : Known Board Step) → next s.turn ≡ finish → Makes (giving_back k finish s.turn) s.known w
-      → Advances shows answers k s (in_turn s.turn s.listers s.api w) course.Over
+  pub ended : (k : WorkKey) (s : InTurn L A) (w : Known Board Step) → next s.turn ≡ finish → Makes (giving_back k finish s.turn s.server.patience) s.known w
+      → Advances shows answers k s (in_turn s.turn s.listers s.server w) course.Over
   ended k s w at makes = at_end at makes refl
 
-  pub not_ended : (k : WorkKey) (s : InTurn L A) (w : Known Board Step) → OnlySees s.known w → Advances shows answers k s (in_turn s.turn s.listers s.api w) course.GoesOn
-  not_ended k s w (inl same) = let reaches : Known Board Step → Type 0 = λ v. Reaches shows answers s (in_turn s.turn s.listers s.api v) in subst reaches (sym same) none
+  pub not_ended : (k : WorkKey) (s : InTurn L A) (w : Known Board Step) → OnlySees s.known w → Advances shows answers k s (in_turn s.turn s.listers s.server w) course.GoesOn
+  not_ended k s w (inl same) = let reaches : Known Board Step → Type 0 = λ v. Reaches shows answers s (in_turn s.turn s.listers s.server v) in subst reaches (sym same) none
   not_ended k s w (inr seen) = sees s w none seen
 
   pub joined : {s u z : InTurn L A} → Reaches shows answers s u → Reaches shows answers u z → Reaches shows answers s z

@@ -14,6 +14,7 @@ use Rattle.http_client.specs.declared.answer.Answer as client
 use Rattle.control_desk.specs.Calls.{IsCall}
 use Rattle.control_desk.specs.Steps.{Step, taking}
 use Rattle.manager_worker.specs.Ending.{IsTakenUntilOver, IsCutShort}
+use Rattle.manager_worker.specs.Patience.{heard}
 use Rattle.manager_worker.specs.Stepping.{in_turn, Sees}
 use Rattle.manager_worker.specs.Working.{AtBoard, at_board, Does, takes, sees, turns, IsLeft, Works, none, more}
 
@@ -36,15 +37,15 @@ module _ {L A : Type 0} (shows : L → Kind → Option Snapshot → L → Type 0
   still b k is = let works : Option WorkKey → Type 0 = λ h. Works shows answers b (at_board h b.listers b.api b.known) in subst works is none
 
   pub over : (b : AtBoard L A) (k copy : WorkKey) (t : Turn) (listers : L) (api : A) (w : Known Board Step) → b.hand ≡ Some k → work_key_of copy ≡ work_key_of k
-      → t ≡ begun (work_key_of copy) → IsTakenUntilOver shows answers k (in_turn t b.listers b.api b.known) listers api w → Works shows answers b (at_board None listers api w)
+      → t ≡ begun (work_key_of copy) → IsTakenUntilOver shows answers k (in_turn t b.listers (heard b.api 0) b.known) listers api w → Works shows answers b (at_board None listers api w)
   over b k copy t listers api w is same begins taken =
-      let at : Turn → Type 0 = λ x. IsTakenUntilOver shows answers k (in_turn x b.listers b.api b.known) listers api w in
+      let at : Turn → Type 0 = λ x. IsTakenUntilOver shows answers k (in_turn x b.listers (heard b.api 0) b.known) listers api w in
       one b (at_board None listers api w) (turns k listers api w is (subst at (begins ∙ ap begun same) taken))
 
   pub left : (b : AtBoard L A) (k copy : WorkKey) (t : Turn) (listers : L) (api : A) (w : Known Board Step) → b.hand ≡ Some k → work_key_of copy ≡ work_key_of k
-      → t ≡ begun (work_key_of copy) → IsCutShort shows answers (in_turn t b.listers b.api b.known) listers api w → IsLeft shows answers b (at_board (Some k) listers api w)
+      → t ≡ begun (work_key_of copy) → IsCutShort shows answers (in_turn t b.listers (heard b.api 0) b.known) listers api w → IsLeft shows answers b (at_board (Some k) listers api w)
   left b k copy t listers api w is same begins cut =
-      let at : Turn → Type 0 = λ x. IsCutShort shows answers (in_turn x b.listers b.api b.known) listers api w in
+      let at : Turn → Type 0 = λ x. IsCutShort shows answers (in_turn x b.listers (heard b.api 0) b.known) listers api w in
       record { key = k; before = is; after = refl; cut = subst at (begins ∙ ap begun same) cut }
 
   pub joined : {b u a : AtBoard L A} → Works shows answers b u → Works shows answers u a → Works shows answers b a

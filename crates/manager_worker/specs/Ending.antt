@@ -1,5 +1,5 @@
 -- How a turn is over, and how its key is given back.
-use Rattle.std.specs.Prelude.{◌≡◌, ◌⊎◌, ◌++◌, [], ◌∷◌, Bool, true, false, Option, Some, Result, Ok, Err, if◌then◌else◌}
+use Rattle.std.specs.Prelude.{◌≡◌, ◌⊎◌, ◌++◌, ℕ, [], ◌∷◌, Bool, true, false, Option, Some, Result, Ok, Err, if◌then◌else◌}
 use Rattle.baton.specs.declared.views.Known.{Known}
 use Rattle.spec_api.specs.Keys.{Key}
 use Rattle.spec_api.specs.ObjectRequests as words
@@ -14,6 +14,7 @@ use Rattle.control_desk.specs.Calls.{IsCall, Nothing}
 use Rattle.control_desk.specs.Steps.{Step, changing, in_hand, finish, requeue}
 use Rattle.object_keys.specs.WorkKeys.{work_key_of}
 use Rattle.object_keys.specs.declared.work_key.WorkKey.{WorkKey}
+use Rattle.manager_worker.specs.Patience.{heard}
 use Rattle.manager_worker.specs.Stepping.{InTurn, in_turn, Sees, Steps, Reaches}
 use Rattle.manager_worker.specs.declared.steps.Progress.{Progress}
 use Rattle.manager_worker.specs.declared.steps.Progress.TheVariants as progress
@@ -21,11 +22,12 @@ use Rattle.manager_worker.specs.declared.turning.Course.{Course}
 use Rattle.manager_worker.specs.declared.turning.Course.TheVariants as course
 
 -- The step of the board that gives back the key of a turn which is over where this step of its own comes next. At the end of the turn the key is
--- done where all was accepted; else it waits for its delay, and what was not done is expected no longer. At a live read, which was refused, it
--- waits for its delay, and nothing is taken back.
-abbrev pub giving_back : WorkKey → NextStep → Turn → Step
-giving_back k turn.finish t = if all_accepted t.issues then finish (work_key_of k) else requeue (work_key_of k) (taken_back t)
-giving_back k s t = requeue (work_key_of k) []
+-- done where all was accepted; else it waits for its delay, and for as long as the server has asked to be left alone, and what was not done is
+-- expected no longer. At a live read, which was refused, it waits likewise, and nothing is taken back. A key that a change adds meanwhile is taken
+-- sooner, and its turn begins anew.
+abbrev pub giving_back : WorkKey → NextStep → Turn → ℕ → Step
+giving_back k turn.finish t patience = if all_accepted t.issues then finish (work_key_of k) else requeue (work_key_of k) (taken_back t) patience
+giving_back k s t patience = requeue (work_key_of k) [] patience
 
 -- a pass makes a step of the board, which its history then ends with
 abbrev pub Makes : Step → Known Board Step → Known Board Step → Type 0
@@ -43,14 +45,14 @@ is_over course.Over = true
 is_over course.CutShort = false
 
 -- what is done after a step: where the turn is given up its key is given back, or, where there is no memory for that, is not
-abbrev pub Follows : WorkKey → Progress → Known Board Step → Known Board Step → Course → Type 0
-Follows k progress.Went v w c = (c ≡ course.GoesOn) × (w ≡ v)
-Follows k progress.Again v w c = (c ≡ course.GoesOn) × (w ≡ v)
-Follows k progress.AtEnd v w c = (c ≡ course.GoesOn) × (w ≡ v)
-Follows k progress.CutShort v w c = (c ≡ course.CutShort) × (w ≡ v)
-Follows k progress.GivenUp v w course.GoesOn = Sees v w
-Follows k progress.GivenUp v w course.Over = Makes (requeue (work_key_of k) []) v w
-Follows k progress.GivenUp v w course.CutShort = ⊥
+abbrev pub Follows : WorkKey → ℕ → Progress → Known Board Step → Known Board Step → Course → Type 0
+Follows k patience progress.Went v w c = (c ≡ course.GoesOn) × (w ≡ v)
+Follows k patience progress.Again v w c = (c ≡ course.GoesOn) × (w ≡ v)
+Follows k patience progress.AtEnd v w c = (c ≡ course.GoesOn) × (w ≡ v)
+Follows k patience progress.CutShort v w c = (c ≡ course.CutShort) × (w ≡ v)
+Follows k patience progress.GivenUp v w course.GoesOn = Sees v w
+Follows k patience progress.GivenUp v w course.Over = Makes (requeue (work_key_of k) [] patience) v w
+Follows k patience progress.GivenUp v w course.CutShort = ⊥
 
 -- nothing is expected or issued
 pub record IsUntouched (t : Turn) : Type 0 where
@@ -60,9 +62,9 @@ pub record IsUntouched (t : Turn) : Type 0 where
 module _ {L A : Type 0} (shows : L → Kind → Option Snapshot → L → Type 0) (answers : A → words.Request → client.Answer → A → Type 0) where
   -- A turn is over at its end, or where a live read was refused: its key is given back, and nothing else is done.
   pub data Ends (k : WorkKey) (s z : InTurn L A) : Type 0 where
-    at_end : next s.turn ≡ turn.finish → Makes (giving_back k turn.finish s.turn) s.known z.known → z ≡ in_turn s.turn s.listers s.api z.known → Ends k s z
-    given_up : (r : Key) (u : InTurn L A) → next s.turn ≡ turn.read r → Steps shows answers s u progress.GivenUp → Makes (requeue (work_key_of k) []) u.known z.known
-        → z ≡ in_turn u.turn u.listers u.api z.known → Ends k s z
+    at_end : next s.turn ≡ turn.finish → Makes (giving_back k turn.finish s.turn s.server.patience) s.known z.known → z ≡ in_turn s.turn s.listers s.server z.known → Ends k s z
+    given_up : (r : Key) (u : InTurn L A) → next s.turn ≡ turn.read r → Steps shows answers s u progress.GivenUp → Makes (requeue (work_key_of k) [] u.server.patience) u.known z.known
+        → z ≡ in_turn u.turn u.listers u.server z.known → Ends k s z
 
   -- what a round makes of a turn: it comes further, or is over, or is cut short, where a command was answered and that is not noted
   abbrev pub Advances : WorkKey → InTurn L A → InTurn L A → Course → Type 0
@@ -76,7 +78,8 @@ module _ {L A : Type 0} (shows : L → Kind → Option Snapshot → L → Type 0
     pub reached : Reaches shows answers s last
     pub mine : in_hand last.known.made ≡ Some (work_key_of k)
     pub left_at : Turn
-    pub over : Ends k last (in_turn left_at listers api v)
+    pub patience : ℕ
+    pub over : Ends k last (in_turn left_at listers (heard api patience) v)
     pub untouched : IsUntouched s.turn → (r : Key) → next last.turn ≡ turn.read r → IsUntouched last.turn
 
   -- a turn was taken, step by step, until all was to stop; of the last step it may not be noted how a command was answered
@@ -84,4 +87,6 @@ module _ {L A : Type 0} (shows : L → Kind → Option Snapshot → L → Type 0
     pub last : InTurn L A
     pub reached : Reaches shows answers s last
     pub left_at : Turn
-    pub left : (in_turn left_at listers api v ≡ last) ⊎ Steps shows answers last (in_turn left_at listers api v) progress.CutShort
+    pub patience : ℕ
+    pub left :
+        (in_turn left_at listers (heard api patience) v ≡ last) ⊎ Steps shows answers last (in_turn left_at listers (heard api patience) v) progress.CutShort

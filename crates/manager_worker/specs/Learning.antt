@@ -10,6 +10,7 @@ use Rattle.request_encoding.specs.Texts.{can_be_told}
 use Rattle.reconcile_turn.specs.Seen.{answer_of, data_of}
 use Rattle.reconcile_turn.specs.declared.answers.CommandAnswer.{CommandAnswer}
 use Rattle.reconcile_turn.specs.declared.answers.CommandAnswer.TheVariants as answer
+use Rattle.manager_worker.specs.Patience.{milliseconds_by}
 use Rattle.manager_worker.specs.declared.answers.Learnt.{Learnt}
 use Rattle.manager_worker.specs.declared.answers.Learnt.TheVariants as learnt
 
@@ -30,19 +31,19 @@ begins_as_object body = starts_with nat_eq body (codes "{")
 abbrev pub leaves_open : ℕ → List ℕ → Bool
 leaves_open code body = nat_eq code 502 || nat_eq code 504 || (nat_eq code 500 && not (begins_as_object body))
 
--- what became of a command that a server replied to, and had memory for: one that is not accepted is lost where that is left open, else refused
+-- what became of a command that a server replied to: one that is not accepted is lost where that is left open, else refused
 pub record IsAnswer (code : ℕ) (body : List ℕ) (a : CommandAnswer) : Type 0 where
   pub accepted : Accepts code → IsAccepted code body a
   pub other : ¬ (Accepts code) → answer_of a ≡ (if leaves_open code body then turns.lost else turns.refused code)
 
--- where the server had no memory nothing was done
-abbrev pub Learns : ℕ → List ℕ → Learnt → Type 0
-Learns code body learnt.Again = code ≡ 503
-Learns code body (learnt.Known a) = ¬ (code ≡ 503) × IsAnswer code body a
+-- where the server cannot serve now (503) nothing was done: the command is to be made again, unless the server asks to be left alone; then it is refused
+abbrev pub Learns : ℕ → List ℕ → ℕ → Learnt → Type 0
+Learns code body patience learnt.Again = (code ≡ 503) × (patience ≡ 0)
+Learns code body patience (learnt.Known a) = (code ≡ 503 → 0 < patience) × IsAnswer code body a
 
 -- a command that was not sent is to be made again; of one that was, and has no reply, nothing is known
 abbrev pub LearnsOf : client.Answer → Learnt → Type 0
-LearnsOf (outcome.Replied r) l = Learns r.code r.body.items l
+LearnsOf (outcome.Replied r) l = Learns r.code r.body.items (milliseconds_by r.code r.retry_after) l
 LearnsOf outcome.NotSent l = l ≡ learnt.Again
 LearnsOf outcome.Lost l = l ≡ learnt.Known answer.Lost
 

@@ -1,5 +1,6 @@
 -- The definitions, in reading order.
 pub mod Looking
+pub mod Patience
 pub mod Learning
 pub mod Finding
 pub mod Telling

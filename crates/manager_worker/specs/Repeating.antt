@@ -12,12 +12,13 @@ use Rattle.http_client.specs.declared.answer.Answer as client
 use Rattle.http_client.specs.declared.answer.Answer.TheVariants as outcome
 use Rattle.request_encoding.specs.Texts.{can_be_told}
 use Rattle.manager_worker.specs.Learning.{AsksIf, AsksOnce}
+use Rattle.manager_worker.specs.Patience.{Hears}
 use Rattle.manager_worker.specs.Stepping.{InTurn, Issues, Reaches}
 use Rattle.manager_worker.specs.declared.answers.Learnt.{Learnt}
 use Rattle.manager_worker.specs.declared.answers.Learnt.TheVariants as learnt
 use Rattle.manager_worker.specs.declared.steps.Progress.TheVariants as progress
 
--- whether a command with this answer may have been carried out: not where it was not sent, or the server had no memory for it (503)
+-- whether a command with this answer may have been carried out: not where it was not sent, or the server could not serve then (503)
 abbrev pub may_be_done : client.Answer → Bool
 may_be_done (outcome.Replied r) = not (nat_eq r.code 503)
 may_be_done outcome.NotSent = false
@@ -42,6 +43,6 @@ module _ {A : Type 0} (answers : A → words.Request → client.Answer → A →
 module _ {L A : Type 0} (shows : L → Kind → Option Snapshot → L → Type 0) (answers : A → words.Request → client.Answer → A → Type 0) where
   -- what is noted stays, and the command that is issued next is the one of the plan that follows all that is noted, and all of that was accepted
   pub record AreIssuedInOrder : Type 0 where
-    pub once : AreIssuedOnce answers
+    pub once : AreIssuedOnce (Hears answers)
     pub stay : (s z : InTurn L A) → Reaches shows answers s z → (rest : List Issue) × (z.turn.issues ≡ s.turn.issues ++ rest)
     pub next : (t : Turn) (x : Command) → next t ≡ issue x → (first (left t) ≡ Some x) × (all_accepted t.issues ≡ true)

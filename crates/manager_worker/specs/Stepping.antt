@@ -19,6 +19,7 @@ use Rattle.reconcile_turn.specs.Seen.{answer_of}
 use Rattle.reconcile_turn.specs.declared.answers.CommandAnswer.{CommandAnswer}
 use Rattle.manager_worker.specs.Finding.{Adds, FoundBy}
 use Rattle.manager_worker.specs.Learning.{AsksOnce, AsksAtMost}
+use Rattle.manager_worker.specs.Patience.{Heard, Hears}
 use Rattle.manager_worker.specs.Telling.{expecting}
 use Rattle.manager_worker.specs.declared.answers.Learnt.{Learnt}
 use Rattle.manager_worker.specs.declared.answers.Learnt.TheVariants as learnt
@@ -26,15 +27,16 @@ use Rattle.manager_worker.specs.declared.live_reads.FoundObject.{FoundObject}
 use Rattle.manager_worker.specs.declared.steps.Progress.{Progress}
 use Rattle.manager_worker.specs.declared.steps.Progress.TheVariants as progress
 
--- a worker in its turn: the turn, what it looks at, its server, and what its pass knows of the board
+-- a worker in its turn: the turn, what it looks at, its server, with how long that has asked in this turn to be left alone, and what its pass knows of the
+-- board
 pub record InTurn (L A : Type 0) : Type 0 where
   pub turn : Turn
   pub listers : L
-  pub api : A
+  pub server : Heard A
   pub known : Known Board Step
 
-abbrev pub in_turn : {L A : Type 0} → Turn → L → A → Known Board Step → InTurn L A
-in_turn t listers api v = record { turn = t; listers = listers; api = api; known = v }
+abbrev pub in_turn : {L A : Type 0} → Turn → L → Heard A → Known Board Step → InTurn L A
+in_turn t listers server v = record { turn = t; listers = listers; server = server; known = v }
 
 -- a step for which memory runs out is not taken, and is to be tried again
 abbrev pub told : {E : Type 0} → Result Progress E → Progress
@@ -129,11 +131,11 @@ is_going progress.CutShort = false
 module _ {L A : Type 0} (shows : L → Kind → Option Snapshot → L → Type 0) (answers : A → words.Request → client.Answer → A → Type 0) where
   -- a step is taken as it is told, and does nothing else; the end of a turn changes nothing
   abbrev pub Takes : NextStep → InTurn L A → InTurn L A → Progress → Type 0
-  Takes (look k) s z p = Looks shows k s.turn s.listers z.turn z.listers p × (z.api ≡ s.api) × (z.known ≡ s.known)
-  Takes ask_satisfied s z p = Asks s.turn s.known z.turn z.known p × (z.listers ≡ s.listers) × (z.api ≡ s.api)
-  Takes (read k) s z p = Reads answers k s.turn s.api z.turn z.api p × (z.listers ≡ s.listers) × (z.known ≡ s.known)
-  Takes (expect e) s z p = Expects e s.turn s.known z.turn z.known p × (z.listers ≡ s.listers) × (z.api ≡ s.api)
-  Takes (issue x) s z p = Issues answers x s.turn s.api z.turn z.api p × (z.listers ≡ s.listers) × (z.known ≡ s.known)
+  Takes (look k) s z p = Looks shows k s.turn s.listers z.turn z.listers p × (z.server ≡ s.server) × (z.known ≡ s.known)
+  Takes ask_satisfied s z p = Asks s.turn s.known z.turn z.known p × (z.listers ≡ s.listers) × (z.server ≡ s.server)
+  Takes (read k) s z p = Reads (Hears answers) k s.turn s.server z.turn z.server p × (z.listers ≡ s.listers) × (z.known ≡ s.known)
+  Takes (expect e) s z p = Expects e s.turn s.known z.turn z.known p × (z.listers ≡ s.listers) × (z.server ≡ s.server)
+  Takes (issue x) s z p = Issues (Hears answers) x s.turn s.server z.turn z.server p × (z.listers ≡ s.listers) × (z.known ≡ s.known)
   Takes finish s z p = (p ≡ progress.AtEnd) × (z ≡ s)
 
   -- the step that comes next is taken
@@ -144,4 +146,4 @@ module _ {L A : Type 0} (shows : L → Kind → Option Snapshot → L → Type 0
   pub data Reaches (s : InTurn L A) : InTurn L A → Type 0 where
     none : Reaches s s
     more : (u z : InTurn L A) (p : Progress) → Reaches s u → Steps u z p → is_going p ≡ true → Reaches s z
-    sees : (u : InTurn L A) (w : Known Board Step) → Reaches s u → Sees u.known w → Reaches s (in_turn u.turn u.listers u.api w)
+    sees : (u : InTurn L A) (w : Known Board Step) → Reaches s u → Sees u.known w → Reaches s (in_turn u.turn u.listers u.server w)

@@ -12,6 +12,7 @@ use Rattle.control_desk.specs.Calls.{IsCall}
 use Rattle.control_desk.specs.Steps.{Step, taking}
 use Rattle.object_keys.specs.WorkKeys.{work_key_of}
 use Rattle.object_keys.specs.declared.work_key.WorkKey.{WorkKey}
+use Rattle.manager_worker.specs.Patience.{heard}
 use Rattle.manager_worker.specs.Stepping.{in_turn, Sees}
 use Rattle.manager_worker.specs.Ending.{IsTakenUntilOver, IsCutShort}
 
@@ -27,20 +28,20 @@ at_board hand listers api v = record { hand = hand; listers = listers; api = api
 
 module _ {L A : Type 0} (shows : L → Kind → Option Snapshot → L → Type 0) (answers : A → words.Request → client.Answer → A → Type 0) where
   -- a worker with no key takes the next one, or none where none waits; it sees at most what happened, where there is no memory for it; or it takes the turn of
-  -- the key in its hands, from its beginning until it is over
+  -- the key in its hands, from its beginning, when no server has asked to be left alone, until it is over
   pub data Does (b : AtBoard L A) : AtBoard L A → Type 0 where
     takes : (k : Option WorkKey) (w : Known Board Step) → b.hand ≡ None → IsCall b.known taking (λ d. option_map work_key_of k ≡ handed d.work) w
         → Does b (at_board k b.listers b.api w)
     sees : (w : Known Board Step) → b.hand ≡ None → Sees b.known w → Does b (at_board None b.listers b.api w)
     turns : (k : WorkKey) (listers : L) (api : A) (w : Known Board Step) → b.hand ≡ Some k
-        → IsTakenUntilOver shows answers k (in_turn (begun (work_key_of k)) b.listers b.api b.known) listers api w → Does b (at_board None listers api w)
+        → IsTakenUntilOver shows answers k (in_turn (begun (work_key_of k)) b.listers (heard b.api 0) b.known) listers api w → Does b (at_board None listers api w)
 
   -- the turn of the key in its hands is left before it is over, and the key stays there
   pub record IsLeft (b a : AtBoard L A) : Type 0 where
     pub key : WorkKey
     pub before : b.hand ≡ Some key
     pub after : a.hand ≡ Some key
-    pub cut : IsCutShort shows answers (in_turn (begun (work_key_of key)) b.listers b.api b.known) a.listers a.api a.known
+    pub cut : IsCutShort shows answers (in_turn (begun (work_key_of key)) b.listers (heard b.api 0) b.known) a.listers a.api a.known
 
   -- one thing after another
   pub data Works (b : AtBoard L A) : AtBoard L A → Type 0 where

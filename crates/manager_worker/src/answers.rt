@@ -1,7 +1,9 @@
 //! What a worker learns of its command.
 ghost use Rattle.std.specs.Prelude.{◌≡◌};
 ghost use Rattle.manager_worker.specs.Learning.{IsAccepted, Learns, LearnsOf, begins_as_object, leaves_open};
+ghost use Rattle.manager_worker.specs.Patience.{milliseconds_by};
 
+use crate::patience::milliseconds_by;
 use http_client::HttpReply;
 use http_client::statuses::{
     BAD_GATEWAY, FIRST_REDIRECTION, GATEWAY_TIMEOUT, INTERNAL_SERVER_ERROR, OK, SERVICE_UNAVAILABLE,
@@ -13,7 +15,7 @@ use reconcile_turn::CommandAnswer;
 pub enum Learnt {
     /// What became of it.
     Known(CommandAnswer),
-    /// Nothing was done: the command is to be made again.
+    /// Nothing was done: the command is to be made again in its turn.
     Again,
 }
 
@@ -21,7 +23,7 @@ pub enum Learnt {
 fn accepted(reply: HttpReply) -> CommandAnswer
     ensures { IsAccepted reply.code reply.body.items result }
 {
-    let HttpReply { code, body } = reply;
+    let HttpReply { code, body, .. } = reply;
     match String::from_utf8(body) {
         Ok(text) => CommandAnswer::Accepted { code, text },
         Err(_) => CommandAnswer::Lost,
@@ -47,9 +49,9 @@ fn leaves_open(reply: &HttpReply) -> bool
 
 /// Returns what a worker learns of a reply (RFC 9110, Status Codes).
 fn learnt_of_reply(reply: HttpReply) -> Learnt
-    ensures { Learns reply.code reply.body.items result }
+    ensures { Learns reply.code reply.body.items (milliseconds_by reply.code reply.retry_after) result }
 {
-    if reply.code == SERVICE_UNAVAILABLE {
+    if reply.code == SERVICE_UNAVAILABLE && milliseconds_by(reply.code, reply.retry_after) == 0 {
         return Learnt::Again;
     }
     if (OK..FIRST_REDIRECTION).contains(&reply.code) {

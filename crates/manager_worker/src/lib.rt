@@ -7,6 +7,7 @@ pub mod gates;
 pub mod laws;
 pub mod live_reads;
 pub mod looking;
+mod patience;
 pub mod signals;
 pub mod steps;
 pub mod tools;

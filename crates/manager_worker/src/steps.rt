@@ -10,11 +10,13 @@ ghost use Rattle.control_desk.specs.Desks.{known, key_in_hand, IsPassAt};
 ghost use Rattle.reconcile_turn.specs.Seen.{answer_of, answered_to, command_issued, expectation};
 ghost use Rattle.manager_worker.specs.Finding.{Adds, FoundBy};
 ghost use Rattle.manager_worker.specs.Learning.{AsksOnce, AsksAtMost};
+ghost use Rattle.manager_worker.specs.Patience.{Hears, heard};
 ghost use Rattle.manager_worker.specs.Stepping.{Looks, Asks, Reads, Expects, Notes, Heeds, Issues, Steps, in_turn, told};
 
 use crate::answers::{Learnt, learnt_of};
 use crate::live_reads::{FoundObject, can_be, found_in};
 use crate::looking::Looking;
+use crate::patience::note;
 use crate::tools::Tools;
 use api_client::Api;
 use control_desk::{ControlDesk, WorkPass};
@@ -111,10 +113,13 @@ impl<R: Wait + Clock, L: Looking + Drop, A: Api + Drop, G> Tools<'_, R, L, A, G>
         }
     }
 
-    /// Returns what is there under a key: an object that cannot be is absent without being asked for.
-    fn find(&mut self, key: &Key) -> Result<FoundObject, AllocError>
-        ensures found { IfOk result (λ found. FoundBy A.answers (key_of key.now) self.old.api found self.new.api) }
-        ensures err { OnErr result (AsksAtMost A.answers self.old.api (get_object (key_of key.now)) self.new.api) }
+    /// Returns what is there under a key: an object that cannot be is absent without being asked for. It notes for how long the server
+    /// asks to be left alone.
+    fn find(&mut self, key: &Key, patience: &mut u32) -> Result<FoundObject, AllocError>
+        ensures found { IfOk result (λ found. FoundBy (Hears A.answers) (key_of key.now) (heard self.old.api patience.old) found
+            (heard self.new.api patience.new)) }
+        ensures err { OnErr result (AsksAtMost (Hears A.answers) (heard self.old.api patience.old) (get_object (key_of key.now))
+            (heard self.new.api patience.new)) }
         ensures listers { self.new.listers ≡ self.old.listers }
     {
         if !can_be(key) {
@@ -123,16 +128,23 @@ impl<R: Wait + Clock, L: Looking + Drop, A: Api + Drop, G> Tools<'_, R, L, A, G>
         let request = Request::Get(key.try_copy()?);
         let answer = self.api.call(self.alloc, &request);
         drop(request);
+        note(patience, &answer);
         found_in(self.alloc, key, &answer)
     }
 
     /// Reads what is there under the key that is read live next.
-    fn read_live(&mut self, turn: &mut Turn, key: &Key) -> Result<Progress, AllocError>
+    fn read_live(
+        &mut self,
+        turn: &mut Turn,
+        key: &Key,
+        patience: &mut u32,
+    ) -> Result<Progress, AllocError>
         requires { next turn.old ≡ steps.read (key_of key.now) }
-        ensures reads { Reads A.answers (key_of key.now) turn.old self.old.api turn.new self.new.api (told result) }
+        ensures reads { Reads (Hears A.answers) (key_of key.now) turn.old (heard self.old.api patience.old) turn.new (heard self.new.api patience.new)
+            (told result) }
         ensures listers { self.new.listers ≡ self.old.listers }
     {
-        let found = self.find(key)?;
+        let found = self.find(key, patience)?;
         add_found(turn, key, found)
     }
 
@@ -187,15 +199,18 @@ impl<R: Wait + Clock, L: Looking + Drop, A: Api + Drop, G> Tools<'_, R, L, A, G>
         unreachable!()
     }
 
-    /// Returns what a worker learns of the request of its command. One that cannot be told over HTTP is as good as refused.
-    fn ask(&mut self, request: &Request) -> Learnt
-        ensures asks { AsksOnce A.answers self.old.api (request_of request.now) result self.new.api }
+    /// Returns what a worker learns of the request of its command, and notes for how long the server asks to be left alone. One that cannot
+    /// be told over HTTP is as good as refused.
+    fn ask(&mut self, request: &Request, patience: &mut u32) -> Learnt
+        ensures asks { AsksOnce (Hears A.answers) (heard self.old.api patience.old) (request_of request.now) result (heard self.new.api patience.new) }
         ensures listers { self.new.listers ≡ self.old.listers }
     {
         if !can_be_told(request) {
             return Learnt::Known(CommandAnswer::Refused { code: BAD_REQUEST });
         }
-        learnt_of(self.api.call(self.alloc, request))
+        let answer = self.api.call(self.alloc, request);
+        note(patience, &answer);
+        learnt_of(answer)
     }
 
     /// Notes what was learnt of the command that is issued next, unless it is to be issued again.
@@ -215,42 +230,45 @@ impl<R: Wait + Clock, L: Looking + Drop, A: Api + Drop, G> Tools<'_, R, L, A, G>
         }
     }
 
-    /// Issues the next command of the plan. One that was not sent, or for which the server had no memory, is to be issued again.
-    fn issue(&mut self, turn: &mut Turn) -> Result<Progress, AllocError>
+    /// Issues the next command of the plan. One that was not sent, or that the server could not serve then, is to be issued again, unless the
+    /// server asks to be left alone.
+    fn issue(&mut self, turn: &mut Turn, patience: &mut u32) -> Result<Progress, AllocError>
         requires { is_some (command_issued (next turn.old)) ≡ true }
-        ensures issues { IfSome (command_issued (next turn.old)) (λ x. Issues A.answers x turn.old self.old.api turn.new self.new.api (told result)) }
+        ensures issues { IfSome (command_issued (next turn.old)) (λ x. Issues (Hears A.answers) x turn.old (heard self.old.api patience.old)
+            turn.new (heard self.new.api patience.new) (told result)) }
         ensures listers { self.new.listers ≡ self.old.listers }
     {
         let Some(request) = turn.request(self.alloc)? else {
             unreachable!()
         };
-        let learnt = self.ask(&request);
+        let learnt = self.ask(&request, patience);
         drop(request);
         Ok(self.heed(turn, learnt))
     }
 
-    /// Takes the next step of a turn, but its end.
+    /// Takes the next step of a turn, but its end, and notes for how many milliseconds the server asks to be left alone, at the longest.
     pub fn step(
         &mut self,
         desk: &ControlDesk,
         pass: &mut WorkPass,
         turn: &mut Turn,
+        patience: &mut u32,
     ) -> Result<Progress, AllocError>
         requires pass { IsPassAt desk.now pass.old }
         ensures pass { IsPassAt desk.now pass.new }
         ensures key { key_in_hand pass.new ≡ key_in_hand pass.old }
-        ensures steps { Steps L.shows A.answers (in_turn turn.old self.old.listers self.old.api (known pass.old))
-            (in_turn turn.new self.new.listers self.new.api (known pass.new)) (told result) }
+        ensures steps { Steps L.shows A.answers (in_turn turn.old self.old.listers (heard self.old.api patience.old) (known pass.old))
+            (in_turn turn.new self.new.listers (heard self.new.api patience.new) (known pass.new)) (told result) }
     {
         match turn.next() {
             NextStep::Look(kind) => self.look(turn, kind),
             NextStep::AskSatisfied => self.ask_satisfied(desk, pass, turn),
             NextStep::Read(key) => {
                 let key = key.try_copy()?;
-                self.read_live(turn, &key)
+                self.read_live(turn, &key, patience)
             }
             NextStep::Expect => self.expect(desk, pass, turn),
-            NextStep::Issue(_) => self.issue(turn),
+            NextStep::Issue(_) => self.issue(turn, patience),
             NextStep::Finish => Ok(Progress::AtEnd),
         }
     }

@@ -4,6 +4,7 @@ ghost use Rattle.spec_sim.specs.NextSteps.{next, finish};
 ghost use Rattle.control_desk.specs.Desks.{known, key_in_hand, IsPassAt};
 ghost use Rattle.control_desk.specs.Steps as steps;
 ghost use Rattle.object_keys.specs.WorkKeys.{work_key_of};
+ghost use Rattle.manager_worker.specs.Patience.{heard};
 ghost use Rattle.manager_worker.specs.Stepping.{in_turn, OnlySees, Sees};
 ghost use Rattle.manager_worker.specs.Ending.{giving_back, course_of, is_over, Makes, Follows, Advances, IsTakenUntilOver, IsCutShort};
 
@@ -42,20 +43,21 @@ fn is_planned(turn: &Turn) -> bool {
 }
 
 impl<R: Wait + Clock, L: Looking + Drop, A: Api + Drop, G: Gate> Tools<'_, R, L, A, G> {
-    /// Gives back the key of a turn that is at its end; unless all was accepted it waits for its delay, and what was not done is expected no
-    /// longer.
+    /// Gives back the key of a turn that is at its end; unless all was accepted it waits for its delay, and for as long as the server has
+    /// asked to be left alone, and what was not done is expected no longer.
     fn finish(
         &self,
         desk: &ControlDesk,
         pass: &mut WorkPass,
         turn: &Turn,
         key: &WorkKey,
+        patience: u32,
     ) -> Result<(), AllocError>
         requires pass { IsPassAt desk.now pass.old }
         requires mine { key_in_hand pass.old ≡ Some (work_key_of key.now) }
         requires finish { next turn.now ≡ finish }
         ensures pass { IsPassAt desk.now pass.new }
-        ensures makes { OnOk result (Makes (giving_back key.now finish turn.now) (known pass.old) (known pass.new)) }
+        ensures makes { OnOk result (Makes (giving_back key.now finish turn.now patience) (known pass.old) (known pass.new)) }
         ensures sees { OnErr result (OnlySees (known pass.old) (known pass.new)) }
         ensures ok { OnOk result (key_in_hand pass.new ≡ None) }
         ensures err { OnErr result (key_in_hand pass.new ≡ key_in_hand pass.old) }
@@ -65,26 +67,28 @@ impl<R: Wait + Clock, L: Looking + Drop, A: Api + Drop, G: Gate> Tools<'_, R, L,
             return Ok(());
         }
         let undone = turn.taken_back(self.alloc)?;
-        desk.requeue(self.rt, pass, key, undone.as_slice())?;
+        desk.requeue_after(self.rt, pass, key, undone.as_slice(), patience)?;
         Ok(())
     }
 
-    /// Gives back the key of a turn that is given up: it waits for its delay. Nothing was expected yet that is to be taken back.
+    /// Gives back the key of a turn that is given up: it waits for its delay, and for as long as the server has asked to be left alone.
+    /// Nothing was expected yet that is to be taken back.
     fn give_up(
         &self,
         desk: &ControlDesk,
         pass: &mut WorkPass,
         key: &WorkKey,
+        patience: u32,
     ) -> Result<(), AllocError>
         requires pass { IsPassAt desk.now pass.old }
         requires mine { key_in_hand pass.old ≡ Some (work_key_of key.now) }
         ensures pass { IsPassAt desk.now pass.new }
-        ensures makes { OnOk result (Makes (steps.requeue (work_key_of key.now) []) (known pass.old) (known pass.new)) }
+        ensures makes { OnOk result (Makes (steps.requeue (work_key_of key.now) [] patience) (known pass.old) (known pass.new)) }
         ensures sees { OnErr result (Sees (known pass.old) (known pass.new)) }
         ensures ok { OnOk result (key_in_hand pass.new ≡ None) }
         ensures err { OnErr result (key_in_hand pass.new ≡ key_in_hand pass.old) }
     {
-        desk.requeue(self.rt, pass, key, &[])?;
+        desk.requeue_after(self.rt, pass, key, &[], patience)?;
         Ok(())
     }
 
@@ -96,17 +100,18 @@ impl<R: Wait + Clock, L: Looking + Drop, A: Api + Drop, G: Gate> Tools<'_, R, L,
         pass: &mut WorkPass,
         key: &WorkKey,
         progress: Progress,
+        patience: u32,
     ) -> Result<Course, AllocError>
         requires pass { IsPassAt desk.now pass.old }
         requires mine { key_in_hand pass.old ≡ Some (work_key_of key.now) }
         ensures pass { IsPassAt desk.now pass.new }
-        ensures follows { Follows key.now progress (known pass.old) (known pass.new) (course_of result) }
+        ensures follows { Follows key.now patience progress (known pass.old) (known pass.new) (course_of result) }
         ensures free { is_over (course_of result) ≡ true → key_in_hand pass.new ≡ None }
         ensures mine { is_over (course_of result) ≡ false → key_in_hand pass.new ≡ key_in_hand pass.old }
     {
         match progress {
             Progress::GivenUp => {
-                self.give_up(desk, pass, key)?;
+                self.give_up(desk, pass, key, patience)?;
                 Ok(Course::Over)
             }
             Progress::Again => {
@@ -125,25 +130,26 @@ impl<R: Wait + Clock, L: Looking + Drop, A: Api + Drop, G: Gate> Tools<'_, R, L,
         pass: &mut WorkPass,
         turn: &mut Turn,
         key: &WorkKey,
+        patience: &mut u32,
     ) -> Result<Course, AllocError>
         requires pass { IsPassAt desk.now pass.old }
         requires mine { key_in_hand pass.old ≡ Some (work_key_of key.now) }
         ensures pass { IsPassAt desk.now pass.new }
         ensures free { is_over (course_of result) ≡ true → key_in_hand pass.new ≡ None }
         ensures mine { is_over (course_of result) ≡ false → key_in_hand pass.new ≡ key_in_hand pass.old }
-        ensures advances { Advances L.shows A.answers key.now (in_turn turn.old self.old.listers self.old.api (known pass.old))
-            (in_turn turn.new self.new.listers self.new.api (known pass.new)) (course_of result) }
+        ensures advances { Advances L.shows A.answers key.now (in_turn turn.old self.old.listers (heard self.old.api patience.old) (known pass.old))
+            (in_turn turn.new self.new.listers (heard self.new.api patience.new) (known pass.new)) (course_of result) }
     {
         if let NextStep::Finish = turn.next() {
-            self.finish(desk, pass, turn, key)?;
+            self.finish(desk, pass, turn, key, *patience)?;
             return Ok(Course::Over);
         }
         let was_planned = is_planned(turn);
-        let progress = self.step(desk, pass, turn)?;
+        let progress = self.step(desk, pass, turn, patience)?;
         if !was_planned && is_planned(turn) {
             self.gate.after(key);
         }
-        self.go_on(desk, pass, key, progress)
+        self.go_on(desk, pass, key, progress, *patience)
     }
 
     /// Takes the next step of a turn, and returns how the turn goes on. A step for which memory runs out is to be tried again, after a
@@ -154,16 +160,17 @@ impl<R: Wait + Clock, L: Looking + Drop, A: Api + Drop, G: Gate> Tools<'_, R, L,
         pass: &mut WorkPass,
         turn: &mut Turn,
         key: &WorkKey,
+        patience: &mut u32,
     ) -> Course
         requires pass { IsPassAt desk.now pass.old }
         requires mine { key_in_hand pass.old ≡ Some (work_key_of key.now) }
         ensures pass { IsPassAt desk.now pass.new }
         ensures free { is_over result ≡ true → key_in_hand pass.new ≡ None }
         ensures mine { is_over result ≡ false → key_in_hand pass.new ≡ key_in_hand pass.old }
-        ensures advances { Advances L.shows A.answers key.now (in_turn turn.old self.old.listers self.old.api (known pass.old))
-            (in_turn turn.new self.new.listers self.new.api (known pass.new)) result }
+        ensures advances { Advances L.shows A.answers key.now (in_turn turn.old self.old.listers (heard self.old.api patience.old) (known pass.old))
+            (in_turn turn.new self.new.listers (heard self.new.api patience.new) (known pass.new)) result }
     {
-        match self.advance(desk, pass, turn, key) {
+        match self.advance(desk, pass, turn, key, patience) {
             Ok(course) => course,
             Err(_) => {
                 self.signals.stop.rest(self.rt, PAUSE_MILLISECONDS);
@@ -186,17 +193,18 @@ impl<R: Wait + Clock, L: Looking + Drop, A: Api + Drop, G: Gate> Tools<'_, R, L,
         ensures pass { IsPassAt desk.now pass.new }
         ensures free { result ≡ true → key_in_hand pass.new ≡ None }
         ensures mine { result ≡ false → key_in_hand pass.new ≡ key_in_hand pass.old }
-        ensures over { result ≡ true → IsTakenUntilOver L.shows A.answers key.now (in_turn turn self.old.listers self.old.api (known pass.old))
+        ensures over { result ≡ true → IsTakenUntilOver L.shows A.answers key.now (in_turn turn self.old.listers (heard self.old.api 0) (known pass.old))
             self.new.listers self.new.api (known pass.new) }
-        ensures cut { result ≡ false → IsCutShort L.shows A.answers (in_turn turn self.old.listers self.old.api (known pass.old))
+        ensures cut { result ≡ false → IsCutShort L.shows A.answers (in_turn turn self.old.listers (heard self.old.api 0) (known pass.old))
             self.new.listers self.new.api (known pass.new) }
     {
         let mut turn = turn;
+        let mut patience = 0;
         for _ in self.rt.forever() {
             if self.signals.stop.is_stopped() {
                 return false;
             }
-            match self.advance_or_rest(desk, pass, &mut turn, key) {
+            match self.advance_or_rest(desk, pass, &mut turn, key, &mut patience) {
                 Course::GoesOn => {}
                 Course::Over => return true,
                 Course::CutShort => return false,

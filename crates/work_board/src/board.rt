@@ -3,6 +3,7 @@ ghost use Rattle.std.specs.Prelude.{◌≡◌, ◌+◌, ◌≤◌, IfOk, OnOk, O
 ghost use Rattle.spec_client_go.specs.Boards.{begun, taken, finished, requeued, observed, expecting_creations, expecting_deletions, is_satisfied, forgotten, lowered, all_lowered, may_tick, ticked, last_moment};
 ghost use Rattle.spec_client_go.specs.WorkQueues.{handed};
 ghost use Rattle.work_board.specs.Aged.{HaveAgedOut};
+ghost use Rattle.work_board.specs.Later.{requeued_after};
 ghost use Rattle.work_board.specs.Seen.{owner_of, observation_of};
 ghost use Rattle.object_keys.specs.Keys.{key_of};
 ghost use Rattle.object_keys.specs.WorkKeys.{work_key_of};
@@ -102,10 +103,26 @@ impl Board {
         ensures ok { OnOk result (self.new ≡ requeued (work_key_of key.now) (map observation_of undone.now) self.old) }
         ensures err { OnErr result (self.new ≡ self.old) }
     {
+        self.requeue_after(key, undone, 0)
+    }
+
+    /// Takes a key that failed back from its worker: it waits for its delay, and for at least so many milliseconds, and what was not
+    /// done is expected no longer. A key that waits already keeps its moment, where that is earlier. The error is running out of memory,
+    /// and then nothing has changed.
+    pub fn requeue_after(
+        &mut self,
+        key: &WorkKey,
+        undone: &[Observation],
+        least: u32,
+    ) -> Result<(), AllocError>
+        ensures ok { OnOk result (self.new ≡ requeued_after (work_key_of key.now) (map observation_of undone.now) least self.old) }
+        ensures err { OnErr result (self.new ≡ self.old) }
+    {
         let again = key.try_copy()?;
         let before = self.backoff.failures(key);
         let delay = self.backoff.delay(key)?;
-        if let Err(refused) = self.delayed.add_after(again, self.time + delay) {
+        let wait = delay.max(u64::from(least));
+        if let Err(refused) = self.delayed.add_after(again, self.time + wait) {
             self.backoff.restore(key, before);
             return Err(refused);
         }

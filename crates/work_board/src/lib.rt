@@ -4,6 +4,7 @@
 
 pub mod aged_out;
 pub mod board;
+pub mod laws;
 pub mod observation;
 
 pub use aged_out::AgedOut;

@@ -1,6 +1,6 @@
 use Rattle.std.proofs.Common.{refl, arith}
 use Rattle.chunked.specs.Devices.{device_of}
-use Rattle.http_client.proofs.Replies.{reply_whole, reply_short, reply_in_chunks, reply_other, head_longer, stated_within}
+use Rattle.http_client.proofs.Replies.{reply_whole, reply_short, reply_in_chunks, reply_other, head_longer, stated_within, patience_says}
 use Rattle.http_client.proofs.reply.read_reply.Goals as goal
 
 pub returns-in-Ok-read_body-clause-read : goal.returns-in-Ok-read_body-clause-read
@@ -30,3 +30,8 @@ pub returns-in-Ok-read_body-clause-within : goal.returns-in-Ok-read_body-clause-
 returns-in-Ok-read_body-clause-within g c =
     let within = stated_within c.args.most (g.R.Read.remaining (device_of c.args.reader.now)) (g.R.Read.remaining (device_of c.read_head.new.reader)) c.in-Ok.head c.in-Length.size c.in-Ok.ensures.read c.in-Length.is in
     omega (arith, within, c.in-Ok-read_body.ensures.whole)
+
+pub returns-in-Ok-read_body-clause-patience : goal.returns-in-Ok-read_body-clause-patience
+returns-in-Ok-read_body-clause-patience g c =
+    patience_says c.args.most (g.R.Read.remaining (device_of c.args.reader.now)) (g.R.Read.remaining (device_of c.read_head.new.reader)) c.in-Ok.head c.in-Ok.head.retry_after
+    c.in-Ok.ensures.read refl

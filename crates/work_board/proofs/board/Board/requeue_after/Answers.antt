@@ -1,7 +1,7 @@
 use Rattle.std.proofs.Common.{◌∙◌}
 use Rattle.object_keys.specs.WorkKeys.{work_key_of}
 use Rattle.work_board.proofs.Failures.{has_failed, restored_failed}
-use Rattle.work_board.proofs.board.Board.requeue.Goals as goal
+use Rattle.work_board.proofs.board.Board.requeue_after.Goals as goal
 
 pub restore-requires : goal.restore-requires
 restore-requires c = has_failed (work_key_of c.args.key.now) c.self.inside.backoff c.delay.new.self c.in_ok-delay.ensures.ok
