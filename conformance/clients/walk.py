@@ -1,5 +1,5 @@
 #!/usr/bin/env python3
-"""Runs the beginning of the walk in docs/CLIENT.md, from the clone to the crate of a controller of one's own, and looks at what it leaves.
+"""Runs the beginning of the walk in docs/CLIENT.md, from the clone to the crates of a controller of one's own, and looks at what it leaves.
 
 What follows in the block proves for an hour or more, and is skipped, which is said; following/controllers.py runs the example that is copied there.
 Where rt or git is not installed, or the repository is no clone, all of it is skipped.
@@ -14,7 +14,8 @@ import tempfile
 
 ROOT = pathlib.Path(__file__).resolve().parent.parent.parent
 HEADING, LAST = "## From an empty folder to a controller", "python3 build.py"
-NAME, COPIED = "my_controller", "controller_example"
+# Each crate that it makes, and which one is copied.
+COPIED = {"my_mirror": "mirror_example", "my_controller": "controller_example"}
 SECONDS = 300
 
 
@@ -24,18 +25,23 @@ def block():
     return re.search(r"(?ms)^```\n(.*?)^```$", section)[1].splitlines()
 
 
+def files(crate):
+    """Returns the files of a crate, but for its negative tests and what was built."""
+    return sorted(str(it.relative_to(crate)) for it in crate.rglob("*") if it.is_file() and not {"wrong-code", "out"} & set(it.relative_to(crate).parts))
+
+
 def wrong_of(tree):
     """Returns what the walk did not leave as it is to be."""
-    crate, copied = tree / "crates" / NAME, tree / "crates" / COPIED / "src"
-    if [it.name for it in crate.iterdir()] != ["src"]:
-        yield f"the crate has {sorted(it.name for it in crate.iterdir())}, and not src alone"
-    if sorted(it.name for it in copied.iterdir()) != sorted(it.name for it in (crate / "src").iterdir()):
-        yield "the crate's sources are not those that were copied"
-    if COPIED in (crate / "src" / "main.rt").read_text(encoding="utf-8"):
-        yield f"main.rt names {COPIED}"
+    for name, copied in COPIED.items():
+        crate = tree / "crates" / name
+        if (crate / "wrong-code").exists() or files(crate) != files(tree / "crates" / copied):
+            yield f"{name} has other files than {copied}"
+        for it in files(crate):
+            if "_example" in (crate / it).read_text(encoding="utf-8"):
+                yield f"{it} of {name} names an example"
     lines = (tree / "crates.txt").read_text(encoding="utf-8").splitlines()
-    if not lines[-1].startswith(f"{NAME}: "):
-        yield f"crates.txt ends with {lines[-1]!r}"
+    if [it.partition(":")[0] for it in lines[-2:]] != list(COPIED):
+        yield f"crates.txt ends with {lines[-2:]!r}"
 
 
 def main():

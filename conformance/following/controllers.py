@@ -7,8 +7,8 @@ not made again. Then so many changes at random, one right after another. What ha
 so many seconds, and after those at random within a minute. Watches are forbidden for a while, which it says once. The server is then killed, which
 the controller says, and started anew, empty, on the same port; of each kind of which it was said that is then over, and what has to be there follows
 from the Pods that are made then. The controller's input begins with a line that is no text, which does not matter. At the end its input ends, and so
-does it; at a `kcp all` a Pod is then deleted, and the garbage collector removes what it owned. Words that are refused are told at once, while the
-input stays open.
+does it; at a `kcp all` a Pod is then deleted, and the garbage collector removes what it owned. Words that are refused are told at once, with how it
+is used, while the input stays open. With `--end` it ends after so many seconds, or goes on, though its input has ended.
 Usage: controllers.py --program PATH [--controller PATH] [--writes N] [--seed N] [--within SECONDS]
 """
 import argparse
@@ -50,13 +50,20 @@ CHANGES = [
     ("a Pod is deleted", "a", None),
     ("a Pod of the same name is made", "a", {"app": "api"}),
 ]
-# Words that are refused, and what is said of them.
+# Words that are refused, what is said of them, and whether its usage follows.
+SERVER = ["--server", "127.0.0.1:1"]
 REFUSED = [
-    ([], "bad arguments"),
-    (["--server", "127.0.0.1:1"], "bad arguments"),
-    (["--server", "127.0.0.1:1", "--label", "app"], "bad arguments"),
-    (["--server", "127.0.0.1:1", "--selector", "app in web"], "a watch has a selector that cannot be understood"),
+    ([], "bad arguments", True),
+    (SERVER, "bad arguments", True),
+    ([*SERVER, "--label", "app"], "not understood: --label", True),
+    ([*SERVER, *SERVER], "not understood: --server", True),
+    ([*SERVER, "--selector"], "not understood: --selector", True),
+    ([*SERVER, "--selector", "app", "--end", "soon"], "not understood: soon", True),
+    ([*SERVER, "--selector", "app", "--end", "1234567890"], "not understood: 1234567890", True),
+    ([*SERVER, "--selector", "app in web"], "a watch has a selector that cannot be understood", False),
 ]
+# How it ends, by its last words, where its input has ended: with status 0 between these seconds, or not within the last.
+ENDS = [([], 0, 30), (["--end", "input"], 0, 30), (["--end", "2"], 2, 30), (["--end", "never"], None, 4)]
 AT_ONCE = 20
 # For how many seconds nothing may change, and how many more than a single change the end may take.
 STAYS_SECONDS, ENDS_SECONDS = 1, 1
@@ -378,16 +385,33 @@ def ran(asked, name):
 def refusals(controller):
     """Returns for each words that are refused whether they were not: at once, while the input stays open."""
     wrong = []
-    for words, told in REFUSED:
+    for words, told, has_usage in REFUSED:
         with subprocess.Popen([controller, *words], stdin=subprocess.PIPE, stderr=subprocess.PIPE) as tried:
             with contextlib.suppress(subprocess.TimeoutExpired):
                 tried.wait(AT_ONCE)
             status = tried.poll()
             tried.kill()
-            said = tried.stderr.read()
-        wrong.append((status, said) != (2, f"controller_example: {told}\n".encode()))
+            said = tried.stderr.read().decode()
+        begins = f"controller_example: {told}\n" + ("\nusage: controller_example " if has_usage else "")
+        wrong.append(status != 2 or not (said.startswith(begins) if has_usage else said == begins))
         if wrong[-1]:
             print(f"FAILED {' '.join(words)}: it ended with {status} and said {said}")
+    return wrong
+
+
+def ends(controller):
+    """Returns for each way to end whether it did not end so, where nobody listens and its input has ended."""
+    wrong = []
+    for words, least, most in ENDS:
+        began = time.monotonic()
+        with subprocess.Popen([controller, *SERVER, "--selector", "app", *words], stdin=subprocess.DEVNULL, stderr=subprocess.DEVNULL) as tried:
+            with contextlib.suppress(subprocess.TimeoutExpired):
+                tried.wait(most)
+            status, took = tried.poll(), time.monotonic() - began
+            tried.kill()
+        wrong.append(status is not None if least is None else status != 0 or took < least)
+        if wrong[-1]:
+            print(f"FAILED {' '.join(words) or 'no --end'}: after {took:.1f} s its status is {status}")
     return wrong
 
 
@@ -409,7 +433,7 @@ def main():
     parser.add_argument("--within", type=float, default=1.0)
     asked = parser.parse_args()
     asked.controller = built(asked.controller)
-    wrong = [it for name in ("serve", "all") for it in ran(asked, name)] + refusals(asked.controller)
+    wrong = [it for name in ("serve", "all") for it in ran(asked, name)] + refusals(asked.controller) + ends(asked.controller)
     print(f"{len(wrong) - sum(wrong)} passed, {sum(wrong)} failed")
     return 1 if any(wrong) else 0
 

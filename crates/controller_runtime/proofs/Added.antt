@@ -7,7 +7,7 @@ use Rattle.std.specs.declared.cmp.Ordering.{Ordering}
 use Rattle.spec_client_go.specs.Shifts.{Shift}
 use Rattle.keyed_board.specs.Steps.{Step, add}
 use Rattle.shared_keyed_board.specs.Calls.{Sight, IsCall, Nothing, once_ok}
-use Rattle.controller_runtime.specs.Owing.{AreOwed}
+use Rattle.reconciler.specs.Owing.{AreOwed}
 use Rattle.controller_runtime.specs.Runs.{AddsOwedKeys, OnlyAddsOwed}
 
 module _ {K N : Type 0} (owes : Shift → List K → Type 0) (says : K → N) where

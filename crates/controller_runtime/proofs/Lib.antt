@@ -1,7 +1,6 @@
 mod Again
 mod Named
 mod Made
-mod Owed
 mod Turned
 mod Taken
 mod Runs

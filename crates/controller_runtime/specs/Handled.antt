@@ -11,8 +11,8 @@ use Rattle.list_and_watch.specs.declared.causes.Cause.{Cause}
 use Rattle.list_and_watch.specs.declared.causes.Cause.TheVariants.{FirstList, LaterList, Changes}
 use Rattle.keyed_board.specs.Steps.{add}
 use Rattle.shared_keyed_board.specs.Calls.{Sight, IsCall, Nothing}
-use Rattle.controller_runtime.specs.Owing.{AreOwed}
-use Rattle.controller_runtime.specs.Unchanged.{all_unchanged}
+use Rattle.reconciler.specs.Owing.{AreOwed}
+use Rattle.reconciler.specs.Unchanged.{all_unchanged}
 
 -- what is published after this revision is another server's: it is older, or its changes show so
 abbrev pub is_other : ℕ → Snapshot → List Shift → Bool

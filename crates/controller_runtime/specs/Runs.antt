@@ -13,7 +13,7 @@ use Rattle.shared_keyed_board.specs.Calls.{Sight}
 use Rattle.shared_keyed_board.specs.Histories.{History, MayFollow, hand}
 use Rattle.shared_keyed_board.specs.Passes.{AnyPass, IsPassAt, key_in_hand, sight}
 use Rattle.shared_keyed_board.specs.declared.boards.SharedKeyedBoard.{SharedKeyedBoard}
-use Rattle.controller_runtime.specs.Owing.{AreOwed}
+use Rattle.reconciler.specs.Owing.{AreOwed}
 use Rattle.controller_runtime.specs.Reconciled.{EndsAsShown}
 
 -- keys are added: those that changes owe

@@ -1,10 +1,10 @@
 //! A thread that follows a kind.
 use crate::handling::ChangeHandler;
-use crate::reconciler::Reconciler;
 use api_client::Api;
 use informer::SharedInformer;
 use keyed_queues::Named;
 use list_and_watch::{Follower, follow};
+use reconciler::Reconciler;
 use spec_api::kinds::Kind;
 use std::alloc::Global;
 use std::sync::Wait;

@@ -2,16 +2,16 @@
 ghost use Rattle.std.specs.Prelude.{◌≡◌, IfOk, map};
 ghost use Rattle.indexer.specs.Shifted.{shift_of};
 ghost use Rattle.shared_keyed_board.specs.Passes.{IsPassAt};
-ghost use Rattle.controller_runtime.specs.Owing.{AreOwed};
+ghost use Rattle.reconciler.specs.Owing.{AreOwed};
 ghost use Rattle.controller_runtime.specs.Handled.{AreGiven, AreOwedByAll, is_other};
 
-use crate::reconciler::Reconciler;
-use crate::unchanged::{joined, owed_again};
 use crate::under_way::UnderWay;
 use indexer::{Indexed, Shift};
 use informer::Listers;
 use keyed_queues::Named;
 use list_and_watch::{Cause, Onward, Sink, shows_other_server};
+use reconciler::owing::joined;
+use reconciler::{Reconciler, owed, owed_again};
 use shared_keyed_board::{BoardPass, SharedKeyedBoard};
 use std::alloc::{AllocError, Global};
 use std::sync::Wait;
@@ -30,22 +30,6 @@ pub(crate) struct ChangeHandler<'a, R, C, K: Named> {
     /// The revision that was published last.
     pub(crate) revision: u64,
     ghost sits: { IsPassAt board.now pass },
-}
-
-/// Returns the keys that changes owe, those of each change after those of the ones before it. The error is running out of memory.
-fn owed<K: Named, C: Reconciler<K>>(
-    alloc: Global,
-    controller: &C,
-    changes: &[Shift],
-) -> Result<Vec<K>, AllocError>
-    ensures { IfOk result (λ keys. AreOwed C.owes (map shift_of changes.now) keys.items) }
-{
-    let mut keys = Vec::new(alloc);
-    for change in changes {
-        let mut more = controller.keys_of(alloc, change)?;
-        keys.append(&mut more)?;
-    }
-    Ok(keys)
 }
 
 /// Returns the keys that all objects owe which listers show. The error is running out of memory, or that an informer is closed.

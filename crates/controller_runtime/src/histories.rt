@@ -3,8 +3,8 @@ ghost use Rattle.std.specs.Prelude.{OnOk, All};
 ghost use Rattle.shared_keyed_board.specs.Passes.{IsPassAt, known, sight};
 ghost use Rattle.controller_runtime.specs.Runs.{IsBack, IsOfRun};
 
-use crate::reconciler::Reconciler;
 use keyed_queues::Named;
+use reconciler::Reconciler;
 use shared_keyed_board::{BoardPass, SharedKeyedBoard};
 use std::alloc::{AllocError, Global};
 use std::sync::Wait;

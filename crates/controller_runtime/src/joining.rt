@@ -5,9 +5,9 @@ ghost use Rattle.controller_runtime.specs.Runs.{IsBack};
 ghost use Rattle.controller_runtime.specs.Threads.{IsReady, HasEnded, StopsLast};
 
 use crate::members::RunThread;
-use crate::reconciler::Reconciler;
 use api_client::Api;
 use keyed_queues::Named;
+use reconciler::Reconciler;
 use shared_keyed_board::{BoardPass, SharedKeyedBoard};
 use std::sync::Wait;
 use std::thread::{Threads, for_each_mut};

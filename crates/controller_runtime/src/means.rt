@@ -1,5 +1,4 @@
 //! By what a worker works.
-use crate::reconciler::Reconciler;
 use crate::signs::Over;
 use crate::under_way::UnderWay;
 use api_client::Api;
@@ -8,6 +7,7 @@ use informer::Listers;
 use keyed_board::Outcome;
 use keyed_queues::Named;
 use object_keys::PerKind;
+use reconciler::Reconciler;
 use shared_keyed_board::{BoardPass, KeyInHand, SharedKeyedBoard};
 use std::alloc::Global;
 use std::sync::Wait;

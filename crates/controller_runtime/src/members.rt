@@ -1,11 +1,11 @@
 //! The threads of a run.
 use crate::following::KindFollower;
-use crate::reconciler::Reconciler;
 use crate::stopping::Stopper;
 use crate::ticking::Ticker;
 use crate::working::Worker;
 use api_client::Api;
 use keyed_queues::Named;
+use reconciler::Reconciler;
 use shared_keyed_board::{BoardPass, SharedKeyedBoard};
 use std::sync::Wait;
 use std::time::Clock;

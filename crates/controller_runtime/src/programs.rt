@@ -1,10 +1,9 @@
-//! Controllers as programs: at a server over TCP, until standard input ends.
+//! Controllers as programs: at a server over TCP, until a stop.
 ghost use Rattle.std.specs.Prelude.{◌≡◌, ◌<◌, ◌^◌, None, OnOk, IfErr, All, length};
 ghost use Rattle.controller_runtime.specs.Watched.{kind_watched_twice, IsScoped, RefusesScopes, RefusesWatches};
 
 use crate::followed::Followed;
 use crate::pausing::RunPauses;
-use crate::reconciler::Reconciler;
 use crate::running::{Ended, OTHER_THREADS, run_until_over};
 use crate::start_fault::StartFault;
 use crate::telling::RunNotes;
@@ -13,11 +12,12 @@ use api_client::{Connect, Remote};
 use api_notes::{Notes, Told};
 use keyed_queues::Named;
 use list_and_watch::Onward;
+use reconciler::Reconciler;
 use request_encoding::{Scope, ScopeFault};
 use shared_keyed_board::SharedKeyedBoard;
 use std::alloc::{AllocError, Global};
 use std::io;
-use std::io::{BufReader, ErrorKind, Input, Read};
+use std::io::BufReader;
 use std::net::{Net, TcpListener, TcpStream};
 use std::sync::Wait;
 use std::thread::Threads;
@@ -27,9 +27,6 @@ use wakeups::Stop;
 
 /// How many workers there are at most.
 pub const MOST_WORKERS: usize = 64;
-
-/// How many bytes of standard input are read at a time.
-const PIECE: usize = 4096;
 
 /// What connects to a server, named by a text, until a stop.
 #[derive(Drop)]
@@ -227,26 +224,4 @@ where
         }
     }
     unreachable!()
-}
-
-/// Reads until there is no more, or it cannot be read on, and keeps nothing of it.
-fn read_away<R: Read>(input: &mut R) {
-    let mut piece = [0u8; PIECE];
-    for _ in 0..u64::MAX {
-        match input.read(&mut piece) {
-            Ok(0) => return,
-            Ok(_) => {}
-            Err(error) => match error.kind() {
-                ErrorKind::Interrupted => {}
-                _ => return,
-            },
-        }
-    }
-}
-
-/// Reads standard input until it ends or its device fails, whatever comes, and then asks for a stop. It takes no memory.
-pub fn stop_at_end_of_input<R: Input>(rt: &R, stop: &Stop) {
-    let mut input = rt.reader();
-    read_away(&mut input);
-    stop.stop();
 }

@@ -3,10 +3,10 @@ ghost use Rattle.std.specs.Prelude.{◌≡◌, OnErr, OnOk};
 ghost use Rattle.controller_runtime.specs.Runs.{IsAtWork, IsBack};
 
 use crate::means::Means;
-use crate::reconciler::Reconciler;
 use crate::signs::{Listed, Over};
 use api_client::Api;
 use keyed_queues::Named;
+use reconciler::Reconciler;
 use shared_keyed_board::{BoardPass, SharedKeyedBoard};
 use std::sync::Wait;
 use std::time::Clock;

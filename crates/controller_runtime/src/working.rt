@@ -1,9 +1,9 @@
 //! A worker.
 use crate::means::Means;
-use crate::reconciler::Reconciler;
 use crate::turning::work;
 use api_client::Api;
 use keyed_queues::Named;
+use reconciler::Reconciler;
 use shared_keyed_board::{BoardPass, SharedKeyedBoard};
 use std::sync::Wait;
 use std::time::Clock;

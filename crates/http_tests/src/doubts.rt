@@ -3,8 +3,8 @@ use crate::scenes::{
     EMPTY, EXPIRED, FollowerScene, LATER, LIST, Relisting, SAME, SAME_LATER, UNTIL_NINE, first_of,
     first_unlike, first_unlisted,
 };
-use crate::scripts::{First, ScriptedWatch};
 use api_client::Opened;
+use scripted_api::{First, ScriptedWatch};
 use std::alloc::Global;
 
 /// The first object at revision 5, created at another moment; written at another revision; and none.

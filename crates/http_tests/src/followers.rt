@@ -3,8 +3,8 @@ use crate::scenes::{
     EMPTY, EXPIRED, FollowerScene, LATER, LIST, Relisting, SAME, SAME_LATER, SEVEN_AND_HALF,
     UNTIL_NINE, first_of, first_unlike, first_unlisted, is_followed,
 };
-use crate::scripts::{First, ScriptedWatch};
 use api_client::Opened;
+use scripted_api::{First, ScriptedWatch};
 use std::alloc::Global;
 
 /// A watch that is not opened.

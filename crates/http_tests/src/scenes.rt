@@ -1,8 +1,9 @@
 //! Scripts that are followed, and what is to come of each.
-use crate::scripts::{First, RecordingSink, Script, ScriptedWatch, Waits};
+use crate::scripts::{RecordingSink, Waits};
 use api_client::Opened;
 use list_and_watch::{Follower, follow};
 use plain_informer::PlainInformer;
+use scripted_api::{First, Script, ScriptedWatch};
 use spec_api::kinds::Kind;
 use std::alloc::Global;
 
@@ -85,6 +86,8 @@ fn begin(alloc: Global, is_streaming: bool) -> Follower<PlainInformer> {
 /// Returns a server that answers as a scene says.
 fn server<'a>(alloc: Global, scene: &FollowerScene<'a>) -> Script<'a> {
     Script {
+        answers: &[],
+        requests: Vec::new(alloc),
         lists: scene.lists,
         firsts: scene.firsts,
         watches: scene.watches,

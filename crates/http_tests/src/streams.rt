@@ -2,8 +2,8 @@
 use crate::scenes::{
     FollowerScene, LATER, LIST, SAME, UNTIL_NINE, first_of, first_unlike, is_followed,
 };
-use crate::scripts::{STREAM, ScriptedWatch};
 use api_client::Opened;
+use scripted_api::{STREAM, ScriptedWatch};
 use std::alloc::Global;
 
 /// An object as an initial event, and the bookmarks that close the initial events at the revisions 5 and 9.

@@ -19,13 +19,14 @@ use Rattle.control_desk.specs.Steps.{Step, changing, forget}
 use Rattle.reconcile_turn.specs.Seen.{answered_to}
 use Rattle.reconcile_turn.specs.declared.answers.CommandAnswer.{CommandAnswer}
 use Rattle.reconcile_turn.specs.declared.answers.CommandAnswer.TheVariants as answer
-use Rattle.manager_worker.specs.Finding.{Adds, FoundBy, FoundIf, FindsOf, can_be}
+use Rattle.live_reads.specs.Finding.{FindsOf, can_be}
+use Rattle.manager_worker.specs.Finding.{Adds, FoundBy, FoundIf}
 use Rattle.manager_worker.specs.Learning.{AsksOnce, AsksIf, AsksAtMost, LearnsOf}
 use Rattle.manager_worker.specs.Stepping.{InTurn, Sees, Asks, asking, Reads, Heeds, Issues, Takes, Steps, told}
 use Rattle.manager_worker.specs.declared.answers.Learnt.{Learnt}
 use Rattle.manager_worker.specs.declared.answers.Learnt.TheVariants as learnt
-use Rattle.manager_worker.specs.declared.live_reads.FoundObject.{FoundObject}
-use Rattle.manager_worker.specs.declared.live_reads.FoundObject.TheVariants as object
+use Rattle.live_reads.specs.declared.found.FoundObject.{FoundObject}
+use Rattle.live_reads.specs.declared.found.FoundObject.TheVariants as object
 use Rattle.manager_worker.specs.declared.steps.Progress.{Progress}
 use Rattle.manager_worker.specs.declared.steps.Progress.TheVariants as progress
 

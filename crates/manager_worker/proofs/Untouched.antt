@@ -16,8 +16,8 @@ use Rattle.reconcile_turn.proofs.Steps.{step_by, next_seeing, next_reading, next
 use Rattle.manager_worker.specs.Ending.{IsUntouched}
 use Rattle.manager_worker.specs.Finding.{Adds}
 use Rattle.manager_worker.specs.Stepping.{InTurn, Notes, Takes, Reaches, none, more, sees}
-use Rattle.manager_worker.specs.declared.live_reads.FoundObject.{FoundObject}
-use Rattle.manager_worker.specs.declared.live_reads.FoundObject.TheVariants as object
+use Rattle.live_reads.specs.declared.found.FoundObject.{FoundObject}
+use Rattle.live_reads.specs.declared.found.FoundObject.TheVariants as object
 use Rattle.manager_worker.specs.declared.steps.Progress.{Progress}
 use Rattle.manager_worker.specs.declared.steps.Progress.TheVariants as progress
 

@@ -23,7 +23,7 @@ use Rattle.manager_worker.specs.Patience.{Heard, Hears}
 use Rattle.manager_worker.specs.Telling.{expecting}
 use Rattle.manager_worker.specs.declared.answers.Learnt.{Learnt}
 use Rattle.manager_worker.specs.declared.answers.Learnt.TheVariants as learnt
-use Rattle.manager_worker.specs.declared.live_reads.FoundObject.{FoundObject}
+use Rattle.live_reads.specs.declared.found.FoundObject.{FoundObject}
 use Rattle.manager_worker.specs.declared.steps.Progress.{Progress}
 use Rattle.manager_worker.specs.declared.steps.Progress.TheVariants as progress
 

@@ -5,7 +5,6 @@
 pub mod answers;
 pub mod gates;
 pub mod laws;
-pub mod live_reads;
 pub mod looking;
 mod patience;
 pub mod signals;

@@ -14,13 +14,13 @@ ghost use Rattle.manager_worker.specs.Patience.{Hears, heard};
 ghost use Rattle.manager_worker.specs.Stepping.{Looks, Asks, Reads, Expects, Notes, Heeds, Issues, Steps, in_turn, told};
 
 use crate::answers::{Learnt, learnt_of};
-use crate::live_reads::{FoundObject, can_be, found_in};
 use crate::looking::Looking;
 use crate::patience::note;
 use crate::tools::Tools;
 use api_client::Api;
 use control_desk::{ControlDesk, WorkPass};
 use http_client::statuses::BAD_REQUEST;
+use live_reads::{FoundObject, can_be, found_in};
 use object_keys::Key;
 use reconcile_turn::{CommandAnswer, Expected, NextStep, Sight, Turn};
 use request_encoding::can_be_told;

@@ -1,7 +1,0 @@
-use Rattle.std.proofs.Common.{map, drop}
-use Rattle.indexer.specs.Shifted.{shift_of}
-use Rattle.controller_runtime.proofs.Owed.{AreOwedSoFar}
-use Rattle.controller_runtime.proofs.handling.owed.Given as goal
-
-abbrev pub invariant-loop-change : goal.invariant-loop-change
-invariant-loop-change g l = AreOwedSoFar g.C.Reconciler.owes (map shift_of l.changes) (map shift_of (drop l.change-index l.changes)) l.keys.items

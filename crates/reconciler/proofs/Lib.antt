@@ -1,0 +1,2 @@
+pub mod OwedSoFar
+pub mod Again
