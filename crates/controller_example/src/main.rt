@@ -36,30 +36,56 @@ fn refuse(rt: &HostRuntime, fault: StartFault) -> io::Result<ExitCode> {
     Ok(ExitCode::from(if fault.wants_memory() { 1 } else { 2 }))
 }
 
-/// Starts the thread that asks for the stop, if there is to be one. It is not joined: where the program ends before, so does this thread.
-fn start_end(rt: HostRuntime, end: End, stop: Arc<Stop, Global>) -> Result<(), StartFault> {
-    match end {
-        End::OfInput => drop(thread::spawn(&rt, move || stop_at_end_of_input(&rt, &stop))?),
-        End::After(seconds) => drop(thread::spawn(&rt, move || {
-            stop_after(&rt, seconds, &stop)
-        })?),
-        End::Never => {}
+/// Returns the words after the program's name. The error is running out of memory, or a word that is no text.
+fn words_of(rt: &HostRuntime) -> io::Result<Vec<String>> {
+    let mut words = Vec::new(rt.alloc());
+    for word in env::args(rt)?.skip(1) {
+        words.push(word)?;
     }
-    Ok(())
+    Ok(words)
 }
 
-/// Keeps the ConfigMaps until the end that is asked for. The error is why it ends before that.
-fn keep(rt: HostRuntime, asked: Arguments<'_>) -> Result<(), StartFault> {
-    let alloc = rt.alloc();
+/// Returns a stop for two threads, where the watches can be followed.
+fn stop_for_two(
+    alloc: Global,
+    watches: &[Watch<'_>],
+) -> Result<(Arc<Stop, Global>, Arc<Stop, Global>), StartFault> {
+    check_watches(alloc, watches)?;
+    let stop = Arc::new(alloc, Stop::new())?;
+    let same = Arc::try_clone(&stop)?;
+    Ok((stop, same))
+}
+
+fn main(rt: HostRuntime) -> io::Result<ExitCode> {
+    let (alloc, words) = (rt.alloc(), words_of(&rt)?);
+    let asked = match Arguments::parse(&words) {
+        Ok(asked) => asked,
+        Err(word) => return refuse_words(&rt, word),
+    };
     let watches = [
         Watch::all(Kind::ConfigMap),
         Watch::selected(Kind::Pod, asked.selector),
     ];
-    check_watches(alloc, &watches)?;
-    let stop = Arc::new(alloc, Stop::new())?;
-    start_end(rt, asked.end, Arc::try_clone(&stop)?)?;
+    let (stop, same) = match stop_for_two(alloc, &watches) {
+        Ok(stops) => stops,
+        Err(fault) => return refuse(&rt, fault),
+    };
+    // What asks for the stop is not joined: where the program ends before, so does its thread.
+    match asked.end {
+        End::OfInput => {
+            if let Err(refused) = thread::spawn(&rt, move || stop_at_end_of_input(&rt, &same)) {
+                return refuse(&rt, StartFault::from(refused));
+            }
+        }
+        End::After(seconds) => {
+            if let Err(refused) = thread::spawn(&rt, move || stop_after(&rt, seconds, &same)) {
+                return refuse(&rt, StartFault::from(refused));
+            }
+        }
+        End::Never => {}
+    }
     let notes = StandardError::new(&rt, "controller_example");
-    run_at(
+    match run_at(
         &rt,
         alloc,
         asked.server,
@@ -68,19 +94,8 @@ fn keep(rt: HostRuntime, asked: Arguments<'_>) -> Result<(), StartFault> {
         WORKERS,
         &notes,
         &stop,
-    )
-}
-
-fn main(rt: HostRuntime) -> io::Result<ExitCode> {
-    let mut words = Vec::new(rt.alloc());
-    for word in env::args(&rt)?.skip(1) {
-        words.push(word)?;
-    }
-    match Arguments::parse(&words) {
-        Ok(asked) => match keep(rt, asked) {
-            Ok(()) => Ok(ExitCode::SUCCESS),
-            Err(fault) => refuse(&rt, fault),
-        },
-        Err(word) => refuse_words(&rt, word),
+    ) {
+        Ok(()) => Ok(ExitCode::SUCCESS),
+        Err(fault) => refuse(&rt, fault),
     }
 }
