@@ -87,6 +87,7 @@ fn begin(alloc: Global, is_streaming: bool) -> Follower<PlainInformer> {
 fn server<'a>(alloc: Global, scene: &FollowerScene<'a>) -> Script<'a> {
     Script {
         answers: &[],
+        played: 0,
         requests: Vec::new(alloc),
         lists: scene.lists,
         firsts: scene.firsts,
