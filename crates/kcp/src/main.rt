@@ -27,7 +27,8 @@ use std::{env, io};
 const LISTEN: &str = "listen";
 
 /// What is said where a server with its controllers has ended with an input of no line.
-const NO_INPUT: &[u8] = b"kcp: all ended with its input, which was empty (serve and control read none)\n";
+const NO_INPUT: &[u8] =
+    b"kcp: all ended with its input, which was empty (serve and control read none)\n";
 
 /// What reads standard input, and what writes to standard output.
 type StandardLines<'a> = (
