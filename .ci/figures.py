@@ -104,7 +104,6 @@ def modelled(of):
 def text_of(of, columns):
     """Returns the figures of a run as text, with a table of crates of so many columns at its end."""
     chain = longest_chain(of["crates"])
-    steps = ", ".join(f"`{name}` {of['crates'][name]['proofs']:,.0f}" for name in chain)
     counts = ", ".join(f"{what} {passed} passed, {failed} failed" for what, (passed, failed) in of["passed"].items())
     whole = of["seconds"][STAGES[0]] + seconds_after(of)
     lines = [
@@ -112,7 +111,7 @@ def text_of(of, columns):
         "",
         *whole_table(of),
         "",
-        f"The longest chain of proofs takes {sum(of['crates'][name]['proofs'] for name in chain):,.0f} processor seconds: {steps}.",
+        f"The longest chain of proofs takes {sum(of['crates'][name]['proofs'] for name in chain):,.0f} processor seconds, and ends in `{chain[-1]}`.",
         "",
         modelled(of),
         "",

@@ -32,6 +32,7 @@ class Part:
 
 # What takes a second and no program.
 FIRST = {
+    "formatted": Part("conformance/formatted.py", {}, "--check", "each file is as `rt fmt` writes it"),
     "negative-tests-apply": Part("conformance/wrong_code.py", {}, "--check", "each piece of wrong code fits the text that it changes; what has changed since it was tried"),
     "wakings-apply": Part("conformance/wakings/run.py", {}, "--check", "each waking that is taken away fits the text that it changes"),
     "laws": Part("docs/definitions.py", {}, "--check", "each file of definitions says what it is for, and docs/LAWS.md has the laws' own words"),

@@ -7,6 +7,7 @@
     python3 docs/definitions.py --check           changes nothing; the status is 1 where that page is not the present one, or a file says nothing of itself
 """
 
+import itertools
 import re
 import signal
 import sys
@@ -46,9 +47,9 @@ Texts are lists of bytes, and numbers are natural, unless a definition says othe
 
 LAWS_HEAD = """# Laws
 
-What follows from the definitions, whatever code meets them, and what crates say of their own words: here the laws that users rely on, by what they
-are for, in their own words. Each is the contract of a public function with an empty body, and proved. `python3 docs/definitions.py --laws` prints all
-of them, and `--write` makes this page; single cases, computed, are in `crates/spec_examples` and in files named `*examples.rt`.
+What follows from the definitions, whatever code meets them: the laws that users rely on, in their own words. Each is the contract of a public function
+with an empty body, and proved. What holds at rest, and that no more pods are made than declared, is in
+[PROVED.md](PROVED.md#the-headline-the-simulated-control-plane). `python3 docs/definitions.py --laws` prints all laws, and `--write` makes this page.
 """
 
 # The laws of docs/LAWS.md, by what they are for.
@@ -59,20 +60,20 @@ CHOSEN = {
     ],
     "For who lists and watches": [
         "spec_laws::page_replies_are_lists", "spec_laws::remembered_are_served", "spec_laws::changes_are_applied", "spec_laws::looks_are_one_stream",
-        "spec_laws::initial_streams_are_applied", "reflector::lists_and_watches_are_followed", "list_and_watch::changes_are_given_once",
+        "reflector::lists_and_watches_are_followed", "list_and_watch::changes_are_given_once",
     ],
     "For who deletes": [
         "spec_laws::deletes_find_their_uid", "spec_laws::deletes_spare_finalizers", "spec_laws::last_finalizers_remove", "spec_laws::no_finalizer_is_added",
         "spec_laws::collector_spares_live_owners",
     ],
     "For who declares": [
-        "spec_laws::only_own_pods_are_deleted", "spec_laws::never_both", "spec_laws::surge_is_never_passed", "spec_laws::taken_leave_fewest",
-        "spec_laws::only_spent_sets_are_deleted", "sim_overshoot_laws::no_overshoot", "sim_rest_plane_laws::nothing_is_left_at_rest",
-        "sim_rest_plane_laws::sets_are_as_declared_at_rest", "sim_rest_plane_laws::deployments_are_rolled_out_at_rest",
+        "spec_laws::only_own_pods_are_deleted", "spec_laws::surge_is_never_passed", "spec_laws::taken_leave_fewest",
+        "spec_laws::only_spent_sets_are_deleted",
     ],
     "For who writes a controller": [
         "keyed_queues::hands_apart", "keyed_queues::nothing_is_lost", "keyed_queues::delays_double", "shared_keyed_board::nothing_is_forgotten",
         "manager_worker::commands_are_issued_once",
+        "manager_worker::looks_are_not_older",
     ],
     "For who speaks over connections": [
         "spec_http::one_thing_is_asked", "spec_http::half_a_body_asks_nothing", "spec_http::cut_replies_are_lost", "api_client::requests_are_asked",
@@ -94,8 +95,9 @@ def comment_of(path):
 
 
 def sentence_of(path):
-    """Returns what a file of code says of itself at its head."""
-    return " ".join(line.removeprefix("//!").strip() for line in text_of(path).splitlines() if line.startswith("//!"))
+    """Returns the first paragraph of what a file of code says of itself at its head."""
+    lines = [line.removeprefix("//!").strip() for line in text_of(path).splitlines() if line.startswith("//!")]
+    return " ".join(itertools.takewhile(bool, lines))
 
 
 def modules_of(path):

@@ -67,9 +67,11 @@ def edges(found):
 
 
 def picture(found):
-    """Returns the layers as Mermaid draws them."""
-    shown = [name for name in found if name not in ASIDE]
-    rows = [f"    {name}" for name in shown] + [f"    {other} --> {name}" for name, other in edges(found)]
+    """Returns the layers as Mermaid draws them, with the arrows that begin at one in a row."""
+    above = {name: [] for name in found if name not in ASIDE}
+    for name, other in edges(found):
+        above[other].append(name)
+    rows = [f"    {name} --> {' & '.join(ends)}" for name, ends in above.items() if ends]
     return ["```mermaid", "flowchart BT", *rows, "```"]
 
 

@@ -1,5 +1,6 @@
-"""A server that asks to be left alone (Retry-After): it is asked for what it so refuses no sooner, all else goes on, and what was declared is there in
-the end; and one that denies creates by a quota: that is told of once with the object and the reason, and once when it is over."""
+"""A server that asks to be left alone (Retry-After): it is asked for what it so refuses no sooner, by workers and by who follows kinds, all else goes on,
+and what was declared is there in the end; and one that denies creates by a quota: that is told of once with the object and the reason, and once when
+it is over."""
 import collections
 import itertools
 import json
@@ -12,9 +13,14 @@ from losing import await_all
 from objects import replica_set, staying
 from programs import Ending, control, server
 from refusing import RefusingProxy
+from restarting import settle
+from streaming import PLURALS
 from understanding import ALL_ANSWERED_SECONDS, check_silent, check_told, reply
 from unseen import collected
 from waiting import check, until
+
+# Beside the proxies, which put its folder where it is found.
+from asking import LIST, LOOK, STREAM, WATCH, asked_for, refusal
 
 WORKERS, SETS, HELD = 4, 5, "held"
 # For how many seconds the server asks to be left alone, and how often it is asked for each set before it takes creates again.
@@ -67,6 +73,47 @@ class CreatesRefused(RefusingProxy):
         self.refuses = False
         time.sleep(ALL_ANSWERED_SECONDS)
         self.relays.set()
+
+
+class FollowersRefused(RefusingProxy):
+    """Answers who follows a kind by itself, once what it asks of each sort, with a time; the second stream as a server that knows none. Notes how
+    long after each such answer something is asked of the kind again."""
+
+    def __init__(self, port):
+        self.to_refuse = {plural: [STREAM, STREAM, LIST, WATCH, LOOK] for plural in PLURALS}
+        self.asked_at, self.waits = {}, []
+        super().__init__(port)
+
+    def refusal(self, request):
+        plural, what = request.split(b" ")[1].decode().split("?")[0].rpartition("/")[2], asked_for(request)
+        if not request.startswith(b"GET ") or plural not in self.to_refuse:
+            return None
+        with self.lock:
+            now, left = time.monotonic(), self.to_refuse[plural]
+            if plural in self.asked_at:
+                self.waits.append(now - self.asked_at.pop(plural))
+            if what not in left:
+                return None
+            left.remove(what)
+            if what == STREAM and STREAM not in left:
+                return refusal(400)
+            self.asked_at[plural] = now
+            return asking("429 Too Many Requests", 429)
+
+
+def followers_left_alone(program):
+    """A stream, a list, a watch and a look of each kind are answered 429, with a time: none of those who follow asks sooner, and all goes on."""
+    serving = server(program)
+    proxy = FollowersRefused(serving.port)
+    with Ending(serving, control(program, proxy.port, WORKERS)):
+        client = Client(serving.port)
+        client.create("replicasets", replica_set(HELD, SETS))
+        until(lambda: not any(proxy.to_refuse.values()) and not proxy.asked_at, lambda: f"not all was asked for: {proxy.to_refuse} are left")
+        settle(client, HELD, SETS)
+        shortest = min(proxy.waits)
+        check(shortest >= ASKED_SECONDS, f"a follower asked again after {shortest:.3f} s, not {ASKED_SECONDS}")
+        proxy.close()
+        return f"{len(proxy.waits)} answers with a time, the next request after {shortest:.3f} s at the soonest, and all as declared"
 
 
 def is_left_alone(proxy):

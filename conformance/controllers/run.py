@@ -29,6 +29,7 @@ scenario begins with nothing:
                              the first commands are answered 503, or 409, or creates 500: each is made again; conflicts and failures are told of, once
     one-key-left-alone, all-left-alone
                              a server that asks by Retry-After to be left alone, for one set or for all, is asked no sooner
+    followers-leave-alone    one that asks so who follows kinds, by a stream, a list, a watch and a look of each, is asked no sooner by these
     denials-are-told         a quota denies creates: told once, with the object and the reason, and once when that is over
     reads-refused            live reads of one set are refused: the one worker makes and scales another set meanwhile
     at-a-cluster             a stand-in for a Kubernetes API server takes each request by which a Deployment is made, rolled out and collected
@@ -99,6 +100,7 @@ def scenarios(asked):
         "failures-are-told": lambda: refusing.creates_fail(program),
         "one-key-left-alone": lambda: patience.one_key_left_alone(program),
         "all-left-alone": lambda: patience.all_left_alone(program),
+        "followers-leave-alone": lambda: patience.followers_left_alone(program),
         "denials-are-told": lambda: patience.denied(program),
         "streams-given": lambda: streaming.streamed(program),
         "streams-refused": lambda: streaming.streams_refused(program, [400, 422]),

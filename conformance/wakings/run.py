@@ -8,7 +8,7 @@ the copy, and what has to fail is built without proof and run: a test that passe
 Usage: run.py [--plain | --check | --list] [WORD ..]      WORD: only wakings whose names have one of these
   --plain   takes nothing away: then all these tests have to pass
   --check   runs nothing, and says in a second whether each edit still applies
-  --list    runs nothing, and tells what waits, what ends that, and what fails without
+  --list    runs nothing, and tells what waits, what ends that, within what time, and what fails without
 """
 import argparse
 import pathlib
@@ -96,12 +96,13 @@ def does_apply(waking):
 
 
 def listed(asked):
-    """Returns what waits, each with what ends that, and what has to fail where it is taken away."""
+    """Returns what waits, each with what ends that, within what time, and what has to fail where it is taken away."""
     lines = []
     for waking in asked:
         shown = [f"{crate} {' '.join(names)}" for crate, names in waking.tests] + [" ".join(it) for it in waking.scripts]
         shown += [f"refused: {it}" for it in waking.refused]
-        lines += [f"{waking.waits}", f"    ended by   {waking.ended_by}", f"    shown by   {'; '.join(shown)}   ({waking.name})"]
+        within = [f"    within     {waking.within}"] if waking.within else []
+        lines += [f"{waking.waits}", f"    ended by   {waking.ended_by}", *within, f"    shown by   {'; '.join(shown)}   ({waking.name})"]
     return "\n".join(lines)
 
 

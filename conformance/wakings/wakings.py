@@ -1,7 +1,7 @@
 """Reads what ends each wait, and how that is taken away.
 
-NAME.edit has a wait of the running program: lines 'waits: TEXT' and 'ended by: TEXT', what is taken away of that; 'crate: NAME', and
-the change of its code as in crates/NAME/wrong-code; and what has to fail then, one or more of
+NAME.edit has a wait of the running program: lines 'waits: TEXT' and 'ended by: TEXT', what is taken away of that; 'within: TEXT', how long it may
+last at most, where that can be said; 'crate: NAME', and the change of its code as in crates/NAME/wrong-code; and what has to fail then, one or more of
 
     tests: CRATE TEST ..        tests of a crate
     program: SCRIPT WORD ..     a script of conformance/ on the program
@@ -19,11 +19,12 @@ from negative import pieces
 
 @dataclasses.dataclass
 class Waking:
-    """What ends a wait: its name, what waits, what is taken away and how, and the tests and scripts that have to fail then."""
+    """What ends a wait: its name, what waits and how long, what is taken away and how, and the tests and scripts that have to fail then."""
 
     name: str
     waits: str
     ended_by: str
+    within: str
     piece: pieces.Piece
     tests: list
     scripts: list
@@ -64,7 +65,8 @@ def read(path):
     (waits,), (ended_by,), (crate,) = said(lines, "waits"), said(lines, "ended by"), said(lines, "crate")
     tests = [(it.split()[0], it.split()[1:]) for it in said(lines, "tests")]
     scripts = [it.split() for it in said(lines, "program")]
-    return Waking(path.stem, waits, ended_by, pieces.read(crate, path), tests, scripts, said(lines, "refused"))
+    within = " ".join(said(lines, "within"))
+    return Waking(path.stem, waits, ended_by, within, pieces.read(crate, path), tests, scripts, said(lines, "refused"))
 
 
 def all_wakings(words=()):

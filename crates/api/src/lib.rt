@@ -7,23 +7,23 @@
 #![tactic(auto)]
 
 pub mod alone;
-pub mod delivering;
-pub mod fault;
-pub mod list_replies;
-pub mod replying;
-pub mod responding;
-pub mod response;
-pub mod served;
-pub mod serving;
-pub mod site;
-pub mod solo;
+mod delivering;
+mod fault;
+mod list_replies;
+mod one_request;
+mod replying;
+mod responding;
+mod response;
+mod served;
+mod site;
+mod solo;
 
 pub use fault::ServeFault;
 pub use list_replies::ListReply;
+pub use one_request::serve_one;
 pub use replying::refusal_text;
 pub use responding::{respond, respond_to};
 pub use response::{OpenWatch, Response, Text};
 pub use served::Served;
-pub use serving::serve_one;
 pub use site::Site;
 pub use solo::Solo;

@@ -1,22 +1,26 @@
 //! A server behind connections.
-ghost use Rattle.std.specs.Prelude.{◌≡◌};
+ghost use Rattle.std.specs.Prelude.{◌≡◌, false};
+ghost use Rattle.chunked.specs.Devices.{device_of, has_failed};
 ghost use Rattle.http_client.specs.Calls.{text_of};
+ghost use Rattle.api_client.specs.Asked.{IsWatchedFrom};
 ghost use Rattle.api_client.specs.Outgoing.{get_text};
 
-use crate::api::{Api, Opened};
+use crate::api::Api;
 use crate::beginning::begin_watch;
 use crate::connect::Connect;
 use crate::limits::Limits;
+use crate::opened::Opened;
 use crate::outgoing::outgoing;
 use chunked::{Reader, Watched};
 use http_client::outgoing::text_of;
-use http_client::{Answer, More, Outgoing, call, read_more};
+use http_client::{Answer, More, Outgoing, read_more, send_and_read};
 use request_encoding::{
     Scope, can_be_told, list_target, page_target, request_text, stream_target, watch_target,
 };
 use request_parts::Request;
 use spec_api::kinds::Kind;
 use std::alloc::Global;
+use std::io::Read;
 
 /// A server that is asked over connections, one for each request, and the watch of it that is open, if one is. Lists, watches and streams are
 /// those of a scope.
@@ -52,18 +56,31 @@ fn get(target: &str) -> Outgoing<'_>
     }
 }
 
+/// Returns what reads a watch, if it is open, from where a reader stands.
+fn watch_from<R: Read + Drop>(opened: Opened, reader: Watched<R>) -> Option<Reader<R>>
+    requires { opened ≡ Opened.Open → has_failed reader ≡ false }
+    ensures { IsWatchedFrom R.remaining (R.remaining (device_of reader)) opened result }
+{
+    match opened {
+        Opened::Open => Some(Reader::new(reader)),
+        Opened::Expired | Opened::Refused { .. } | Opened::Lost => None,
+    }
+}
+
 impl<C: Connect + Drop> Remote<C> {
-    ghost use Rattle.std.specs.Prelude.{◌≡◌};
+    ghost use Rattle.std.specs.Prelude.{◌≡◌, None};
     ghost use Rattle.http_client.specs.Calls.{text_of};
     ghost use Rattle.request_encoding.specs.Scopes.{everything};
     ghost use Rattle.request_encoding.specs.Seen.{scope_of};
-    ghost use Rattle.api_client.specs.Asked.{IsOpened, IsSent, Stays, limits_of, scope_at};
+    ghost use Rattle.api_client.specs.Asked.{IsOpened, IsSent, Keeps, Stays, connector_at, limits_of, scope_at, watch_at};
     ghost use Rattle.api_client.specs.Outgoing.{get_text};
 
     /// Returns a server to which this connects, with no watch, whose lists and watches are of all namespaces, and the usual limits.
     pub fn new(connector: C) -> Remote<C>
         ensures scope { scope_at result ≡ everything }
         ensures limits { limits_of result ≡ Limits.USUAL }
+        ensures connector { connector_at result ≡ connector }
+        ensures watch { watch_at result ≡ None }
     {
         Remote::within(connector, Scope::everything())
     }
@@ -72,6 +89,8 @@ impl<C: Connect + Drop> Remote<C> {
     pub fn within(connector: C, scope: Scope) -> Remote<C>
         ensures scope { scope_at result ≡ scope_of scope }
         ensures limits { limits_of result ≡ Limits.USUAL }
+        ensures connector { connector_at result ≡ connector }
+        ensures watch { watch_at result ≡ None }
     {
         Remote::limited(connector, scope, Limits::USUAL)
     }
@@ -80,6 +99,8 @@ impl<C: Connect + Drop> Remote<C> {
     pub fn limited(connector: C, scope: Scope, limits: Limits) -> Remote<C>
         ensures scope { scope_at result ≡ scope_of scope }
         ensures limits { limits_of result ≡ limits }
+        ensures connector { connector_at result ≡ connector }
+        ensures watch { watch_at result ≡ None }
     {
         Remote {
             connector,
@@ -89,15 +110,27 @@ impl<C: Connect + Drop> Remote<C> {
         }
     }
 
-    /// Writes a request over a new connection, and returns what became of it, with a body of so many bytes at most.
+    /// Writes a request over a new connection, and returns what became of it, with a body of so many bytes at most. There is no connection before there is
+    /// memory for its text.
     fn send(&mut self, alloc: Global, request: Outgoing<'_>, most: u32) -> Answer
-        ensures sent { IsSent C.Reader.remaining C.Writer.contents most (text_of request.entry) result }
-        ensures stays { Stays self.old self.new }
+        ensures sent { IsSent C.connects C.Reader.remaining C.Writer.contents most (text_of request.entry) (connector_at self.old) result (connector_at self.new) }
+        ensures keeps { Keeps self.old self.new }
+    {
+        match text_of(alloc, request) {
+            Ok(text) => self.send_text(alloc, &text, most),
+            Err(_) => Answer::NotSent,
+        }
+    }
+
+    /// Writes the text of a request over a new connection, and returns what became of it, with a body of so many bytes at most.
+    fn send_text(&mut self, alloc: Global, text: &[u8], most: u32) -> Answer
+        ensures sent { IsSent C.connects C.Reader.remaining C.Writer.contents most text.now (connector_at self.old) result (connector_at self.new) }
+        ensures keeps { Keeps self.old self.new }
     {
         match self.connector.connect() {
             Ok((reader, writer)) => {
                 let mut writer = Watched::new(writer);
-                call(alloc, request, Watched::new(reader), &mut writer, most)
+                send_and_read(alloc, text, Watched::new(reader), &mut writer, most)
             }
             Err(_) => Answer::NotSent,
         }
@@ -105,7 +138,9 @@ impl<C: Connect + Drop> Remote<C> {
 
     /// Writes the request for a watch over a new connection, and opens it.
     fn begin(&mut self, alloc: Global, text: &[u8]) -> Opened
-        ensures opened { IsOpened C.Reader.remaining C.Writer.contents text.now result }
+        requires { watch_at self.old ≡ None }
+        ensures opened { IsOpened C.connects_to_watch C.Reader.remaining C.Writer.contents text.now (connector_at self.old) result (connector_at self.new)
+            (watch_at self.new) }
         ensures stays { Stays self.old self.new }
     {
         let (reader, writer) = match self.connector.connect_to_watch() {
@@ -115,15 +150,15 @@ impl<C: Connect + Drop> Remote<C> {
         let mut reader = Watched::new(reader);
         let mut writer = Watched::new(writer);
         let opened = begin_watch(alloc, text, &mut reader, &mut writer);
-        if opened == Opened::Open {
-            self.watch = Some(Reader::new(reader));
-        }
+        self.watch = watch_from(opened, reader);
         opened
     }
 
     /// Opens the watch of a target, if there is memory for its request.
     fn open(&mut self, alloc: Global, target: &str) -> Opened
-        ensures opened { IsOpened C.Reader.remaining C.Writer.contents (get_text target.now) result }
+        requires { watch_at self.old ≡ None }
+        ensures opened { IsOpened C.connects_to_watch C.Reader.remaining C.Writer.contents (get_text target.now) (connector_at self.old) result
+            (connector_at self.new) (watch_at self.new) }
         ensures stays { Stays self.old self.new }
     {
         match text_of(alloc, get(target)) {
@@ -134,14 +169,13 @@ impl<C: Connect + Drop> Remote<C> {
 }
 
 impl<C: Connect + Drop> Api for Remote<C> {
-    ghost use Rattle.std.specs.Prelude.{◌≡◌};
-    ghost use Rattle.request_encoding.specs.Targets.{list_target, page_target, stream_target, watch_target};
-    ghost use Rattle.api_client.specs.Asked.{IsCalled, IsOpened, IsSent, Stays, limits_of, scope_at};
-    ghost use Rattle.api_client.specs.Outgoing.{get_text};
+    ghost use Rattle.api_client.specs.Asked.{Exchanges, IsCalled, Keeps, connector_at, limits_of};
 
-    ghost answers = { λ before request answer after. IsCalled C.Reader.remaining C.Writer.contents (limits_of before).object request answer × Stays before after };
+    ghost answers = { λ before request answer after.
+        IsCalled C.connects C.Reader.remaining C.Writer.contents (limits_of before).object request (connector_at before) answer (connector_at after)
+        × Keeps before after };
 
-    ghost lists = { λ before kind answer after. IsSent C.Reader.remaining C.Writer.contents (limits_of before).list (get_text (list_target (scope_at before) kind)) answer × Stays before after };
+    ghost exchanges = { λ before exchanged after. Exchanges C.connects C.connects_to_watch C.Reader.remaining C.Writer.contents before exchanged after };
 
     fn call(&mut self, alloc: Global, request: &Request) -> Answer {
         if !can_be_told(request) {
@@ -160,20 +194,14 @@ impl<C: Connect + Drop> Api for Remote<C> {
         }
     }
 
-    fn first_at(&mut self, alloc: Global, kind: Kind, revision: u64) -> Answer
-        ensures sent { IsSent C.Reader.remaining C.Writer.contents (limits_of self.old).object (get_text (page_target (scope_at self.old) kind 1 revision)) result }
-        ensures stays { Stays self.old self.new }
-    {
+    fn first_at(&mut self, alloc: Global, kind: Kind, revision: u64) -> Answer {
         match page_target(alloc, &self.scope, kind, 1, revision) {
             Ok(target) => self.send(alloc, get(target.as_str()), self.limits.object),
             Err(_) => Answer::NotSent,
         }
     }
 
-    fn open_watch(&mut self, alloc: Global, kind: Kind, revision: u64) -> Opened
-        ensures opened { IsOpened C.Reader.remaining C.Writer.contents (get_text (watch_target (scope_at self.old) kind revision)) result }
-        ensures stays { Stays self.old self.new }
-    {
+    fn open_watch(&mut self, alloc: Global, kind: Kind, revision: u64) -> Opened {
         self.watch = None;
         match watch_target(alloc, &self.scope, kind, revision) {
             Ok(target) => self.open(alloc, target.as_str()),
@@ -181,10 +209,7 @@ impl<C: Connect + Drop> Api for Remote<C> {
         }
     }
 
-    fn open_stream(&mut self, alloc: Global, kind: Kind) -> Opened
-        ensures opened { IsOpened C.Reader.remaining C.Writer.contents (get_text (stream_target (scope_at self.old) kind)) result }
-        ensures stays { Stays self.old self.new }
-    {
+    fn open_stream(&mut self, alloc: Global, kind: Kind) -> Opened {
         self.watch = None;
         match stream_target(alloc, &self.scope, kind) {
             Ok(target) => self.open(alloc, target.as_str()),
@@ -192,9 +217,7 @@ impl<C: Connect + Drop> Api for Remote<C> {
         }
     }
 
-    fn more(&mut self, buf: &mut [u8]) -> More
-        ensures stays { Stays self.old self.new }
-    {
+    fn more(&mut self, buf: &mut [u8]) -> More {
         if buf.is_empty() {
             return More::Cut;
         }
@@ -203,4 +226,8 @@ impl<C: Connect + Drop> Api for Remote<C> {
             None => More::Cut,
         }
     }
+
+    fn note_understood(&mut self) {}
+
+    fn note_not_understood(&mut self, _bytes: &[u8]) {}
 }

@@ -3,7 +3,7 @@ ghost use Rattle.std.specs.Prelude.{◌≡◌, false};
 ghost use Rattle.chunked.specs.Devices.{device_of, has_failed};
 ghost use Rattle.api_client.specs.Begun.{IsBegun};
 
-use crate::api::Opened;
+use crate::opened::Opened;
 use chunked::Watched;
 use http_client::{WatchAnswer, open_watch};
 use std::alloc::Global;
@@ -17,8 +17,9 @@ pub fn begin_watch<R: Read + Drop, W: Write + Drop>(
     writer: &mut Watched<W>,
 ) -> Opened
     requires { has_failed writer.old ≡ false }
-    ensures { IsBegun W.contents text.now (R.remaining (device_of reader.old)) (R.remaining (device_of reader.new))
+    ensures begun { IsBegun W.contents text.now (R.remaining (device_of reader.old)) (R.remaining (device_of reader.new))
         writer.old writer.new result }
+    ensures sound { result ≡ Opened.Open → has_failed reader.new ≡ false }
 {
     match writer.send(text) {
         Ok(()) => {}
@@ -27,7 +28,7 @@ pub fn begin_watch<R: Read + Drop, W: Write + Drop>(
     match open_watch(alloc, reader) {
         Ok(WatchAnswer::Open) => Opened::Open,
         Ok(WatchAnswer::Expired) => Opened::Expired,
-        Ok(WatchAnswer::Refused(code)) => Opened::Refused(code),
+        Ok(WatchAnswer::Refused { code, retry_after }) => Opened::Refused { code, retry_after },
         Err(_) => Opened::Lost,
     }
 }

@@ -3,8 +3,8 @@ use Rattle.std.specs.Prelude.{ℕ, ◌&&◌, ◌||◌, nat_eq, nat_le, not, if�
 use Rattle.spec_api.specs.ObjectRequests as words
 use Rattle.http_client.specs.declared.answer.Answer.{Answer}
 use Rattle.http_client.specs.declared.answer.Answer.TheVariants as answer
-use Rattle.api_client.specs.declared.api.Opened.{Opened}
-use Rattle.api_client.specs.declared.api.Opened.TheVariants as opened
+use Rattle.api_client.specs.declared.opened.Opened.{Opened}
+use Rattle.api_client.specs.declared.opened.Opened.TheVariants as opened
 use Rattle.list_and_watch.specs.Answered.{is_refusal_of_streams}
 use Rattle.list_and_watch.specs.Recognized.{is_refusal}
 use Rattle.api_notes.specs.declared.news.News.{News}
@@ -32,14 +32,14 @@ first_news answer.Lost = news.Troubled trouble.NoReply
 abbrev pub watch_news : Opened → News
 watch_news opened.Open = news.WatchGiven
 watch_news opened.Expired = news.Replied
-watch_news (opened.Refused code) = news.Troubled (refusal code)
+watch_news (opened.Refused code wait) = news.Troubled (refusal code)
 watch_news opened.Lost = news.Troubled trouble.NoReply
 
 -- nor while streams of initial events are, which are watches, but where the server does not know them: a list stands for them then
 abbrev pub stream_news : Opened → News
 stream_news opened.Open = news.WatchGiven
 stream_news opened.Expired = news.Troubled (trouble.WatchesRefused 410)
-stream_news (opened.Refused code) = if is_refusal_of_streams code then news.Replied else news.Troubled (refusal code)
+stream_news (opened.Refused code wait) = if is_refusal_of_streams code then news.Replied else news.Troubled (refusal code)
 stream_news opened.Lost = news.Troubled trouble.NoReply
 
 -- that there is no reply is over by any reply; that lists are refused by what is given; that watches are by a watch, and not by the list before

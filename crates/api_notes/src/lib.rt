@@ -3,10 +3,10 @@
 
 pub(crate) mod named;
 pub(crate) mod news;
-pub mod notes;
+mod notes;
 pub(crate) mod teller;
-pub mod told;
-pub mod trouble;
+mod told;
+mod trouble;
 
 pub use notes::{Notes, Silent, StandardError};
 pub use told::Told;

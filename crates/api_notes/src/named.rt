@@ -3,11 +3,10 @@ ghost use Rattle.std.specs.Prelude.{◌≡◌, option_map};
 ghost use Rattle.serde_json.specs.View.{view};
 ghost use Rattle.spec_api.specs.Metadata.{metadata, metadata_text};
 ghost use Rattle.request_parts.specs.Requests.{request_of};
-ghost use Rattle.api_notes.specs.Named.{kind_named, name_named, namespace_named, new_name};
+ghost use Rattle.api_notes.specs.Named.{name_named, namespace_named, new_name};
 
 use request_parts::Request;
 use serde_json::Value;
-use spec_api::kinds::Kind;
 
 /// Returns a member of an object's metadata.
 fn metadata_member<'a>(value: &'a Value, name: &str) -> Option<&'a Value>
@@ -33,21 +32,6 @@ fn new_name(value: &Value) -> &str
             Some(beginning) => beginning,
             None => "",
         },
-    }
-}
-
-/// Returns the kind of the objects that a request names.
-pub(crate) fn kind_of(request: &Request) -> Kind
-    ensures { result ≡ kind_named (request_of request.now) }
-{
-    match request {
-        Request::List(view) => view.kind,
-        Request::Create(kind, _, _) => *kind,
-        Request::Get(key)
-        | Request::Update(key, _)
-        | Request::UpdateStatus(key, _)
-        | Request::Patch(key, _)
-        | Request::Delete(key, _) => key.kind,
     }
 }
 

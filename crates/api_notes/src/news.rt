@@ -74,7 +74,7 @@ pub(crate) fn watch_news(opened: Opened) -> News
     match opened {
         Opened::Open => News::WatchGiven,
         Opened::Expired => News::Replied,
-        Opened::Refused(code) => News::Troubled(refusal(code)),
+        Opened::Refused { code, .. } => News::Troubled(refusal(code)),
         Opened::Lost => News::Troubled(Trouble::NoReply),
     }
 }
@@ -87,7 +87,7 @@ pub(crate) fn stream_news(opened: Opened) -> News
     match opened {
         Opened::Open => News::WatchGiven,
         Opened::Expired => News::Troubled(Trouble::WatchesRefused(GONE)),
-        Opened::Refused(code) => {
+        Opened::Refused { code, .. } => {
             if is_refusal_of_streams(code) {
                 News::Replied
             } else {

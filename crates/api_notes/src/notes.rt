@@ -2,8 +2,9 @@
 ghost use Rattle.std.specs.Prelude.{◌≡◌};
 ghost use Rattle.api_notes.specs.Named.{first_shown};
 
-use crate::named::{kind_of, name_of, namespace_of};
+use crate::named::{name_of, namespace_of};
 use crate::trouble::Trouble;
+use keyed_board::Failure;
 use request_parts::Request;
 use spec_api::kinds::Kind;
 
@@ -25,6 +26,13 @@ pub trait Notes {
     /// answered by one of redirection. It is told of each, but of 404 and 409: that an object is gone, or is another by now, is in the nature of
     /// working by a copy. Of 404 it is told where an object was to be made: its namespace or the path is not there.
     fn refused(&self, request: &Request, code: u16, body: &[u8]);
+
+    /// Is told that a reconcile of a key failed, and why: once, and not for every retry, until the key is fine again or fails for another cause. Of a
+    /// conflict (409) it is not told. Who does not ask by keys is not told, and need not write this.
+    fn failed(&self, _key: &str, _failure: Failure) {}
+
+    /// Is told that a key is fine again, of which it was told that its reconcile failed.
+    fn recovered(&self, _key: &str) {}
 }
 
 /// Notes nothing.
@@ -40,8 +48,9 @@ impl Notes for Silent {
 }
 
 /// Writes what it is told on standard error, each time a line behind the name of the program. Of a refused request these are its verb, the kind,
-/// namespace and name of its object, or what a name is to be made of (`generateName`), the status code, and the beginning of the body: of each text
-/// 400 bytes at most, and those that are no printable ASCII by their escapes. What cannot be written is left out.
+/// namespace and name of its object, or what a name is to be made of (`generateName`), the status code, and the beginning of the body; of a key whose
+/// reconcile failed its text and the cause: of each text 400 bytes at most, and those that are no printable ASCII by their escapes. What cannot be
+/// written is left out.
 #[derive(Drop)]
 pub struct StandardError<'a, R> {
     rt: &'a R,
@@ -89,10 +98,20 @@ impl<R: Eprint> Notes for StandardError<'_, R> {
             "{}: {} of {} {}/{} refused with {code}: {}",
             self.program,
             verb(request),
-            kind_of(request).plural(),
+            request.kind().plural(),
             first_shown(namespace_of(request).as_bytes()).escape_ascii(),
             first_shown(name_of(request).as_bytes()).escape_ascii(),
             first_shown(body).escape_ascii()
         );
+    }
+
+    fn failed(&self, key: &str, failure: Failure) {
+        let key = first_shown(key.as_bytes()).escape_ascii();
+        let _ = eprintln!(self.rt; "{}: {key}: reconcile failed: {failure}", self.program);
+    }
+
+    fn recovered(&self, key: &str) {
+        let key = first_shown(key.as_bytes()).escape_ascii();
+        let _ = eprintln!(self.rt; "{}: {key}: reconciled again", self.program);
     }
 }

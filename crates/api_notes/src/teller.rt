@@ -3,7 +3,6 @@ ghost use Rattle.std.specs.Prelude.{◌≡◌};
 ghost use Rattle.request_parts.specs.Requests.{request_of};
 ghost use Rattle.api_notes.specs.News.{is_create, is_told};
 
-use crate::named::kind_of;
 use crate::news::{News, is_over};
 use crate::notes::Notes;
 use crate::trouble::Trouble;
@@ -116,7 +115,7 @@ impl<'a, N: Notes> Teller<'a, N> {
                     self.notes.refused(request, reply.code, &reply.body);
                 }
             }
-            Answer::NotSent | Answer::Lost => self.note_unanswered(kind_of(request)),
+            Answer::NotSent | Answer::Lost => self.note_unanswered(request.kind()),
         }
     }
 }

@@ -36,7 +36,7 @@ impl<'a, A: Drop, N: Notes> Told<'a, A, N> {
 impl<A: Api + Drop, N: Notes> Api for Told<'_, A, N> {
     ghost answers = { λ before request answer after. A.answers (api_of before) request answer (api_of after) };
 
-    ghost lists = { λ before kind answer after. A.lists (api_of before) kind answer (api_of after) };
+    ghost exchanges = { λ before exchanged after. A.exchanges (api_of before) exchanged (api_of after) };
 
     fn call(&mut self, alloc: Global, request: &Request) -> Answer {
         let answer = self.api.call(alloc, request);

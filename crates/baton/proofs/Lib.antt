@@ -1,3 +1,4 @@
+-- Read Keeps first: each move of a pass keeps the law. Meetings has passes that meet.
 pub mod Seats
 pub mod Entries
 pub mod Somebody

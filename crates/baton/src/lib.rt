@@ -4,10 +4,10 @@
 //! taken sleeps until it is given.
 #![tactic(auto)]
 
-pub mod batons;
+mod batons;
 mod event_count;
-pub mod held;
-pub mod laws;
+mod held;
+mod laws;
 mod opening;
 pub mod rules;
 mod steps;

@@ -42,7 +42,7 @@ read_as chunks input rest body pieces p left run =
     )
 
 -- one passage after another, each with content
-passes_more : (p q s : BodyPlace) (front back first second : List ℕ) → Passes p front first q → Passes q back second s → Passes p (front ++ back) (first ++ second) s
+pub passes_more : (p q s : BodyPlace) (front back first second : List ℕ) → Passes p front first q → Passes q back second s → Passes p (front ++ back) (first ++ second) s
 passes_more p q s front back first second a b = (
   λ longest tail more rest le h.
       let whole = a.0 longest (back ++ tail) (second ++ more) rest le (b.0 longest tail more rest le h) in

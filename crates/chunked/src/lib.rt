@@ -2,13 +2,13 @@
 //! that who uses it knows whether a call of it has failed.
 #![tactic(auto)]
 
-pub mod fault;
+mod fault;
 pub mod laws;
-pub mod line;
+mod line;
 pub mod place;
-pub mod reader;
-pub mod watched;
-pub mod writer;
+mod reader;
+mod watched;
+mod writer;
 
 pub use fault::ChunkFault;
 pub use reader::Reader;

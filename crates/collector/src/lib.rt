@@ -6,8 +6,8 @@ pub(crate) mod commands;
 pub(crate) mod dependents;
 pub(crate) mod edits;
 pub(crate) mod finishing;
-pub mod planning;
-pub mod reading;
+mod planning;
+mod reading;
 pub(crate) mod standings;
 
 pub use planning::plan;

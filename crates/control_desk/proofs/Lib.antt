@@ -1,3 +1,5 @@
 pub mod Standing
 pub mod Same
+pub mod Highest
 pub mod Turns
+pub mod Waits

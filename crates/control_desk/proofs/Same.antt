@@ -1,12 +1,12 @@
--- Boards that are the same, by their codes.
+-- Boards that are the same, and what is handled by them, by their codes.
 use Rattle.std.proofs.Common.{◌≡◌, ◌≢◌, ℕ, refl, sym, ap, ◌∙◌, true, false, true≢false, Bool, ◌==◌, ◌&&◌, if◌then◌else◌, eq-eqb, arith}
 use Rattle.std.specs.Prelude.{Some, None}
 use Rattle.std.proofs.lemmas.Bool.Decides.{nat_tests}
 use base.Stored.{Gv, gnil, gnum, gcons}
-use Rattle.spec_client_go.specs.Boards.{Board}
-use Rattle.work_board.specs.Seen.{board_code}
 use Rattle.control_desk.specs.Hands.{ChangesAreTold}
-use Rattle.control_desk.specs.Steps.{after, same_code, is_same}
+use Rattle.control_desk.specs.States.{state_code}
+use Rattle.control_desk.specs.Steps.{next_state, same_code, is_same}
+use Rattle.control_desk.specs.declared.states.WorkState.{WorkState}
 
 both : (a b : Bool) → (a && b) ≡ true → (a ≡ true) × (b ≡ true)
 both true b e = (refl, e)
@@ -31,9 +31,9 @@ code_tells (gcons a b) (gcons c d) e =
     let second = code_tells b d t.1 in
     λ i. gcons (first i) (second i)
 
-pub same_is : (a b : Board) → is_same a b ≡ true → a ≡ b
+pub same_is : (a b : WorkState) → is_same a b ≡ true → a ≡ b
 unfolding is_same
-same_is a b e = board_code.inj a b (code_tells (board_code.code a) (board_code.code b) e)
+same_is a b e = state_code.inj a b (code_tells (state_code.code a) (state_code.code b) e)
 
 code_itself : (a : Gv) → same_code a a ≡ true
 unfolding same_code
@@ -41,23 +41,23 @@ code_itself gnil = refl
 code_itself (gnum n) = eq-eqb n n refl
 code_itself (gcons a b) = ap (λ x. x && same_code b b) (code_itself a) ∙ code_itself b
 
-is_same_itself : (a b : Board) → a ≡ b → is_same a b ≡ true
+is_same_itself : (a b : WorkState) → a ≡ b → is_same a b ≡ true
 unfolding is_same
-is_same_itself a b is = ap (λ x. same_code (board_code.code x) (board_code.code b)) is ∙ code_itself (board_code.code b)
+is_same_itself a b is = ap (λ x. same_code (state_code.code x) (state_code.code b)) is ∙ code_itself (state_code.code b)
 
-pub differs : (a b : Board) → a ≢ b → is_same a b ≡ false
+pub differs : (a b : WorkState) → a ≢ b → is_same a b ≡ false
 differs a b apart = by (is_same a b) refl
   where
     by : (r : Bool) → is_same a b ≡ r → is_same a b ≡ false
     by true e = absurd (apart (same_is a b e))
     by false e = e
 
-pub apart : (a b : Board) → is_same a b ≡ false → a ≢ b
+pub apart : (a b : WorkState) → is_same a b ≡ false → a ≢ b
 apart a b e is = true≢false (sym (is_same_itself a b is) ∙ e)
 
--- a step is told just where it changes the board
+-- a step is told just where it changes the board or what is handled
 pub changes_told : ChangesAreTold
-changes_told e b = record {
-  told = λ other. ap (λ r. if r then None else Some e) (differs (after b e) b other);
-  untold = λ is. ap (λ r. if r then None else Some e) (is_same_itself (after b e) b is);
+changes_told e s = record {
+  told = λ other. ap (λ r. if r then None else Some e) (differs (next_state s e) s other);
+  untold = λ is. ap (λ r. if r then None else Some e) (is_same_itself (next_state s e) s is);
 }

@@ -10,7 +10,7 @@ use Rattle.spec_client_go.specs.Delays.{due}
 use Rattle.spec_client_go.specs.WorkQueues as queues
 use Rattle.spec_client_go.specs.WorkQueues.{WorkKey, work_key_cmp, WorkQueue, added, got, got_from, handed, front}
 use Rattle.spec_laws.proofs.WorkQueueRuns.{IsSound, after-sound, runs_are_sound, idle-sound, queued_is_free, front_is_queued}
-use Rattle.control_desk.specs.Steps.{Step, take, finish, requeue, observe, expect_creations, expect_deletions, forget, tick, after, after_steps, in_hand, in_hand_from, in_hand_after}
+use Rattle.control_desk.specs.Steps.{Step, take, finish, requeue, observe, add, expect_creations, expect_deletions, forget, tick, after, after_steps, in_hand, in_hand_from, in_hand_after}
 use Rattle.control_desk.specs.Hands.{board, MayFollow, hand, HandsAreApart}
 use Rattle.spec_client_go.proofs.WorkKeyOrder.{work_key_total, work_key_tells}
 use Rattle.spec_client_go.specs.KeysInHands.{AreHands}
@@ -36,7 +36,8 @@ step_sound : (b : Board) (e : Step) → IsSound b.work → IsSound (after b e).w
 step_sound b (take k) s = after-sound b.work queues.get s
 step_sound b (finish k) s = after-sound b.work (queues.finish k) s
 step_sound b (requeue k ss least) s = after-sound b.work (queues.finish k) s
-step_sound b (observe ss ks) s = all_added_sound ks b.work s
+step_sound b (observe k r ss ks) s = all_added_sound ks b.work s
+step_sound b (add ks) s = all_added_sound ks b.work s
 step_sound b (expect_creations o n) s = s
 step_sound b (expect_deletions o pods) s = s
 step_sound b (forget k) s = s
@@ -113,8 +114,10 @@ hands_after h name (finish k) s may =
 hands_after h name (requeue k ss least) s may =
     subst (AreHands (hand (h ++ (name, requeue k ss least) ∷ []))) (sym (done_holds k (board h).work (s.hands.processed name k may.1)))
     (emptied_hands work_key_cmp work_key_total work_key_tells (hand h) (hand (h ++ (name, requeue k ss least) ∷ [])) (board h).work.processing s.hands name k may.1 (hand_here h name (requeue k ss least)) (hand_else h name (requeue k ss least)))
-hands_after h name (observe ss ks) s may =
-    subst (AreHands (hand (h ++ (name, observe ss ks) ∷ []))) (sym (all_added_holds ks (board h).work)) (hands_stay h name (observe ss ks) s (hand_here h name (observe ss ks)))
+hands_after h name (observe k r ss ks) s may =
+    subst (AreHands (hand (h ++ (name, observe k r ss ks) ∷ []))) (sym (all_added_holds ks (board h).work)) (hands_stay h name (observe k r ss ks) s (hand_here h name (observe k r ss ks)))
+hands_after h name (add ks) s may =
+    subst (AreHands (hand (h ++ (name, add ks) ∷ []))) (sym (all_added_holds ks (board h).work)) (hands_stay h name (add ks) s (hand_here h name (add ks)))
 hands_after h name (expect_creations o n) s may = hands_stay h name (expect_creations o n) s (hand_here h name (expect_creations o n))
 hands_after h name (expect_deletions o pods) s may = hands_stay h name (expect_deletions o pods) s (hand_here h name (expect_deletions o pods))
 hands_after h name (forget k) s may = hands_stay h name (forget k) s (hand_here h name (forget k))

@@ -8,8 +8,10 @@ use Rattle.spec_client_go.specs.Codes.{coded_work_key}
 use Rattle.spec_client_go.specs.Expectations.{Owner}
 use Rattle.spec_client_go.specs.WorkQueues.{WorkKey}
 use Rattle.spec_api.specs.Keys.{Key}
+use Rattle.spec_api.specs.contracts.kinds.Kind as kind
+use Rattle.spec_api.specs.declared.kinds.Kind.{Kind}
 use Rattle.expectations.specs.Seen.{owner_code}
-use Rattle.control_desk.specs.Steps.{Step, take, finish, requeue, observe, expect_creations, expect_deletions, forget, tick}
+use Rattle.control_desk.specs.Steps.{Step, take, finish, requeue, observe, add, expect_creations, expect_deletions, forget, tick}
 
 abbrev observation_cases : Observation → Owner ⊎ (Owner × List ℕ)
 observation_cases (creation_observed o) = inl o
@@ -30,14 +32,18 @@ observation_code = code_by (Owner ⊎ (Owner × List ℕ)) (coded⊎ owner_code 
 abbrev TurnSteps : Type 0
 TurnSteps = WorkKey ⊎ (WorkKey ⊎ (WorkKey × (List Observation × ℕ)))
 
+abbrev HandlingSteps : Type 0
+HandlingSteps = ((Kind × ℕ) × (List Observation × List WorkKey)) ⊎ List WorkKey
+
 abbrev OtherSteps : Type 0
-OtherSteps = (List Observation × List WorkKey) ⊎ ((Owner × ℕ) ⊎ ((Owner × List (List ℕ)) ⊎ (Key ⊎ ℕ)))
+OtherSteps = HandlingSteps ⊎ ((Owner × ℕ) ⊎ ((Owner × List (List ℕ)) ⊎ (Key ⊎ ℕ)))
 
 abbrev step_cases : Step → TurnSteps ⊎ OtherSteps
 step_cases (take k) = inl (inl k)
 step_cases (finish k) = inl (inr (inl k))
 step_cases (requeue k ss least) = inl (inr (inr (k, (ss, least))))
-step_cases (observe ss ks) = inr (inl (ss, ks))
+step_cases (observe k r ss ks) = inr (inl (inl ((k, r), (ss, ks))))
+step_cases (add ks) = inr (inl (inr ks))
 step_cases (expect_creations o n) = inr (inr (inl (o, n)))
 step_cases (expect_deletions o pods) = inr (inr (inr (inl (o, pods))))
 step_cases (forget k) = inr (inr (inr (inr (inl k))))
@@ -47,7 +53,8 @@ abbrev step_from : TurnSteps ⊎ OtherSteps → Step
 step_from (inl (inl k)) = take k
 step_from (inl (inr (inl k))) = finish k
 step_from (inl (inr (inr p))) = requeue p.0 p.1.0 p.1.1
-step_from (inr (inl p)) = observe p.0 p.1
+step_from (inr (inl (inl p))) = observe p.0.0 p.0.1 p.1.0 p.1.1
+step_from (inr (inl (inr ks))) = add ks
 step_from (inr (inr (inl p))) = expect_creations p.0 p.1
 step_from (inr (inr (inr (inl p)))) = expect_deletions p.0 p.1
 step_from (inr (inr (inr (inr (inl k))))) = forget k
@@ -57,7 +64,8 @@ pub step_back : (e : Step) → step_from (step_cases e) ≡ e
 step_back (take k) = refl
 step_back (finish k) = refl
 step_back (requeue k ss least) = refl
-step_back (observe ss ks) = refl
+step_back (observe k r ss ks) = refl
+step_back (add ks) = refl
 step_back (expect_creations o n) = refl
 step_back (expect_deletions o pods) = refl
 step_back (forget k) = refl
@@ -68,7 +76,7 @@ turn_code = coded⊎ coded_work_key (coded⊎ coded_work_key (coded× coded_work
 
 abbrev other_code : Coded OtherSteps
 other_code =
-    coded⊎ (coded× (coded_list observation_code) (coded_list coded_work_key))
+    coded⊎ (coded⊎ (coded× (coded× kind.the_row.coded coded_ℕ) (coded× (coded_list observation_code) (coded_list coded_work_key))) (coded_list coded_work_key))
     (coded⊎ (coded× owner_code coded_ℕ) (coded⊎ (coded× owner_code (coded_list (coded_list coded_ℕ))) (coded⊎ coded_key coded_ℕ)))
 
 abbrev pub step_code : Coded Step

@@ -1,5 +1,5 @@
 //! A worker's turn at a desk, and how its passes meet.
-ghost use Rattle.std.specs.Prelude.{◌≡◌, ◌≢◌, ◌<◌, None, Some, IfOk, OnOk, OnErr, All, is_some, length, map, option_map};
+ghost use Rattle.std.specs.Prelude.{◌≡◌, ◌≢◌, ◌<◌, None, Some, IfOk, OnOk, OnErr, All, is_some, length, map};
 ghost use Rattle.baton.specs.Batons.{AreNumbered};
 ghost use Rattle.baton.specs.Passes.{Met};
 ghost use Rattle.work_board.specs.Seen.{observation_of};
@@ -8,18 +8,36 @@ ghost use Rattle.spec_client_go.specs.WorkQueues.{handed};
 ghost use Rattle.object_keys.specs.WorkKeys.{work_key_of};
 ghost use Rattle.control_desk.specs.Calls.{IsCall, HasTaken, Nothing, after_give, once_ok};
 ghost use Rattle.control_desk.specs.Desks.{known, key_in_hand, IsPassAt, IsNewAt, IsHolding};
-ghost use Rattle.control_desk.specs.Hands.{board, IsBegun, MayFollow};
-ghost use Rattle.control_desk.specs.Steps.{after_steps, changing, taking, finish, requeue};
+ghost use Rattle.control_desk.specs.Hands.{state, opened, IsBegun, MayFollow};
+ghost use Rattle.control_desk.specs.Taken.{IsNext, key_taken};
+ghost use Rattle.control_desk.specs.Steps.{state_after, changing, taking, finish, requeue};
 
 use crate::desks::{ControlDesk, WorkPass};
 use crate::entries::WorkEntry;
+use crate::states::WorkState;
 use crate::steps;
+use crate::taken_key::TakenKey;
 use baton::{Baton, EntryMade, Held};
-use object_keys::WorkKey;
+use object_keys::{PerKind, WorkKey};
 use std::alloc::{AllocError, Global};
 use std::marker::Brand;
 use std::sync::Wait;
 use work_board::{Board, Observation};
+
+/// Returns a board where nothing is to be done, of which nothing is handled.
+fn opened(alloc: Global) -> WorkState
+    ensures { result ≡ opened }
+{
+    WorkState {
+        board: Board::new(alloc),
+        handled: PerKind {
+            config_maps: 0,
+            pods: 0,
+            replica_sets: 0,
+            deployments: 0,
+        },
+    }
+}
 
 impl ControlDesk {
     /// Returns a desk over a board where nothing is to be done, and as many passes as asked for. The error is running out of memory.
@@ -29,23 +47,23 @@ impl ControlDesk {
         ensures count { IfOk result (λ r. length r.1.items ≡ count) }
         ensures names { IfOk result (λ r. AreNumbered r.1.items) }
     {
-        let (baton, passes) = Baton::open(alloc, Board::new(alloc), count)?;
+        let (baton, passes) = Baton::open(alloc, opened(alloc), count)?;
         Ok((ControlDesk { baton }, passes))
     }
 
-    /// Returns the key that waits longest, if one waits, which is then in the hands of the pass. A pass takes a key only while it
-    /// has none. The error is running out of memory, and takes nothing.
+    /// Returns the key that waits longest, if one waits, which is then in the hands of the pass, and up to which revision of each kind
+    /// what is published was handled. A pass takes a key only while it has none. The error is running out of memory, and takes nothing.
     pub fn take_key<R: Wait>(
         &self,
         rt: &R,
         pass: &mut WorkPass,
-    ) -> Result<Option<WorkKey>, AllocError>
+    ) -> Result<Option<TakenKey>, AllocError>
         requires pass { IsPassAt self.now pass.old }
         requires free { key_in_hand pass.old ≡ None }
         ensures pass { IsPassAt self.now pass.new }
         ensures step { IsCall (known pass.old) (λ b. once_ok result (taking b))
-            (λ b. IfOk result (λ k. option_map work_key_of k ≡ handed b.work)) (known pass.new) }
-        ensures key { IfOk result (λ k. key_in_hand pass.new ≡ option_map work_key_of k) }
+            (λ b. IfOk result (λ k. IsNext k b)) (known pass.new) }
+        ensures key { IfOk result (λ k. key_in_hand pass.new ≡ key_taken k) }
         ensures none { OnErr result (key_in_hand pass.new ≡ None) }
     {
         let held = self.take(rt, pass);
@@ -56,11 +74,11 @@ impl ControlDesk {
     pub fn has_waiting<R: Wait>(&self, rt: &R, pass: &mut WorkPass) -> bool
         requires { IsPassAt self.now pass.old }
         ensures pass { IsPassAt self.now pass.new }
-        ensures step { IsCall (known pass.old) (λ b. None) (λ b. result ≡ is_some (handed b.work)) (known pass.new) }
+        ensures step { IsCall (known pass.old) (λ b. None) (λ b. result ≡ is_some (handed b.board.work)) (known pass.new) }
         ensures key { key_in_hand pass.new ≡ key_in_hand pass.old }
     {
         let held = self.take(rt, pass);
-        let waits = held.get().first().is_some();
+        let waits = held.get().board.first().is_some();
         self.give_back(rt, pass, held);
         waits
     }
@@ -131,14 +149,14 @@ impl ControlDesk {
         ensures passes { IsPassAt self.now one.new × IsPassAt self.now other.new }
         ensures one { known one.new ≡ known one.old }
         ensures other { known other.new ≡ known other.old }
-        ensures met { Met IsBegun after_steps MayFollow (known one.new) (known other.new) }
+        ensures met { Met IsBegun state_after MayFollow (known one.new) (known other.new) }
         ensures apart { (k : queues.WorkKey) → key_in_hand one.new ≡ Some k → key_in_hand other.new ≢ Some k }
     {
         self.baton.meet(one, other);
     }
 
     /// Takes the board. The pass learns all that has happened.
-    pub(crate) fn take<R: Wait>(&self, rt: &R, pass: &mut WorkPass) -> Held<Board>
+    pub(crate) fn take<R: Wait>(&self, rt: &R, pass: &mut WorkPass) -> Held<WorkState>
         requires { IsPassAt self.now pass.old }
         ensures holding { IsHolding self.now pass.new result }
         ensures taken { HasTaken (known pass.old) (known pass.new) }
@@ -147,7 +165,7 @@ impl ControlDesk {
     }
 
     /// Gives the board back as it was.
-    pub(crate) fn give_back<R: Wait>(&self, rt: &R, pass: &mut WorkPass, held: Held<Board>)
+    pub(crate) fn give_back<R: Wait>(&self, rt: &R, pass: &mut WorkPass, held: Held<WorkState>)
         requires { IsHolding self.now pass.old held }
         ensures pass { IsPassAt self.now pass.new }
         ensures known { known pass.new ≡ after_give (known pass.old) None }
@@ -160,14 +178,14 @@ impl ControlDesk {
         &self,
         rt: &R,
         pass: &mut WorkPass,
-        held: Held<Board>,
-    ) -> Result<Option<WorkKey>, AllocError>
+        held: Held<WorkState>,
+    ) -> Result<Option<TakenKey>, AllocError>
         requires pass { IsHolding self.now pass.old held }
         requires free { key_in_hand pass.old ≡ None }
-        requires entry { M.entry ≡ taking (board (known pass.old).seen) }
+        requires entry { M.entry ≡ taking (state (known pass.old).seen) }
         ensures pass { IsPassAt self.now pass.new }
-        ensures next { IfOk result (λ k. option_map work_key_of k ≡ handed (board (known pass.old).seen).work) }
-        ensures key { IfOk result (λ k. key_in_hand pass.new ≡ option_map work_key_of k) }
+        ensures next { IfOk result (λ k. IsNext k (state (known pass.old).seen)) }
+        ensures key { IfOk result (λ k. key_in_hand pass.new ≡ key_taken k) }
         ensures none { OnErr result (key_in_hand pass.new ≡ None) }
         ensures known { known pass.new ≡ after_give (known pass.old) (once_ok result M.entry) }
     {
@@ -189,12 +207,12 @@ impl ControlDesk {
         &self,
         rt: &R,
         pass: &mut WorkPass,
-        held: Held<Board>,
+        held: Held<WorkState>,
         key: &WorkKey,
     )
         requires pass { IsHolding self.now pass.old held }
         requires mine { key_in_hand pass.old ≡ Some (work_key_of key.now) }
-        requires entry { M.entry ≡ changing (finish (work_key_of key.now)) (board (known pass.old).seen) }
+        requires entry { M.entry ≡ changing (finish (work_key_of key.now)) (state (known pass.old).seen) }
         ensures pass { IsPassAt self.now pass.new }
         ensures key { key_in_hand pass.new ≡ None }
         ensures known { known pass.new ≡ after_give (known pass.old) M.entry }
@@ -209,7 +227,7 @@ impl ControlDesk {
         &self,
         rt: &R,
         pass: &mut WorkPass,
-        held: Held<Board>,
+        held: Held<WorkState>,
         key: &WorkKey,
         undone: &[Observation],
         least: u32,
@@ -217,7 +235,7 @@ impl ControlDesk {
         requires pass { IsHolding self.now pass.old held }
         requires mine { key_in_hand pass.old ≡ Some (work_key_of key.now) }
         requires entry { M.entry
-            ≡ changing (requeue (work_key_of key.now) (map observation_of undone.now) least) (board (known pass.old).seen) }
+            ≡ changing (requeue (work_key_of key.now) (map observation_of undone.now) least) (state (known pass.old).seen) }
         ensures pass { IsPassAt self.now pass.new }
         ensures key { OnOk result (key_in_hand pass.new ≡ None) }
         ensures still { OnErr result (key_in_hand pass.new ≡ key_in_hand pass.old) }

@@ -1,16 +1,16 @@
 //! A desk of work.
 use crate::entries::WorkEntry;
+use crate::states::WorkState;
 use crate::work_law::WorkLaw;
 use baton::Baton;
 use baton::views::PassView;
-use work_board::Board;
 
 /// The right to work at a desk. What it has seen of the desk's history, and what it made of it, its calls say.
-pub type WorkPass = crossbeam_queue::Pass<Board, PassView<Board, WorkEntry>>;
+pub type WorkPass = crossbeam_queue::Pass<WorkState, PassView<WorkState, WorkEntry>>;
 
-/// A board that threads share: one call at a time has it.
+/// A board that threads share, and what of each kind is handled: one call at a time has it.
 pub struct ControlDesk {
-    pub(crate) baton: Baton<Board, WorkLaw>,
+    pub(crate) baton: Baton<WorkState, WorkLaw>,
 }
 
 impl Drop for ControlDesk {

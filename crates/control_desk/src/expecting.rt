@@ -7,18 +7,19 @@ ghost use Rattle.object_keys.specs.Keys.{key_of};
 ghost use Rattle.object_keys.specs.WorkKeys.{work_key_of};
 ghost use Rattle.control_desk.specs.Calls.{IsCall, Nothing, after_give, once_ok};
 ghost use Rattle.control_desk.specs.Desks.{known, key_in_hand, IsPassAt, IsHolding};
-ghost use Rattle.control_desk.specs.Hands.{board};
+ghost use Rattle.control_desk.specs.Hands.{state};
 ghost use Rattle.control_desk.specs.Steps.{changing, expect_creations, expect_deletions, forget};
 
 use crate::desks::{ControlDesk, WorkPass};
 use crate::entries::WorkEntry;
+use crate::states::WorkState;
 use crate::steps;
 use baton::{EntryMade, Held};
 use object_keys::Key;
 use std::alloc::AllocError;
 use std::marker::Brand;
 use std::sync::Wait;
-use work_board::{AgedOut, Board, Owner};
+use work_board::{AgedOut, Owner};
 
 impl ControlDesk {
     /// Sets that a ReplicaSet expects so many pods to be created, from now on, and nothing else. The error is running out of memory,
@@ -67,11 +68,11 @@ impl ControlDesk {
         requires { IsPassAt self.now pass.old }
         ensures pass { IsPassAt self.now pass.new }
         ensures step { IsCall (known pass.old)
-            (λ b. None) (λ b. result ≡ is_satisfied (owner_of owner.now) b) (known pass.new) }
+            (λ b. None) (λ b. result ≡ is_satisfied (owner_of owner.now) b.board) (known pass.new) }
         ensures key { key_in_hand pass.new ≡ key_in_hand pass.old }
     {
         let held = self.take(rt, pass);
-        let answer = held.get().satisfied(owner);
+        let answer = held.get().board.satisfied(owner);
         self.give_back(rt, pass, held);
         answer
     }
@@ -88,11 +89,11 @@ impl ControlDesk {
         requires { IsPassAt self.now pass.old }
         ensures pass { IsPassAt self.now pass.new }
         ensures step { IsCall (known pass.old) (λ b. None)
-            (λ b. IfOk result (λ a. HaveAgedOut before a.moment (map work_key_of a.keys.items) b)) (known pass.new) }
+            (λ b. IfOk result (λ a. HaveAgedOut before a.moment (map work_key_of a.keys.items) b.board)) (known pass.new) }
         ensures key { key_in_hand pass.new ≡ key_in_hand pass.old }
     {
         let held = self.take(rt, pass);
-        let answer = held.get().aged_out(before);
+        let answer = held.get().board.aged_out(before);
         self.give_back(rt, pass, held);
         answer
     }
@@ -114,12 +115,12 @@ impl ControlDesk {
         &self,
         rt: &R,
         pass: &mut WorkPass,
-        held: Held<Board>,
+        held: Held<WorkState>,
         owner: &Owner,
         creations: u32,
     ) -> Result<(), AllocError>
         requires pass { IsHolding self.now pass.old held }
-        requires entry { M.entry ≡ changing (expect_creations (owner_of owner.now) creations) (board (known pass.old).seen) }
+        requires entry { M.entry ≡ changing (expect_creations (owner_of owner.now) creations) (state (known pass.old).seen) }
         ensures pass { IsPassAt self.now pass.new }
         ensures key { key_in_hand pass.new ≡ key_in_hand pass.old }
         ensures known { known pass.new ≡ after_give (known pass.old) (once_ok result M.entry) }
@@ -142,13 +143,13 @@ impl ControlDesk {
         &self,
         rt: &R,
         pass: &mut WorkPass,
-        held: Held<Board>,
+        held: Held<WorkState>,
         owner: &Owner,
         pods: Vec<String>,
     ) -> Result<(), AllocError>
         requires pass { IsHolding self.now pass.old held }
         requires entry { M.entry
-            ≡ changing (expect_deletions (owner_of owner.now) (map string_bytes pods.items)) (board (known pass.old).seen) }
+            ≡ changing (expect_deletions (owner_of owner.now) (map string_bytes pods.items)) (state (known pass.old).seen) }
         ensures pass { IsPassAt self.now pass.new }
         ensures key { key_in_hand pass.new ≡ key_in_hand pass.old }
         ensures known { known pass.new ≡ after_give (known pass.old) (once_ok result M.entry) }
@@ -171,11 +172,11 @@ impl ControlDesk {
         &self,
         rt: &R,
         pass: &mut WorkPass,
-        held: Held<Board>,
+        held: Held<WorkState>,
         key: &Key,
     )
         requires pass { IsHolding self.now pass.old held }
-        requires entry { M.entry ≡ changing (forget (key_of key.now)) (board (known pass.old).seen) }
+        requires entry { M.entry ≡ changing (forget (key_of key.now)) (state (known pass.old).seen) }
         ensures pass { IsPassAt self.now pass.new }
         ensures key { key_in_hand pass.new ≡ key_in_hand pass.old }
         ensures known { known pass.new ≡ after_give (known pass.old) M.entry }

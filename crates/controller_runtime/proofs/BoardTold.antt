@@ -7,12 +7,15 @@ use Rattle.keyed_board.specs.Boards.{KeyBoard}
 use Rattle.keyed_board.specs.Steps as boards
 use Rattle.list_and_watch.specs.Followers.{Follower}
 use Rattle.list_and_watch.specs.Given.{IsGiven}
-use Rattle.list_and_watch.specs.Gone.{IsDone, AreDone, Follows}
-use Rattle.list_and_watch.specs.Told.{Told, Step, listed, bytes, cut, expired, refused, publish, give, keep, ask, tell, after_step, after_steps, told_nothing}
+use Rattle.list_and_watch.specs.Gone.{IsTold, Does, AreDone, Follows}
+use Rattle.list_and_watch.specs.Told.{Told, Step, exchange, cut, publish, give, keep, ask, tell, clock, wait, after_step, after_steps, told_nothing}
 use Rattle.list_and_watch.specs.declared.causes.Cause.{Cause}
 use Rattle.list_and_watch.specs.declared.onward.Onward.{Onward}
+use Rattle.list_and_watch.proofs.Joined.{sink_told}
 use Rattle.informer.specs.declared.listers.Lister.{Lister}
 use Rattle.object_keys.specs.declared.per_kind.PerKind.{PerKind}
+use Rattle.api_client.specs.Exchanges.{Exchange}
+use Rattle.spec_api.specs.declared.kinds.Kind.{Kind}
 use Rattle.shared_keyed_board.specs.Calls.{Sight, IsCall, IsLater, Nothing, once_ok}
 use Rattle.controller_runtime.specs.Handled.{Takes, is_other}
 use Rattle.controller_runtime.specs.Told.{Refuses, Given, IsAdded, AreAdded, given_of, revision_of, given_at, revision_at, given_in, IsToldAll}
@@ -36,10 +39,10 @@ later_on u v w one two = record {
   made = two.made ∙ one.made;
 }
 
-module _ {K N : Type 0} (R : N → N → Ordering) (says : K → N) (owes : Shift → List K → Type 0) where
+module _ {K N : Type 0} (R : N → N → Ordering) (says : K → N) (owes : PerKind Snapshot → Shift → List K → Type 0) where
   added_waits : (ns : List Given) (u v w : Sight N) → AreAdded R says owes ns u v → IsLater v w → AreAdded R says owes ns u w
-  added_waits [] u v w h wait = later_on u v w h wait
-  added_waits (n ∷ ns) u v w (b, a, first, now, rest) wait = (b, a, first, now, added_waits ns a v w rest wait)
+  added_waits [] u v w h awaited = later_on u v w h awaited
+  added_waits (n ∷ ns) u v w (b, a, first, now, rest) awaited = (b, a, first, now, added_waits ns a v w rest awaited)
 
   one_added : (ns : List Given) (n : Given) (u v w : Sight N) → AreAdded R says owes ns u v → IsAdded R says owes n.cause n.changes v w → AreAdded R says owes (ns ++ n ∷ []) u w
   one_added [] n u v w h now = (v, w, h, now, not_later w)
@@ -100,29 +103,30 @@ module _ {K N : Type 0} (R : N → N → Ordering) (says : K → N) (owes : Shif
     kept_told start ns r objects None i b a h same = same_told start ns r b a same h
     kept_told start ns r objects (Some changes) i b a h kept = more start ns [] r a refl (record { told = added_waits ns start (pass b) (pass a) h.told kept.1; at = kept.2 ∙ h.at })
 
-    step_told : (start : Sight N) (ns : List Given) (r : ℕ) (s : Step) (t : Told) (b a : T) → AsFar start ns r b → IsDone takes refuses answers hears s t b a
+    step_told : (start : Sight N) (ns : List Given) (r : ℕ) (s : Step) (t : Told) (b a : T) → AsFar start ns r b → IsTold takes refuses answers hears s t b a
         → AsFar start (ns ++ given_at r s t) (revision_at r s t) a
-    step_told start ns r (listed body) t b a h same = same_told start ns r b a same h
-    step_told start ns r (bytes piece) t b a h same = same_told start ns r b a same h
+    step_told start ns r (exchange e memory) t b a h same = same_told start ns r b a same h
     step_told start ns r cut t b a h same = same_told start ns r b a same h
-    step_told start ns r expired t b a h same = same_told start ns r b a same h
-    step_told start ns r refused t b a h same = same_told start ns r b a same h
     step_told start ns r publish t b a h same = same_told start ns r b a same h
     step_told start ns r give t b a h given = given_told start ns r t.follower.informer.published t.owed t.cause b a h given
     step_told start ns r keep t b a h kept = kept_told start ns r t.follower.informer.published t.owed t.cause b a h kept
     step_told start ns r (ask onward) t b a h same = same_told start ns r b a same h
     step_told start ns r tell t b a h same = same_told start ns r b a same h
+    step_told start ns r (clock n) t b a h same = same_told start ns r b a same h
+    step_told start ns r (wait n onward) t b a h same = same_told start ns r b a same h
 
-    steps_told : (start : Sight N) (ns : List Given) (r : ℕ) (ss : List Step) (t : Told) (b a : T) → AsFar start ns r b → AreDone takes refuses answers hears ss t b a
+    steps_told : (start : Sight N) (ns : List Given) (r : ℕ) (ss : List Step) (t : Told) (b a : T) → AsFar start ns r b → AreDone (IsTold takes refuses answers hears) ss t b a
         → AreAdded R says owes (ns ++ given_in r ss t) start (pass a)
     steps_told start ns r [] t b a h same = (same_told start ns r b a same h).told
     steps_told start ns r (s ∷ ss) t b a h (x, now, rest) =
         subst (λ l. AreAdded R says owes l start (pass a)) (append_assoc ns (given_at r s t) (given_in (revision_at r s t) ss (after_step s t)))
         (steps_told start (ns ++ given_at r s t) (revision_at r s t) ss (after_step s t) x a (step_told start ns r s t b x h now) rest)
 
-    pub board_told : (stops : Type 0) (f g : Follower) (b a : T) → Follows takes refuses answers hears stops f b g a → IsToldAll R says owes f (revision b) (pass b) g (pass a)
-    board_told stops f g b a so = record {
+    pub board_told : {A C : Type 0} (exchanges : A → Exchange → A → Type 0) (shows : C → ℕ → C → Type 0) (waits : C → ℕ → Onward → C → Type 0) (kind : Kind) (stops : Type 0) (f g : Follower) (b a : T) (p q : A) (x y : C)
+        → Follows (Does takes refuses answers hears exchanges shows waits kind) stops f (b, p, x) g (a, q, y) → IsToldAll R says owes f (revision b) (pass b) g (pass a)
+    board_told exchanges shows waits kind stops f g b a p q x y so = record {
       steps = so.steps;
       leads = so.leads;
-      told = steps_told (pass b) [] (revision b) so.steps (told_nothing f) b a (record { told = not_later (pass b); at = refl }) so.done;
+      told = steps_told (pass b) [] (revision b) so.steps (told_nothing f) b a (record { told = not_later (pass b); at = refl })
+          (sink_told takes refuses answers hears exchanges kind shows waits so.steps (told_nothing f) (b, p, x) (a, q, y) so.done);
     }

@@ -1,4 +1,3 @@
-mod Again
 mod Named
 mod Made
 mod Turned

@@ -17,7 +17,7 @@ each : {X Y : Type 0} (P : Y → Type 0) (f : X → Y) (xs : List X) → All P (
 each P f [] all = All-nil (λ x. P (f x))
 each P f (x ∷ xs) all = All-cons (λ x. P (f x)) x xs (All-head P (f x) (map f xs) all) (each P f xs (All-tail P (f x) (map f xs) all))
 
-module _ {K N : Type 0} (R : N → N → Ordering) (owes : Shift → List K → Type 0) (ends : K → PerKind Snapshot → Outcome → Type 0) (says : K → N) where
+module _ {K N : Type 0} (R : N → N → Ordering) (owes : PerKind Snapshot → Shift → List K → Type 0) (ends : K → PerKind Snapshot → Outcome → Type 0) (says : K → N) where
   -- a pass with no key in its hand, whose steps are those of a run
   abbrev HasRun : Sight N → Type 0
   HasRun v = (in_hand v.made ≡ None) × AreRunSteps owes ends says v.made

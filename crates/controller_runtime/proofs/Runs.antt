@@ -45,7 +45,7 @@ module _ {N : Type 0} (P : Step N → Type 0) where
   ticking : (moments : List ℕ) → ((now : ℕ) → P (tick now)) → All P (map tick moments)
   ticking moments ticks = All-map P tick moments (λ k d lt. ticks _)
 
-module _ {K N : Type 0} (R : N → N → Ordering) (owes : Shift → List K → Type 0) (ends : K → PerKind Snapshot → Outcome → Type 0) (says : K → N) where
+module _ {K N : Type 0} (R : N → N → Ordering) (owes : PerKind Snapshot → Shift → List K → Type 0) (ends : K → PerKind Snapshot → Outcome → Type 0) (says : K → N) where
   -- a new pass
   pub begins : (d : SharedKeyedBoard K) (p : AnyPass K) → IsNewAt d p → IsAtWork owes ends says d p
   begins d p new = (

@@ -10,7 +10,7 @@ use Rattle.keyed_board.specs.Steps.{add}
 use Rattle.shared_keyed_board.specs.Calls.{Sight, IsCall, Nothing}
 use Rattle.controller_runtime.specs.Handled.{is_other, AreGiven, AddsGiven, Takes}
 
-module _ {K N : Type 0} (R : N → N → Ordering) (says : K → N) (owes : Shift → List K → Type 0) where
+module _ {K N : Type 0} (R : N → N → Ordering) (says : K → N) (owes : PerKind Snapshot → Shift → List K → Type 0) where
   adds : (cause : Cause) (ls : PerKind Lister) (ss : List Shift) (keys given : List K) (v w : Sight N) → AreGiven owes cause ls ss keys → given ≡ keys → IsCall R v (λ b. Some (add (map says given))) Nothing w
       → AddsGiven R says owes cause ls ss v w
   adds cause ls ss keys given v w are is c = (keys, are, subst (λ ks. IsCall R v (λ b. Some (add (map says ks))) Nothing w) is c)

@@ -18,21 +18,21 @@ use Rattle.reconciler.specs.Unchanged.{all_unchanged}
 abbrev pub is_other : ℕ → Snapshot → List Shift → Bool
 is_other revision objects ss = nat_lt objects.revision revision || shows_other_server ss
 
--- these are the keys that all objects owe which listers show
-abbrev pub AreOwedByAll : {K : Type 0} → (Shift → List K → Type 0) → PerKind Lister → List K → Type 0
-AreOwedByAll owes ls keys = (maps : PerKind Snapshot) × AreKnown ls maps × AreOwed owes (all_unchanged maps) keys
+-- of which changes of a publish the keys are added: its own, and after a list that is not the first those too that each object counts as which is shown
+abbrev pub all_given : Cause → PerKind Snapshot → List Shift → List Shift
+all_given FirstList maps ss = ss
+all_given LaterList maps ss = ss ++ all_unchanged maps
+all_given Changes maps ss = ss
 
--- the keys that are added of a publish: those that its changes owe, and after a list that is not the first those too that all objects owe which listers show
-abbrev pub AreGiven : {K : Type 0} → (Shift → List K → Type 0) → Cause → PerKind Lister → List Shift → List K → Type 0
-AreGiven owes FirstList ls ss keys = AreOwed owes ss keys
-AreGiven {K = K} owes LaterList ls ss keys = (first : List K) × (rest : List K) × (keys ≡ first ++ rest) × AreOwed owes ss first × AreOwedByAll owes ls rest
-AreGiven owes Changes ls ss keys = AreOwed owes ss keys
+-- the keys that are added of a publish: those that these changes owe, by the maps that were published when the listers looked last
+abbrev pub AreGiven : {K : Type 0} → (PerKind Snapshot → Shift → List K → Type 0) → Cause → PerKind Lister → List Shift → List K → Type 0
+AreGiven owes cause ls ss keys = (maps : PerKind Snapshot) × AreKnown ls maps × AreOwed (owes maps) (all_given cause maps ss) keys
 
 -- they were added, in one step
-abbrev pub AddsGiven : {K N : Type 0} (R : N → N → Ordering) → (K → N) → (Shift → List K → Type 0) → Cause → PerKind Lister → List Shift → Sight N → Sight N → Type 0
+abbrev pub AddsGiven : {K N : Type 0} (R : N → N → Ordering) → (K → N) → (PerKind Snapshot → Shift → List K → Type 0) → Cause → PerKind Lister → List Shift → Sight N → Sight N → Type 0
 AddsGiven {K = K} R says owes cause ls ss v w = (keys : List K) × AreGiven owes cause ls ss keys × IsCall R v (λ b. Some (add (map says keys))) Nothing w
 
 -- a publish is taken: the keys that it owes were added; of another server's nothing was done
-pub record Takes {K N : Type 0} (R : N → N → Ordering) (says : K → N) (owes : Shift → List K → Type 0) (cause : Cause) (revision : ℕ) (ss : List Shift) (objects : Snapshot) (ls : PerKind Lister) (v w : Sight N) (later : ℕ) : Type 0 where
+pub record Takes {K N : Type 0} (R : N → N → Ordering) (says : K → N) (owes : PerKind Snapshot → Shift → List K → Type 0) (cause : Cause) (revision : ℕ) (ss : List Shift) (objects : Snapshot) (ls : PerKind Lister) (v w : Sight N) (later : ℕ) : Type 0 where
   pub other : is_other revision objects ss ≡ true → (w ≡ v) × (later ≡ revision)
   pub same : is_other revision objects ss ≡ false → AddsGiven R says owes cause ls ss v w × (later ≡ objects.revision)

@@ -4,6 +4,7 @@ use Rattle.std.specs.declared.cmp.Ordering.{Ordering}
 use Rattle.spec_client_go.specs.Shifts.{Shift}
 use Rattle.spec_server.specs.Snapshots.{Snapshot}
 use Rattle.object_keys.specs.declared.per_kind.PerKind.{PerKind}
+use Rattle.informer.specs.Looked.{AreKnown}
 use Rattle.informer.specs.declared.listers.Lister.{Lister}
 use Rattle.baton.specs.Marks.{made_by, CanHappen}
 use Rattle.keyed_board.specs.Steps.{Step, add, add_after, take, finish, tick, shut_down}
@@ -16,15 +17,15 @@ use Rattle.shared_keyed_board.specs.declared.boards.SharedKeyedBoard.{SharedKeye
 use Rattle.reconciler.specs.Owing.{AreOwed}
 use Rattle.controller_runtime.specs.Reconciled.{EndsAsShown}
 
--- keys are added: those that changes owe
-abbrev pub AddsOwedKeys : {K N : Type 0} → (Shift → List K → Type 0) → (K → N) → List N → Type 0
-AddsOwedKeys {K = K} owes says ns = (changes : List Shift) × (keys : List K) × AreOwed owes changes keys × (ns ≡ map says keys)
+-- keys are added: those that changes owe, by the maps that listers knew
+abbrev pub AddsOwedKeys : {K N : Type 0} → (PerKind Snapshot → Shift → List K → Type 0) → (K → N) → List N → Type 0
+AddsOwedKeys {K = K} owes says ns = (ls : PerKind Lister) × (maps : PerKind Snapshot) × (changes : List Shift) × (keys : List K) × AreKnown ls maps × AreOwed (owes maps) changes keys × (ns ≡ map says keys)
 
 -- a key is given back with how its reconcile ended, by the maps that listers knew
 abbrev pub GivesBack : {K N : Type 0} → (K → PerKind Snapshot → Outcome → Type 0) → (K → N) → N → Outcome → Type 0
 GivesBack {K = K} ends says n outcome = (key : K) × (ls : PerKind Lister) × (n ≡ says key) × EndsAsShown ends key ls outcome
 
-module _ {K N : Type 0} (owes : Shift → List K → Type 0) (ends : K → PerKind Snapshot → Outcome → Type 0) (says : K → N) where
+module _ {K N : Type 0} (owes : PerKind Snapshot → Shift → List K → Type 0) (ends : K → PerKind Snapshot → Outcome → Type 0) (says : K → N) where
   -- a step that a thread of a run makes
   abbrev pub IsRunStep : Step N → Type 0
   IsRunStep (add ns) = AddsOwedKeys owes says ns
@@ -54,5 +55,5 @@ module _ {K N : Type 0} (owes : Shift → List K → Type 0) (ends : K → PerKi
     pub free : hand h name ≡ None
 
 -- a pass has added keys that changes owe, and done nothing else
-abbrev pub OnlyAddsOwed : {K N : Type 0} → (Shift → List K → Type 0) → (K → N) → Sight N → Sight N → Type 0
+abbrev pub OnlyAddsOwed : {K N : Type 0} → (PerKind Snapshot → Shift → List K → Type 0) → (K → N) → Sight N → Sight N → Type 0
 OnlyAddsOwed {N = N} owes says v w = (added : List (List N)) × (w.made ≡ v.made ++ map add added) × All (AddsOwedKeys owes says) added

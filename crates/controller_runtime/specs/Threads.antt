@@ -36,9 +36,9 @@ module _ {R C K A : Type 0} where
   StopsLast ts = (front : List (RunThread R C K A)) × (t : RunThread R C K A) × (ts ≡ front ++ t ∷ []) × IsStopper t
 
   -- a thread that may begin, or go on
-  abbrev pub IsReady : {N : Type 0} → (Shift → List K → Type 0) → (K → PerKind Snapshot → Outcome → Type 0) → (K → N) → SharedKeyedBoard K → RunThread R C K A → Type 0
+  abbrev pub IsReady : {N : Type 0} → (PerKind Snapshot → Shift → List K → Type 0) → (K → PerKind Snapshot → Outcome → Type 0) → (K → N) → SharedKeyedBoard K → RunThread R C K A → Type 0
   IsReady owes ends says d t = IsThreadAt d t × IsAtWork owes ends says d (pass_in t)
 
   -- a thread whose pass has come back
-  abbrev pub HasEnded : {N : Type 0} → (Shift → List K → Type 0) → (K → PerKind Snapshot → Outcome → Type 0) → (K → N) → SharedKeyedBoard K → RunThread R C K A → Type 0
+  abbrev pub HasEnded : {N : Type 0} → (PerKind Snapshot → Shift → List K → Type 0) → (K → PerKind Snapshot → Outcome → Type 0) → (K → N) → SharedKeyedBoard K → RunThread R C K A → Type 0
   HasEnded owes ends says d t = IsBack owes ends says d (pass_in t)

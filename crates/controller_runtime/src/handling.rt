@@ -1,15 +1,18 @@
 //! Published changes, handled.
-ghost use Rattle.std.specs.Prelude.{◌≡◌, IfOk, map};
+ghost use Rattle.std.specs.Prelude.{◌≡◌, ◌++◌, List, IfOk, map};
 ghost use Rattle.indexer.specs.Shifted.{shift_of};
 ghost use Rattle.shared_keyed_board.specs.Passes.{IsPassAt};
 ghost use Rattle.reconciler.specs.Owing.{AreOwed};
-ghost use Rattle.controller_runtime.specs.Handled.{AreGiven, AreOwedByAll, is_other};
+ghost use Rattle.reconciler.specs.Unchanged.{all_unchanged};
+ghost use Rattle.informer.specs.Looked.{AreKnown};
+ghost use Rattle.controller_runtime.specs.Handled.{all_given, AreGiven, is_other};
 
 use crate::under_way::UnderWay;
 use indexer::{Indexed, Shift};
 use informer::Listers;
 use keyed_queues::Named;
 use list_and_watch::{Cause, Onward, Sink, shows_other_server};
+use object_keys::PerKind;
 use reconciler::owing::joined;
 use reconciler::{Reconciler, owed, owed_again};
 use shared_keyed_board::{BoardPass, SharedKeyedBoard};
@@ -32,22 +35,49 @@ pub(crate) struct ChangeHandler<'a, R, C, K: Named> {
     ghost sits: { IsPassAt board.now pass },
 }
 
-/// Returns the keys that all objects owe which listers show. The error is running out of memory, or that an informer is closed.
-fn again<K: Named, C: Reconciler<K>>(
-    alloc: Global,
-    controller: &C,
-    listers: &mut Listers,
-) -> Result<Vec<K>, AllocError>
-    ensures { IfOk result (λ keys. AreOwedByAll C.owes listers.new.listers keys.items) }
+/// Returns what listers show. The error is running out of memory, or that an informer is closed.
+fn look(listers: &mut Listers) -> Result<PerKind<Indexed>, AllocError>
+    ensures { IfOk result (λ shown. AreKnown listers.new.listers shown) }
 {
-    let Some(shown) = listers.all_published()? else {
-        return Err(AllocError);
-    };
-    owed_again(alloc, controller, &shown)
+    match listers.all_published()? {
+        Some(shown) => Ok(shown),
+        None => Err(AllocError),
+    }
 }
 
-/// Returns the keys that the changes of a publish owe, and after a list that is not the first those too that all objects owe which listers show. The
-/// error is running out of memory, or that an informer is closed.
+/// Returns keys, and then those that all objects owe which are shown. The error is running out of memory.
+fn with_all<K: Named, C: Reconciler<K>>(
+    alloc: Global,
+    controller: &C,
+    keys: Vec<K>,
+    shown: &PerKind<Indexed>,
+) -> Result<Vec<K>, AllocError>
+    ensures { IfOk result (λ all. (more : List K) × AreOwed (C.owes shown.now) (all_unchanged shown.now) more × (all.items ≡ keys.items ++ more)) }
+{
+    let more = owed_again(alloc, controller, shown)?;
+    joined(keys, more)
+}
+
+/// Returns the keys that the changes of a publish owe by what is shown, and after a list that is not the first those too that all objects owe which
+/// are shown. The error is running out of memory.
+fn owed_of<K: Named, C: Reconciler<K>>(
+    alloc: Global,
+    controller: &C,
+    changes: &[Shift],
+    cause: Cause,
+    shown: &PerKind<Indexed>,
+) -> Result<Vec<K>, AllocError>
+    ensures { IfOk result (λ keys. AreOwed (C.owes shown.now) (all_given cause shown.now (map shift_of changes.now)) keys.items) }
+{
+    let keys = owed(alloc, controller, changes, shown)?;
+    match cause {
+        Cause::LaterList => with_all(alloc, controller, keys, shown),
+        Cause::FirstList | Cause::Changes => Ok(keys),
+    }
+}
+
+/// Returns the keys that are to be added of a publish, by what listers show: they look once for all its changes. The error is running out of memory, or
+/// that an informer is closed.
 fn given<K: Named, C: Reconciler<K>>(
     alloc: Global,
     controller: &C,
@@ -57,11 +87,8 @@ fn given<K: Named, C: Reconciler<K>>(
 ) -> Result<Vec<K>, AllocError>
     ensures { IfOk result (λ keys. AreGiven C.owes cause listers.new.listers (map shift_of changes.now) keys.items) }
 {
-    let keys = owed(alloc, controller, changes)?;
-    match cause {
-        Cause::LaterList => joined(keys, again(alloc, controller, listers)?),
-        Cause::FirstList | Cause::Changes => Ok(keys),
-    }
+    let shown = look(listers)?;
+    owed_of(alloc, controller, changes, cause, &shown)
 }
 
 impl<'a, R, K: Named, C> ChangeHandler<'a, R, C, K> {

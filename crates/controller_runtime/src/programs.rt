@@ -1,20 +1,20 @@
 //! Controllers as programs: at a server over TCP, until a stop.
-ghost use Rattle.std.specs.Prelude.{◌≡◌, ◌<◌, ◌^◌, None, OnOk, IfErr, All, length};
-ghost use Rattle.controller_runtime.specs.Watched.{kind_watched_twice, IsScoped, RefusesScopes, RefusesWatches};
+ghost use Rattle.std.specs.Prelude.{◌<◌, ◌^◌, OnOk, IfErr, All, length};
+ghost use Rattle.controller_watches.specs.Watched.{IsScoped, RefusesScopes, RefusesWatches};
 
 use crate::followed::Followed;
+use crate::own_board::run_at_own_board;
 use crate::pausing::RunPauses;
-use crate::running::{Ended, OTHER_THREADS, run_until_over};
-use crate::start_fault::StartFault;
+use crate::running::Ended;
 use crate::telling::RunNotes;
-use crate::watches::{Watch, check_watches};
 use api_client::{Connect, Remote};
 use api_notes::{Notes, Told};
+use controller_layers::{Scoped, Telling};
+use controller_watches::{StartFault, Watch, check_watches, joint_watches};
 use keyed_queues::Named;
 use list_and_watch::Onward;
-use reconciler::Reconciler;
+use reconciler::{Printable, Reconciler};
 use request_encoding::{Scope, ScopeFault};
-use shared_keyed_board::SharedKeyedBoard;
 use std::alloc::{AllocError, Global};
 use std::io;
 use std::io::BufReader;
@@ -70,7 +70,8 @@ impl<'a, R: Net<Stream = TcpStream> + Clock, N: Notes> Server<'a, R, N> {
     ghost use Rattle.request_encoding.specs.Seen.{scope_of};
     ghost use Rattle.api_client.specs.Asked.{scope_at};
     ghost use Rattle.api_notes.specs.Told.{api_of};
-    ghost use Rattle.controller_runtime.specs.Watched.{scope_asked, AreFollowed, RefusesScopes};
+    ghost use Rattle.controller_watches.specs.Watched.{scope_asked, RefusesScopes};
+    ghost use Rattle.controller_runtime.specs.Watched.{AreFollowed};
 
     /// Returns what connects to it.
     fn connector(&self) -> Connector<'a, R> {
@@ -162,26 +163,11 @@ where
     };
     let followed = server.all_followed(watches)?;
     let asking = server.ways()?;
-    let (board, passes) = SharedKeyedBoard::open(alloc, working.len() + OTHER_THREADS)?;
-    let (ended, _passes) = run_until_over(
-        rt, alloc, controller, followed, asking, stop, &over, &board, passes,
-    )?;
-    Ok(ended)
+    Ok(run_at_own_board(rt, alloc, controller, followed, asking, stop, &over)?)
 }
 
-/// Runs a controller at a server over TCP until a stop, as `run_workers` does, with so many workers, one at least and 64 at most. Where another
-/// server answers than before it begins anew after a pause: 0.8 s, twice as long each time that this happens again within 2 minutes, and 30 s at most. From
-/// when it is seen on, nothing is asked by what the one before showed; and nothing begins after a stop, which ends the pause too. The server is named as
-/// for `TcpStream::connect`, as `"HOST:PORT"`; while none answers it is tried again. What keeps it from answering, and which requests it refuses, the
-/// notes are told (`api_notes::StandardError` writes it, `api_notes::Silent` does not).
-///
-/// The caller's own thread waits for the stop. Each followed kind, each worker and the time have one more: where the system refuses some, nothing says
-/// so, and their work is not done until the run ends. Without a thread for each kind no key is taken; without the one for time a key that is to be
-/// looked at again waits until another is given back; without some workers all takes longer. A stop ends the run all the same.
-///
-/// The error is that `check_watches` refuses the watches, before anything is asked; or running out of memory before a thread was started, of this
-/// run or of one that begins anew.
-pub fn run_at<R, K, C, N>(
+/// Runs a controller at a server until a stop, one run after another: where another server answers than before, it begins anew after a pause.
+fn run_again_and_again<R, K, C, N>(
     rt: &R,
     alloc: Global,
     address: &str,
@@ -190,17 +176,14 @@ pub fn run_at<R, K, C, N>(
     workers: usize,
     notes: &N,
     stop: &Stop,
-) -> Result<(), StartFault>
+) -> Result<(), ScopeFault>
 where
     R: Net<Listener = TcpListener, Stream = TcpStream> + Threads + Wait + Clock + Sync,
     K: Named + Send,
     C: Reconciler<K> + Sync,
     N: Notes + Sync,
-    ensures once { OnOk result (kind_watched_twice watches.now ≡ None) }
-    ensures scoped { OnOk result (All IsScoped watches.now) }
-    ensures refused { IfErr result (RefusesWatches watches.now) }
+    ensures { IfErr result (RefusesScopes watches.now) }
 {
-    check_watches(alloc, watches)?;
     let workers = workers.clamp(1, MOST_WORKERS);
     let told = RunNotes::new(rt, alloc, notes, workers)?;
     let mut pauses = RunPauses::new(rt, stop);
@@ -224,4 +207,75 @@ where
         }
     }
     unreachable!()
+}
+
+/// Runs a controller at a server until a stop, and follows one list of each kind that watches name, which holds all of them.
+fn run_jointly<R, K, C, N>(
+    rt: &R,
+    alloc: Global,
+    address: &str,
+    controller: &C,
+    watches: &[Watch<'_>],
+    workers: usize,
+    notes: &N,
+    stop: &Stop,
+) -> Result<(), ScopeFault>
+where
+    R: Net<Listener = TcpListener, Stream = TcpStream> + Threads + Wait + Clock + Sync,
+    K: Named + Send,
+    C: Reconciler<K> + Sync,
+    N: Notes + Sync,
+    ensures { IfErr result (RefusesScopes watches.now) }
+{
+    let followed = joint_watches(alloc, watches)?;
+    run_again_and_again(
+        rt,
+        alloc,
+        address,
+        controller,
+        followed.as_slice(),
+        workers,
+        notes,
+        stop,
+    )
+}
+
+/// Runs a controller at a server over TCP until a stop, as `run_workers` does, with so many workers, one at least and 64 at most. Where another
+/// server answers than before it begins anew after a pause: 0.8 s, twice as long each time that this happens again within 2 minutes, and 30 s at most. From
+/// when it is seen on, nothing is asked by what the one before showed; and nothing begins after a stop, which ends the pause too. The server is named as
+/// for `TcpStream::connect`, as `"HOST:PORT"`; while none answers it is tried again. What keeps it from answering, which requests it refuses, and of which
+/// keys the reconcile fails, the notes are told (`api_notes::StandardError` writes it, `api_notes::Silent` does not).
+///
+/// Of a kind that several watches name one list is followed, which holds all of them (`joint_watches`), and shown; but only the changes that touch one of
+/// the watches are handed to the controller (`Scoped`).
+///
+/// The caller's own thread waits for the stop. Each followed kind, each worker and the time have one more: where the system refuses some, nothing says
+/// so, and their work is not done until the run ends. Without a thread for each kind no key is taken; without the one for time a key that is to be
+/// looked at again waits until another is given back; without some workers all takes longer. A stop ends the run all the same.
+///
+/// The error is that `check_watches` refuses the watches, before anything is asked; or running out of memory before a thread was started, of this
+/// run or of one that begins anew.
+pub fn run_at<R, K, C, N>(
+    rt: &R,
+    alloc: Global,
+    address: &str,
+    controller: &C,
+    watches: &[Watch<'_>],
+    workers: usize,
+    notes: &N,
+    stop: &Stop,
+) -> Result<(), StartFault>
+where
+    R: Net<Listener = TcpListener, Stream = TcpStream> + Threads + Wait + Clock + Sync,
+    K: Named + Printable + Send,
+    C: Reconciler<K> + Sync,
+    N: Notes + Sync,
+    ensures scoped { OnOk result (All IsScoped watches.now) }
+    ensures refused { IfErr result (RefusesWatches watches.now) }
+{
+    check_watches(alloc, watches)?;
+    let scoped = Scoped::new(alloc, controller, watches)?;
+    let telling = Telling::new(rt, alloc, &scoped, notes);
+    run_jointly(rt, alloc, address, &telling, watches, workers, notes, stop)?;
+    Ok(())
 }

@@ -332,7 +332,8 @@ where
 /// worker, and six more.
 ///
 /// Each comes back with no key in its hand. Its steps, each one of the board's one history, are those of a run: keys were added that changes
-/// owed; a key was taken, or given back with how its reconcile ended, by maps that its listers knew; time passed; or the board was shut down.
+/// owed, by maps that listers knew; a key was taken, or given back with how its reconcile ended, by maps that listers knew; time passed; or the board
+/// was shut down. No clause says that these listers are of the run's own informers: the code makes no others.
 /// Where the run was over while a key was in its hand, it gave that back as done, last of all. Who then looks back (`look_back`) learns a history
 /// of which the laws of `shared_keyed_board` speak: no key was ever in two hands, and until the board was shut down each that a change owed
 /// waited, or was taken after it.
@@ -364,37 +365,4 @@ where
     run_until_over(
         rt, alloc, controller, followed, asking, stop, &over, board, passes,
     )
-}
-
-/// Runs a controller until it is to stop, or another server answers than before, and joins all threads: one for each kind that is followed, which
-/// adds the keys that its changes owe; the workers, one for each way to ask, which reconcile one key after another once each kind has been listed;
-/// one that lets time pass, for keys that are to be looked at again; and the caller's own, which waits for the stop. What was to be done in a thread that
-/// the system refuses is not done until the run ends (`run_at` says what that costs). A kind that is named twice is followed once, as it is first named.
-///
-/// A key is in one worker's hands at a time, and is queued once however often it is owed. One that is owed while it is in a worker's hands is
-/// reconciled again after it; one whose reconcile failed after 5 milliseconds, and twice as long after each failure that follows, up to 1,000
-/// seconds.
-///
-/// The error is running out of memory before a thread was started; where it runs out later, who needs it waits. No clause says that a thread starts
-/// or gets on.
-pub fn run_workers<R, K, C, A>(
-    rt: &R,
-    alloc: Global,
-    controller: &C,
-    followed: Vec<Followed<A>>,
-    asking: Vec<A>,
-    stop: &Stop,
-) -> Result<Ended, AllocError>
-where
-    R: Threads + Wait + Clock + Sync,
-    K: Named + Send,
-    C: Reconciler<K> + Sync,
-    A: Api + Send + Drop,
-    requires { vec_len asking < 2 ^ 16 }
-{
-    let (board, passes) = SharedKeyedBoard::open(alloc, asking.len() + OTHER_THREADS)?;
-    let (ended, _passes) = run_at_board(
-        rt, alloc, controller, followed, asking, stop, &board, passes,
-    )?;
-    Ok(ended)
 }

@@ -2,6 +2,7 @@
 ghost use Rattle.std.specs.Prelude.{◌≡◌, IfOk, vec_len};
 
 use api_notes::{Notes, Trouble};
+use keyed_board::Failure;
 use object_keys::PerKind;
 use request_parts::Request;
 use spec_api::kinds::Kind;
@@ -55,6 +56,14 @@ impl<R: Wait, N: Notes> Notes for KeptNotes<'_, R, N> {
 
     fn refused(&self, request: &Request, code: u16, body: &[u8]) {
         self.notes.refused(request, code, body);
+    }
+
+    fn failed(&self, key: &str, failure: Failure) {
+        self.notes.failed(key, failure);
+    }
+
+    fn recovered(&self, key: &str) {
+        self.notes.recovered(key);
     }
 }
 

@@ -1,6 +1,6 @@
 //! Texts on a board that fail, and come due again.
 use crate::assertions::assert_same;
-use keyed_board::{KeyedBoard, Outcome};
+use keyed_board::{Failure, KeyedBoard, Outcome};
 use std::alloc::{AllocError, Global};
 
 /// Takes the text that waits, if one does, and gives it back as it went. Returns how long it is until a text comes due.
@@ -38,12 +38,29 @@ fn waits(alloc: Global, turns: &[(Outcome, u64)]) -> Result<Vec<Option<u64>>, Al
     take_turns(alloc, &mut board, turns)
 }
 
+/// A server that does not reply.
+const NO_REPLY: Outcome = Outcome::Failed(Failure::NoReply);
+
+/// A server that refuses work as too much, and asks to be left alone for two seconds.
+const TOO_MUCH: Outcome = Outcome::Failed(Failure::Refused {
+    code: 429,
+    retry_after: Some(2),
+});
+
+/// A conflict, with which a server asks so; that is in the nature of the work.
+const CONFLICT: Outcome = Outcome::Failed(Failure::Refused {
+    code: 409,
+    retry_after: Some(2),
+});
+
+/// A server that is away, and asks so.
+const AWAY: Outcome = Outcome::Failed(Failure::Refused {
+    code: 503,
+    retry_after: Some(2),
+});
+
 /// A text that fails twice, the second time once its delay is over; 6 milliseconds later none is taken.
-const FAILED_TWICE: [(Outcome, u64); 3] = [
-    (Outcome::Failed, 5),
-    (Outcome::Failed, 11),
-    (Outcome::Failed, 11),
-];
+const FAILED_TWICE: [(Outcome, u64); 3] = [(NO_REPLY, 5), (NO_REPLY, 11), (NO_REPLY, 11)];
 
 #[test]
 fn a_text_that_fails_comes_due_again(rt: HostRuntime) {
@@ -57,14 +74,14 @@ fn a_text_that_fails_comes_due_again(rt: HostRuntime) {
 
 /// A text that fails, succeeds for now, and fails again.
 const FAILED_ANEW: [(Outcome, u64); 3] = [
-    (Outcome::Failed, 5),
+    (NO_REPLY, 5),
     (
         Outcome::LookAgain {
             milliseconds: 1_000,
         },
         1_005,
     ),
-    (Outcome::Failed, 1_005),
+    (NO_REPLY, 1_005),
 ];
 
 #[test]
@@ -74,6 +91,19 @@ fn a_success_forgets_failures(rt: HostRuntime) {
         &rt,
         &delays.as_deref(),
         &Ok([Some(5), Some(1_000), Some(5)].as_slice()),
+    );
+}
+
+/// A text whose work is refused as too much, as a conflict, and for a fault of the server's.
+const REFUSED: [(Outcome, u64); 3] = [(TOO_MUCH, 2_000), (CONFLICT, 2_010), (AWAY, 2_010)];
+
+#[test]
+fn a_server_is_left_alone_as_long_as_it_asks(rt: HostRuntime) {
+    let delays = waits(rt.alloc(), &REFUSED);
+    assert_same(
+        &rt,
+        &delays.as_deref(),
+        &Ok([Some(2_000), Some(10), Some(2_000)].as_slice()),
     );
 }
 

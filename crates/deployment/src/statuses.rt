@@ -11,8 +11,8 @@ ghost use Rattle.deployment.specs.Sets.{rollout_seen};
 ghost use Rattle.reconcile_types.specs.Commands.{command_of};
 ghost use Rattle.reconcile_types.specs.Entries.{entry_of};
 
+use crate::rolling_numbers::total_asked;
 use crate::rollout::{Rollout, all_sets, tallies};
-use crate::rollouts::total_asked;
 use meta::Object;
 use reconcile_types::{Command, Entry, count_in_status, status};
 use spec_reconcile::Summary;

@@ -1,3 +1,4 @@
+-- Read Entering first: the server that a history gives with one entry more. Seated has what is asked at a seat.
 pub mod Answered
 pub mod Entering
 pub mod Coming

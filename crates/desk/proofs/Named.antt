@@ -21,7 +21,7 @@ use Rattle.spec_api.specs.declared.kinds.Kind.{Kind}
 use Rattle.spec_api.specs.declared.refusals.Field.{Field}
 use Rattle.spec_api.specs.declared.refusals.Mismatch.{Mismatch}
 use Rattle.spec_api.specs.declared.refusals.Part.{Part}
-use Rattle.desk.specs.Kinds.{kind_named}
+use Rattle.request_parts.specs.Requests.{kind_named}
 
 -- whether an outcome writes an object of this kind, if any
 abbrev pub WritesOnly : Kind → Outcome → Type 0

@@ -28,7 +28,7 @@ use Rattle.desk.specs.Asked.{CallsAt, ListsAt, WatchesAt, BeginsAt, Hears}
 use Rattle.desk.specs.Steps.{Step}
 use Rattle.desk.specs.Told.{once_ok, Answers, IsThere}
 use Rattle.desk.specs.declared.served.ServedReply.{ServedReply}
-use Rattle.desk.specs.Kinds.{kind_named}
+use Rattle.request_parts.specs.Requests.{kind_named}
 use Rattle.desk.proofs.Named.{WritesOnly, writes_only}
 use Rattle.desk.proofs.Stepping.{restated}
 

@@ -4,6 +4,5 @@ pub mod Histories
 pub mod Steps
 pub mod Desks
 pub mod Told
-pub mod Kinds
 pub mod Asked
 pub mod Seats

@@ -2,19 +2,18 @@
 //! calls: the server is taken, makes one step, and is given back. A seat has a pass with what else a thread needs.
 #![tactic(auto)]
 
-pub mod askings;
+mod askings;
 mod calls;
 mod compactions;
-pub mod desks;
+mod desks;
 pub mod entries;
-mod kinds;
-pub mod listeners;
+mod listeners;
 mod reads;
 mod seat_calls;
-pub mod seats;
+mod seats;
 pub mod served;
 mod steps;
-pub mod store_law;
+mod store_law;
 pub mod store_laws;
 
 pub use askings::{Anything, Asking, Readable};

@@ -7,7 +7,6 @@ ghost use Rattle.desk.specs.Seats.{desk_at, known_at, listener_at, Calls};
 
 use crate::askings::{Asking, Readable};
 use crate::desks::{Desk, StorePass};
-use crate::kinds::kind_of;
 use crate::listeners::Listener;
 use crate::seats::Seat;
 use api::Site;
@@ -59,7 +58,7 @@ impl<'a, A: Asking, L: Listener, R: Wait> Seat<'a, A, L, R> {
         requires { A.MayAsk (request_of request) }
         ensures { Tells (λ o. Calls A.MayAsk L.Hears self.old (request_of request) moment o self.new) result }
     {
-        let kind = kind_of(&request);
+        let kind = request.kind();
         match self
             .desk
             .serve(self.rt, alloc, &mut self.pass, request, moment)

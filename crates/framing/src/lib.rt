@@ -2,12 +2,12 @@
 #![tactic(auto)]
 
 pub mod decoder;
-pub mod frames;
+mod frames;
 pub mod laws;
 pub mod lines;
 pub mod scan;
 pub mod texts;
-pub mod wants;
+mod wants;
 
 pub use decoder::{Decoded, Decoder};
 pub use frames::Frame;

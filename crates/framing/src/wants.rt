@@ -1,8 +1,10 @@
 //! Running out of memory.
 use std::alloc::{AllocError, AllocFailed};
+use thiserror::Error;
 
 /// Memory was wanted and refused.
-#[derive(Clone, Copy)]
+#[derive(Debug, Clone, Copy, Error)]
+#[error("out of memory")]
 pub struct Want;
 
 impl From<AllocError> for Want {

@@ -14,6 +14,7 @@ use Rattle.http_client.specs.Bodies.{ReadsBody, HasNoBody, HasLongBody, IsStated
 use Rattle.http_client.specs.Replies.{ReadsReply, SaysInChunks, SaysWhole, SaysNoReply, IsNoBody, IsLonger}
 use Rattle.http_client.specs.Watches.{IsOpening}
 use Rattle.http_client.proofs.WholeBodies.{body_there}
+use Rattle.http_client.specs.declared.opening.WatchAnswer.{WatchAnswer}
 use Rattle.http_client.specs.declared.opening.WatchAnswer.TheVariants as opening
 use Rattle.http_client.specs.declared.framing.Framing.{Framing}
 use Rattle.http_client.specs.declared.framing.Framing.TheVariants as framing
@@ -113,11 +114,11 @@ chunked_framing most h framing.TooLong is chunked = absurd (none_some chunked.0 
 chunked_framing most h framing.Chunked is chunked = refl
 chunked_framing most h framing.Other is chunked = absurd (is.1 chunked.0 chunked.1 chunked.2)
 
--- a head of another code than an opened watch's, or without chunks, refuses it
-pub head_refuses : (most : ℕ) (before mid : Option (List ℕ)) (head : ReplyHead) → HeadRead most before mid head → (head.code ≡ 410 → ⊥) → (head.framing ≡ framing.Chunked → head.code ≡ 200 → ⊥)
-    → IsOpening before mid (opening.Refused head.code)
-head_refuses most before mid head (h, reads, of) known none =
-    (h, reads, (of.0, (λ is. known is), λ both. none (chunked_framing most h head.framing of.1 both.0) both.1))
+-- a head of another code than an opened watch's, or without chunks, refuses it, with what it asks
+pub head_refuses : (most : ℕ) (before mid : Option (List ℕ)) (head : ReplyHead) (a : WatchAnswer) → a ≡ opening.Refused head.code head.retry_after → HeadRead most before mid head → (head.code ≡ 410 → ⊥) → (head.framing ≡ framing.Chunked → head.code ≡ 200 → ⊥)
+    → IsOpening before mid a
+head_refuses most before mid head a same (h, reads, of) known none =
+    subst (IsOpening before mid) (sym same) (h, reads, (of.0, (λ is. known is), (λ both. none (chunked_framing most h head.framing of.1 both.0) both.1), of.2))
 
 -- ---- replies, however their bodies end
 

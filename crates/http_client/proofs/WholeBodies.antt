@@ -6,20 +6,9 @@ use Rattle.chunked.specs.Reading.{IsLeft, Passes, Reaches, Stops, longest_line}
 use Rattle.chunked.specs.declared.fault.ChunkFault.TheVariants as fault
 use Rattle.chunked.specs.declared.place.BodyPlace.{BodyPlace}
 use Rattle.chunked.specs.declared.place.BodyPlace.TheVariants as place
+use Rattle.chunked.proofs.Runs.{passes_more}
 use Rattle.http_client.specs.Reading.{IfKnown}
 use Rattle.http_client.specs.Replies.{IsNoBody, IsBodyLonger}
-
-passes_more : (p q s : BodyPlace) (front back first second : List ℕ) → Passes p front first q → Passes q back second s → Passes p (front ++ back) (first ++ second) s
-passes_more p q s front back first second a b = (
-  λ longest tail more rest le h.
-      let whole = a.0 longest (back ++ tail) (second ++ more) rest le (b.0 longest tail more rest le h) in
-      subst (λ t. IsLeft longest p t ((first ++ second) ++ more) rest) (sym (append_assoc front back tail))
-      (subst (λ t. IsLeft longest p (front ++ (back ++ tail)) t rest) (sym (append_assoc first second more)) whole),
-  λ longest tail all rest h.
-      let on = a.1 longest (back ++ tail) all rest (subst (λ t. IsLeft longest p t all rest) (append_assoc front back tail) h) in
-      let last = b.1 longest tail on.0 rest on.2 in
-      (last.0, on.1 ∙ ap (λ t. first ++ t) last.1 ∙ sym (append_assoc first second last.0), last.2),
-)
 
 -- one piece after another
 pub reaches_more : (before mid after : Option (List ℕ)) (p q s : BodyPlace) (first second new : List ℕ) → Reaches p before first q mid → Reaches q mid second s after → new ≡ first ++ second

@@ -4,6 +4,7 @@ pub mod Heads
 pub mod Reading
 pub mod Replies
 pub mod Bodies
+pub mod Waits
 pub mod Calls
 pub mod Watches
 pub mod Laws

@@ -1,22 +1,24 @@
 -- Watches that a client opens and reads.
 use Rattle.std.specs.Prelude.{◌≡◌, ◌<◌, ◌≤◌, ℕ, List, [], length, take, Option, Some, None}
 use Rattle.httparse.specs.Grammar.{ResponseHead, status_code}
-use Rattle.spec_http.specs.Answers.{IsChunked}
+use Rattle.spec_http.specs.Answers.{IsChunked, fields_of}
 use Rattle.chunked.specs.Reading.{Reaches, Stops, place_of, answered_fault, left_of}
 use Rattle.chunked.specs.declared.fault.ChunkFault.{ChunkFault}
 use Rattle.chunked.specs.declared.place.BodyPlace.TheVariants as place
 use Rattle.chunked.specs.declared.reader.Reader.{Reader}
+use Rattle.http_client.specs.Patience.{retry_after}
 use Rattle.http_client.specs.Reading.{ReadsHead}
 use Rattle.http_client.specs.declared.more.More.{More}
 use Rattle.http_client.specs.declared.more.More.TheVariants as more
 use Rattle.http_client.specs.declared.opening.WatchAnswer.{WatchAnswer}
 use Rattle.http_client.specs.declared.opening.WatchAnswer.TheVariants as opening
 
--- what a head says to who asks for a watch: the watch is open, what it was to begin after is no longer known, or it is refused with this status code
+-- what a head says to who asks for a watch: the watch is open, what it was to begin after is no longer known, or it is refused with this status code, and
+-- how many seconds the server asks to be left alone, if it asks that
 abbrev pub SaysOfWatch : ResponseHead → WatchAnswer → Type 0
 SaysOfWatch h opening.Open = IsChunked h × (status_code h ≡ 200)
 SaysOfWatch h opening.Expired = status_code h ≡ 410
-SaysOfWatch h (opening.Refused code) = (status_code h ≡ code) × ¬ (code ≡ 410) × ¬ (IsChunked h × (code ≡ 200))
+SaysOfWatch h (opening.Refused code wait) = (status_code h ≡ code) × ¬ (code ≡ 410) × ¬ (IsChunked h × (code ≡ 200)) × (wait ≡ retry_after (fields_of h))
 
 -- a head was read, and nothing beyond it, which says this
 abbrev pub IsOpening : Option (List ℕ) → Option (List ℕ) → WatchAnswer → Type 0

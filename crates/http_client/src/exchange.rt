@@ -11,8 +11,11 @@ use chunked::Watched;
 use std::alloc::Global;
 use std::io::{Read, Write};
 
-/// Writes the text of a request, and reads its reply.
-fn send_and_read<R: Read + Drop, W: Write + Drop>(
+/// Writes the text of a request, and reads its reply, whose body has a stated length or comes in chunks, of so many bytes at most.
+///
+/// It is lost where the writer fails, which has written a beginning of the request then; or all of it was written, and no whole reply
+/// comes, as where its body is longer, or memory runs out.
+pub fn send_and_read<R: Read + Drop, W: Write + Drop>(
     alloc: Global,
     text: &[u8],
     reader: Watched<R>,

@@ -2,26 +2,27 @@
 //! pieces. No socket is opened here.
 #![tactic(auto)]
 
-pub mod answer;
-pub mod body;
-pub mod chunks;
-pub mod exchange;
-pub mod fault;
+mod answer;
+mod body;
+mod chunks;
+mod exchange;
+mod fault;
 pub mod framing;
 pub mod laws;
-pub mod limit;
-pub mod more;
-pub mod opening;
+mod limit;
+mod more;
+mod opening;
 pub mod outgoing;
 pub mod patience;
-pub mod reading;
-pub mod reply;
+mod reading;
+mod reply;
 pub mod reply_head;
 pub mod statuses;
-pub mod whole;
+mod waits;
+mod whole;
 
 pub use answer::Answer;
-pub use exchange::call;
+pub use exchange::{call, send_and_read};
 pub use fault::ReplyFault;
 pub use framing::Framing;
 pub use limit::LARGEST_BODY;
@@ -30,4 +31,5 @@ pub use opening::{WatchAnswer, open_watch};
 pub use outgoing::Outgoing;
 pub use reply::{HttpReply, read_reply};
 pub use reply_head::ReplyHead;
+pub use waits::{milliseconds_asked, milliseconds_by};
 pub use whole::read_whole;

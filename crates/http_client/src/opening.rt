@@ -5,11 +5,12 @@ ghost use Rattle.http_client.specs.Heads.{BeginsWithNoHead};
 ghost use Rattle.http_client.specs.Reading.{IsWatched, IfKnown};
 ghost use Rattle.http_client.specs.Watches.{IsOpening};
 ghost use Rattle.http_client.specs.declared.fault.ReplyFault.TheVariants as fault;
+ghost use Rattle.http_client.specs.declared.opening.WatchAnswer.TheVariants as opening;
 
 use crate::fault::ReplyFault;
 use crate::framing::Framing;
 use crate::limit::LARGEST_BODY;
-use crate::reply_head::read_head;
+use crate::reply_head::{ReplyHead, read_head};
 use crate::statuses::{GONE, OK};
 use chunked::Watched;
 use std::alloc::Global;
@@ -22,8 +23,23 @@ pub enum WatchAnswer {
     Open,
     /// What it was to begin after is no longer known (Kubernetes API Concepts, 410 Gone responses).
     Expired,
-    /// It is refused with this status code.
-    Refused(u16),
+    /// It is refused.
+    Refused {
+        /// The status code.
+        code: u16,
+        /// How many seconds the server asks to be left alone, if it asks that: 3,600 where it asks for more (RFC 9110, Retry-After).
+        retry_after: Option<u16>,
+    },
+}
+
+/// Returns a refusal by its head.
+fn refused(head: &ReplyHead) -> WatchAnswer
+    ensures { result ≡ opening.Refused head.now.code head.now.retry_after }
+{
+    WatchAnswer::Refused {
+        code: head.code,
+        retry_after: head.retry_after,
+    }
 }
 
 /// Reads what a server says to who asks for a watch, by the head of its answer alone, and nothing beyond that: whatever body follows a refusal,
@@ -55,11 +71,9 @@ pub fn open_watch<R: Read + Drop>(
             if head.code == OK {
                 Ok(WatchAnswer::Open)
             } else {
-                Ok(WatchAnswer::Refused(head.code))
+                Ok(refused(&head))
             }
         }
-        Framing::Length(_) | Framing::TooLong | Framing::Other => Ok(WatchAnswer::Refused(
-            head.code,
-        )),
+        Framing::Length(_) | Framing::TooLong | Framing::Other => Ok(refused(&head)),
     }
 }

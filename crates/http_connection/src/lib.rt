@@ -2,19 +2,19 @@
 //! connections lets each go on when its peer sends or takes, or when what it watches changes.
 #![tactic(auto)]
 
-pub mod answering;
-pub mod arriving;
-pub mod ending;
+mod answering;
+mod arriving;
+mod ending;
 pub mod list_sending;
-pub mod listing;
-pub mod looking;
-pub mod noted;
-pub mod phase;
-pub mod receiving;
-pub mod replying;
+mod listing;
+mod looking;
+mod noted;
+mod phase;
+mod receiving;
+mod replying;
 pub mod sending;
-pub mod turning;
-pub mod watching;
+mod turning;
+mod watching;
 
 pub use answering::{answer, answered};
 pub use arriving::{Arriving, Awaited};

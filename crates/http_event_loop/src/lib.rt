@@ -5,29 +5,29 @@
 //! of it late. `kcp_commands::serving_threads` opens a row of loops and runs it.
 #![tactic(auto)]
 
-pub mod accepting;
-pub mod asker;
-pub mod asking;
+mod accepting;
+mod asker;
+mod asking;
 mod at_work;
 mod beginnings;
 mod begun;
-pub mod counting;
+mod counting;
 pub mod deadlines;
-pub mod event_loop;
-pub mod fault;
+mod event_loop;
+mod fault;
 mod given;
 mod held;
-pub mod listening;
-pub mod loops;
+mod listening;
+mod loops;
 mod open_connections;
 mod opened;
-pub mod place;
+mod place;
 pub mod rota;
 mod rounds;
-pub mod rows;
-pub mod runner;
+mod rows;
+mod runner;
 mod ticks;
-pub mod turns;
+mod turns;
 mod wakes;
 
 pub use accepting::Listening;

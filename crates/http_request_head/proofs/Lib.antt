@@ -1,3 +1,4 @@
+-- Read Wholes first: what is found stays found, whatever follows.
 pub mod Ends
 pub mod Cuts
 pub mod Wholes

@@ -3,10 +3,10 @@
 #![tactic(auto)]
 
 pub mod body_length;
-pub mod fault;
+mod fault;
 pub mod field;
-pub mod field_lines;
-pub mod found;
+mod field_lines;
+mod found;
 pub mod laws;
 pub mod media_type;
 pub mod method;

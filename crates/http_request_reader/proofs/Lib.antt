@@ -1,3 +1,4 @@
+-- Read SoFar first: what is asked by bytes that have come so far. Needed has that no more is read than a request needs.
 pub mod Filling
 pub mod Told
 pub mod Needed

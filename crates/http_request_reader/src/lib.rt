@@ -5,17 +5,17 @@
 #![tactic(auto)]
 
 mod answered;
-pub mod arrived;
-pub mod arriving;
+mod arrived;
 pub mod body;
-pub mod checks;
-pub mod opening;
-pub mod reading;
-pub mod received;
+mod checks;
+mod opening;
+mod reading;
+mod received;
+mod requests;
 
 pub use arrived::Arrived;
-pub use arriving::look_at;
 pub use checks::check_head;
 pub use opening::CheckedHead;
 pub use reading::receive;
 pub use received::Received;
+pub use requests::look_at;

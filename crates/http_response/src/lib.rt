@@ -2,11 +2,11 @@
 //! as chunks.
 #![tactic(auto)]
 
-pub mod constants;
-pub mod frames;
-pub mod heads;
-pub mod replies;
-pub mod sending;
+mod constants;
+mod frames;
+mod heads;
+mod replies;
+mod sending;
 
 pub use constants::{last_chunk, out_of_memory, watch_head};
 pub use frames::{push_bookmark, push_changes, push_closing, push_error, push_objects};

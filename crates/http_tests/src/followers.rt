@@ -15,7 +15,10 @@ const LOST: ScriptedWatch<'static> = ScriptedWatch {
 };
 
 const REFUSED_FOR_NOW: ScriptedWatch<'static> = ScriptedWatch {
-    opened: Opened::Refused(429),
+    opened: Opened::Refused {
+        code: 429,
+        retry_after: None,
+    },
     pieces: &[],
     ends: false,
 };
@@ -27,7 +30,10 @@ const GONE: ScriptedWatch<'static> = ScriptedWatch {
 };
 
 const TOO_NEW: ScriptedWatch<'static> = ScriptedWatch {
-    opened: Opened::Refused(504),
+    opened: Opened::Refused {
+        code: 504,
+        retry_after: None,
+    },
     pieces: &[],
     ends: false,
 };
@@ -149,7 +155,30 @@ fn first_stopped(alloc: Global) -> Option<usize> {
     None
 }
 
-const SCENES: [FollowerScene; 2] = [
+/// A watch that is refused by a server that asks to be left alone for two seconds.
+const LEAVE_ALONE: ScriptedWatch<'static> = ScriptedWatch {
+    opened: Opened::Refused {
+        code: 429,
+        retry_after: Some(2),
+    },
+    pieces: &[],
+    ends: false,
+};
+
+const SCENES: [FollowerScene; 3] = [
+    // a server that asks to be left alone is, for as long: the first object is asked for after two seconds, and not after 0.8
+    FollowerScene {
+        lists: &[LIST],
+        firsts: &[SAME],
+        watches: &[LEAVE_ALONE, UNTIL_NINE],
+        refusals: 0,
+        most: usize::MAX,
+        asked: &[0, 5, 105, 5],
+        published: &[5, 9],
+        pauses: &[2_000],
+        counts: (1, 1, 1),
+        told: (0, 0),
+    },
     // lists that fail are asked for after longer pauses
     FollowerScene {
         lists: &["", "{}", "", "", "", "", "", LATER],

@@ -48,6 +48,10 @@ impl<'a> Connect for Table<'a> {
             None => Err(io::Error::from(ErrorKind::ConnectionRefused)),
         }
     }
+
+    fn connect_to_watch(&mut self) -> io::Result<(Source<'a>, TestSink)> {
+        self.connect()
+    }
 }
 
 /// Returns a server over these streams.
@@ -141,7 +145,10 @@ fn each_request_has_a_connection_of_its_own(rt: HostRuntime) {
 /// What becomes of five watches.
 const OPENED: [Opened; 5] = [
     Opened::Expired,
-    Opened::Refused(504),
+    Opened::Refused {
+        code: 504,
+        retry_after: None,
+    },
     Opened::Lost,
     Opened::Open,
     Opened::Lost,

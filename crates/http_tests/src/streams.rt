@@ -53,19 +53,28 @@ const UNREADABLE: ScriptedWatch<'static> = ScriptedWatch {
 
 /// A stream that is refused as where none is known, a stream or a watch that is forbidden, one that is answered by no watch, and one that has expired.
 const UNPROCESSABLE: ScriptedWatch<'static> = ScriptedWatch {
-    opened: Opened::Refused(422),
+    opened: Opened::Refused {
+        code: 422,
+        retry_after: None,
+    },
     pieces: &[],
     ends: false,
 };
 
 const FORBIDDEN: ScriptedWatch<'static> = ScriptedWatch {
-    opened: Opened::Refused(403),
+    opened: Opened::Refused {
+        code: 403,
+        retry_after: None,
+    },
     pieces: &[],
     ends: false,
 };
 
 const NO_WATCH: ScriptedWatch<'static> = ScriptedWatch {
-    opened: Opened::Refused(200),
+    opened: Opened::Refused {
+        code: 200,
+        retry_after: None,
+    },
     pieces: &[],
     ends: false,
 };
@@ -168,7 +177,10 @@ const FOR_NOW: [u16; 5] = [429, 500, 502, 503, 504];
 /// Returns a stream that is refused with a status code.
 fn refused(code: u16) -> ScriptedWatch<'static> {
     ScriptedWatch {
-        opened: Opened::Refused(code),
+        opened: Opened::Refused {
+            code,
+            retry_after: None,
+        },
         pieces: &[],
         ends: false,
     }

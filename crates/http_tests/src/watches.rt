@@ -78,7 +78,10 @@ const REFUSALS: [(&[u8], Result<WatchAnswer, ReplyFault>); 5] = [
     (GONE, Ok(WatchAnswer::Expired)),
     (
         b"HTTP/1.1 504 Gateway Timeout\r\nTransfer-Encoding: chunked\r\n\r\n2\r\n{}\r\n0\r\n\r\n",
-        Ok(WatchAnswer::Refused(504)),
+        Ok(WatchAnswer::Refused {
+            code: 504,
+            retry_after: None,
+        }),
     ),
     (
         b"HTTP/1.1 410 Gone\r\nContent-Length: 67108865\r\n\r\n",
@@ -86,7 +89,10 @@ const REFUSALS: [(&[u8], Result<WatchAnswer, ReplyFault>); 5] = [
     ),
     (
         b"HTTP/1.1 200 OK\r\nContent-Length: 2\r\n\r\n{}",
-        Ok(WatchAnswer::Refused(200)),
+        Ok(WatchAnswer::Refused {
+            code: 200,
+            retry_after: None,
+        }),
     ),
     (b"", Err(ReplyFault::NotAReply)),
 ];

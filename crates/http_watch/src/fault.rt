@@ -1,22 +1,27 @@
 //! Why a watch is not served to its end.
 use object_keys::Fault;
 use std::alloc::{AllocError, AllocFailed};
+use thiserror::Error;
 
 /// Why a watch that has begun is left before its end.
-#[derive(Clone, Copy)]
+#[derive(Debug, Clone, Copy, Error)]
 pub enum Cut {
     /// The writer failed.
+    #[error("the writer failed")]
     Device,
     /// Out of memory.
+    #[error("out of memory")]
     NoMemory,
 }
 
 /// Why a watch is not served to its end.
-#[derive(Drop)]
+#[derive(Debug, Drop, Error)]
 pub enum WatchFault {
     /// It is refused, or out of memory as it opens: nothing was written.
+    #[error("{0}")]
     Refused(Fault),
     /// It is left unfinished.
+    #[error("{0}")]
     Cut(Cut),
 }
 

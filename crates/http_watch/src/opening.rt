@@ -10,7 +10,7 @@ ghost use Rattle.http_watch.specs.Opened.{IsOpened, opening_of};
 use crate::begun::Begun;
 use crate::first_frames::FirstFrames;
 use crate::frames::{idle_after, push_look};
-use crate::looking::MOST_EVENTS;
+use crate::one_look::MOST_EVENTS;
 use crate::source::WatchSource;
 use crate::standing::WatchStanding;
 use http_response::watch_head;

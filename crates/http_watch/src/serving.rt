@@ -10,7 +10,7 @@ ghost use Rattle.http_watch.specs.Served.{Follows, Serves, WritesInParts};
 use crate::fault::{Cut, WatchFault};
 use crate::first_frames::FirstFrames;
 use crate::frames::write_text;
-use crate::looking::look;
+use crate::one_look::look;
 use crate::opening::{WatchStart, open};
 use crate::source::{LookPace, WatchSource};
 use crate::standing::WatchStanding;

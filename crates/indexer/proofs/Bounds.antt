@@ -9,6 +9,7 @@ use Rattle.std.specs.declared.ops.Bound.TheVariants.{Included, Excluded}
 use Rattle.spec_api.specs.Kinds.{rank}
 use Rattle.spec_api.specs.declared.kinds.Kind.{Kind}
 use Rattle.spec_api.specs.Keys.{Key as Name, key_cmp as name_cmp}
+use Rattle.spec_api.proofs.NextTexts.{nil_first, then_next, zero_next}
 use Rattle.object_keys.specs.Keys.{key_of}
 use Rattle.object_keys.specs.declared.key.Key.{Key}
 use Rattle.object_keys.proofs.KeyOrder.{key_cmp-name_cmp}
@@ -18,23 +19,6 @@ use Rattle.indexer.proofs.LinkSets.{pair_cmp, link_cmp-pair}
 use Rattle.reflector.proofs.SeenMaps.{key_cmp}
 
 -- ---- texts
-
-nil_first : (t : List ℕ) → is_le (slice_cmp nat_cmp [] t) ≡ true
-nil_first [] = refl
-nil_first (x ∷ t) = refl
-
-then_next : (o r q : Ordering) → is_le r ≡ is_lt q → is_le (ordering_then o r) ≡ is_lt (ordering_then o q)
-then_next Less r q same = refl
-then_next Equal r q same = same
-then_next Greater r q same = refl
-
--- the texts that are no earlier than a text and a zero are those after the text
-zero_next : (s t : List ℕ) → is_le (slice_cmp nat_cmp (s ++ 0 ∷ []) t) ≡ is_lt (slice_cmp nat_cmp s t)
-zero_next [] [] = refl
-zero_next [] (zero ∷ t) = nil_first t
-zero_next [] (suc y ∷ t) = grind arith
-zero_next (x ∷ s) [] = refl
-zero_next (x ∷ s) (y ∷ t) = then_next (nat_cmp x y) (slice_cmp nat_cmp (s ++ 0 ∷ []) t) (slice_cmp nat_cmp s t) (zero_next s t)
 
 then_least : (o r : Ordering) → is_le r ≡ true → is_le (ordering_then o r) ≡ is_le o
 then_least Less r least = refl

@@ -1,3 +1,4 @@
+-- Read SeenMaps and LinkIndex first: what is looked up, and the links to owners as a member is put or removed. LinkWalks has what is found by them.
 pub mod Bounds
 pub mod Copies
 pub mod InOrder

@@ -3,11 +3,11 @@
 #![tactic(auto)]
 
 pub(crate) mod finding;
-pub mod indexed;
+mod indexed;
 pub(crate) mod links;
 pub(crate) mod objects;
 pub(crate) mod putting;
-pub mod seen;
+mod seen;
 pub mod shifts;
 
 pub use indexed::Indexed;

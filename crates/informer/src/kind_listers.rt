@@ -14,7 +14,7 @@ pub struct Listers {
 
 impl Listers {
     ghost use Rattle.std.specs.Prelude.{◌≡◌, IfOk, IfSome};
-    ghost use Rattle.object_keys.specs.PerKind.{of_kind, with_kind};
+    ghost use Rattle.object_keys.specs.PerKind.{of_kind, with_kind, EachKind};
     ghost use Rattle.informer.specs.Looked.{map_known, KnowsMore, AreKnown};
 
     /// Returns a copy of what is published of a kind. It waits for nobody. None where its informer is closed. The error is running out of
@@ -29,9 +29,20 @@ impl Listers {
 
     /// Returns copies of what is published of all kinds. None where an informer is closed. The error is running out of memory.
     pub fn all_published(&mut self) -> Result<Option<PerKind<Indexed>>, AllocError>
-        ensures { IfOk result (λ found. IfSome found (λ maps. AreKnown self.new.listers maps)) }
+        ensures found { IfOk result (λ found. IfSome found (λ maps. AreKnown self.new.listers maps)) }
+        ensures knows { EachKind (λ k. KnowsMore (of_kind k self.old.listers) (of_kind k self.new.listers)) }
     {
-        let found = self.listers.try_map_mut(|lister| lister.copy())?;
+        let listers = &mut self.listers;
+        let config_maps = listers.config_maps.copy();
+        let pods = listers.pods.copy();
+        let replica_sets = listers.replica_sets.copy();
+        let deployments = listers.deployments.copy();
+        let found = PerKind {
+            config_maps: config_maps?,
+            pods: pods?,
+            replica_sets: replica_sets?,
+            deployments: deployments?,
+        };
         Ok(found.all())
     }
 }

@@ -21,13 +21,16 @@ use std::sync::{Mutex, Wait};
 use std::thread::Threads;
 use std::time::Clock;
 use std::{io, thread};
+use thiserror::Error;
 
 /// Why a server with its controllers ends before its lines do.
-#[derive(Clone, Copy)]
+#[derive(Debug, Clone, Copy, Error)]
 pub enum AllFault {
     /// It could not serve, or out of memory.
+    #[error("{0}")]
     Serve(ListenFault),
     /// A line was not answered.
+    #[error("{0}")]
     Relay(RelayFault),
 }
 

@@ -1,8 +1,8 @@
 //! What `kcp serve`, `kcp control` and `kcp all` run: a server that threads share, the controllers at a server, and both in one.
 #![tactic(auto)]
 
-pub mod all_together;
-pub mod controlling;
+mod all_together;
+mod controlling;
 pub mod ground;
 mod made;
 pub mod own_desk;

@@ -11,7 +11,8 @@ use Rattle.line_service.specs.Replies as service
 use Rattle.line_service.specs.Replies.{none_refused, reply_or_refusal, next_or_same}
 use Rattle.line_service.specs.declared.fault.RunFault.{RunFault}
 use Rattle.line_service.specs.declared.fault.RunFault.TheVariants as fault
-use Rattle.kcp_lines.specs.Replays.{refusal, AnswersAll, AnswersSome, RepliesAreReplays}
+use Rattle.line_session.specs.Refusals.{refusal}
+use Rattle.kcp_lines.specs.Replays.{AnswersAll, AnswersSome, RepliesAreReplays}
 use Rattle.line_session.proofs.Followed.{sessions_follow}
 use Rattle.line_session.specs.Laws.{Follows}
 use Rattle.line_session.specs.SessionStates.{SessionState, begun, reply_by_state, next_state}

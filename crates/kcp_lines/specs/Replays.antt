@@ -1,15 +1,11 @@
 -- What a replay writes for what it reads.
-use Rattle.std.specs.Prelude.{◌≡◌, ℕ, List, Option, Some}
+use Rattle.std.specs.Prelude.{◌≡◌, ℕ, List, Option}
 use Rattle.spec_api.specs.Replies as answers
 use Rattle.spec_line_protocol.specs.Lines as lines
 use Rattle.line_service.specs.Replies as service
 use Rattle.line_service.specs.Replies.{lines_of, replies, none_refused, reply_or_refusal, next_or_same}
 use Rattle.line_service.specs.declared.fault.RunFault.{RunFault}
-use Rattle.line_service.specs.Shown.{no_memory_line}
-
--- any line may be refused since there was no memory for it
-abbrev pub refusal : List ℕ → Option (List ℕ)
-refusal line = Some no_memory_line
+use Rattle.line_session.specs.Refusals.{refusal}
 
 -- a session with windows of this size has answered all lines of the input, from the start on: what was appended is the reply to each, or for
 -- some of them that there was no memory, and these changed nothing

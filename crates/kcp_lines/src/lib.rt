@@ -6,10 +6,10 @@
 #![tactic(auto)]
 
 pub mod lines;
-pub mod relay_fault;
-pub mod relaying;
+mod relay_fault;
+mod relaying;
 pub mod replay_laws;
-pub mod replays;
+mod replays;
 
 pub use relay_fault::RelayFault;
 pub use relaying::relay;

@@ -1,7 +1,6 @@
 //! What a request is to do.
 ghost use Rattle.std.specs.Prelude.{◌≡◌};
-ghost use Rattle.desk.specs.Kinds.{kind_named};
-ghost use Rattle.request_parts.specs.Requests.{request_of};
+ghost use Rattle.request_parts.specs.Requests.{kind_named, request_of};
 ghost use Rattle.kcp_loopback.specs.Errands.{deed_of};
 
 use request_parts::Request;
@@ -48,21 +47,6 @@ pub(crate) struct Errand {
     pub(crate) deed: Deed,
 }
 
-/// Returns the kind of the objects that a request names.
-fn kind_of(request: &Request) -> Kind
-    ensures { result ≡ kind_named (request_of request.now) }
-{
-    match request {
-        Request::List(view) => view.kind,
-        Request::Create(kind, _, _) => *kind,
-        Request::Get(key)
-        | Request::Update(key, _)
-        | Request::UpdateStatus(key, _)
-        | Request::Patch(key, _)
-        | Request::Delete(key, _) => key.kind,
-    }
-}
-
 /// Returns what a request does with them.
 fn deed_of(request: &Request) -> Deed
     ensures { result ≡ deed_of (request_of request.now) }
@@ -85,7 +69,7 @@ impl Errand {
         ensures deed { result.deed ≡ deed_of (request_of request.now) }
     {
         Errand {
-            kind: kind_of(request),
+            kind: request.kind(),
             deed: deed_of(request),
         }
     }

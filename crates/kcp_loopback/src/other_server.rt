@@ -1,4 +1,5 @@
 //! A server of another process, whose end is seen.
+ghost use Rattle.std.specs.Prelude.{◌≡◌};
 ghost use Rattle.kcp_loopback.specs.Others.{api_of};
 
 use crate::connecting::LoopbackConnector;
@@ -114,7 +115,9 @@ impl<R: Net<Stream = TcpStream> + Eprint, A: Api + Drop> OtherServer<'_, R, A> {
     }
 
     /// Notes that what came last was not understood, until something is.
-    fn note_puzzled(&mut self) {
+    fn note_puzzled(&mut self)
+        ensures { api_of self.new ≡ api_of self.old }
+    {
         if !self.is_puzzled {
             self.is_puzzled = true;
             self.connector.teller().note_puzzled();
@@ -122,7 +125,9 @@ impl<R: Net<Stream = TcpStream> + Eprint, A: Api + Drop> OtherServer<'_, R, A> {
     }
 
     /// Notes a reply of success that is no watch.
-    fn note_no_watch(&mut self) {
+    fn note_no_watch(&mut self)
+        ensures { api_of self.new ≡ api_of self.old }
+    {
         self.note_puzzled();
         self.connector.teller().note(Trouble::Unreadable);
     }
@@ -136,11 +141,13 @@ impl<R: Net<Stream = TcpStream> + Eprint, A: Api + Drop> OtherServer<'_, R, A> {
 
     /// Looks at the server where a watch of a kind was asked for and nothing was answered, and notes the code that it was answered with. A reply of
     /// success that is no watch is not understood.
-    fn look_after(&mut self, kind: Kind, opened: Opened) {
+    fn look_after(&mut self, kind: Kind, opened: Opened)
+        ensures { api_of self.new ≡ api_of self.old }
+    {
         match opened {
             Opened::Lost => self.note_lost(),
-            Opened::Refused(code) if code == OK => self.note_no_watch(),
-            Opened::Refused(code) => self.note_opened(kind, code),
+            Opened::Refused { code, .. } if code == OK => self.note_no_watch(),
+            Opened::Refused { code, .. } => self.note_opened(kind, code),
             Opened::Expired => {}
             Opened::Open => self.note_opened(kind, OK),
         }
@@ -148,10 +155,12 @@ impl<R: Net<Stream = TcpStream> + Eprint, A: Api + Drop> OtherServer<'_, R, A> {
 
     /// Looks at the server as after a watch where a stream of a kind was asked for, which stands for a list. Where it is refused, and not for now
     /// alone, a list is asked for next, and that tells.
-    fn look_after_stream(&mut self, kind: Kind, opened: Opened) {
+    fn look_after_stream(&mut self, kind: Kind, opened: Opened)
+        ensures { api_of self.new ≡ api_of self.old }
+    {
         match opened {
             Opened::Open => self.connector.teller().note_listed(kind, OK),
-            Opened::Refused(code) => self.note_opened(kind, code),
+            Opened::Refused { code, .. } => self.note_opened(kind, code),
             _ => self.look_after(kind, opened),
         }
     }
@@ -160,7 +169,7 @@ impl<R: Net<Stream = TcpStream> + Eprint, A: Api + Drop> OtherServer<'_, R, A> {
 impl<R: Net<Stream = TcpStream> + Eprint, A: Api + Drop> Api for OtherServer<'_, R, A> {
     ghost answers = { λ before request answer after. A.answers (api_of before) request answer (api_of after) };
 
-    ghost lists = { λ before kind answer after. A.lists (api_of before) kind answer (api_of after) };
+    ghost exchanges = { λ before exchanged after. A.exchanges (api_of before) exchanged (api_of after) };
 
     fn call(&mut self, alloc: Global, request: &Request) -> Answer {
         let answer = self.api.call(alloc, request);
@@ -204,6 +213,7 @@ impl<R: Net<Stream = TcpStream> + Eprint, A: Api + Drop> Api for OtherServer<'_,
         let was_puzzled = self.is_puzzled;
         self.is_puzzled = false;
         self.connector.teller().note_understood(was_puzzled);
+        self.api.note_understood();
     }
 
     fn note_not_understood(&mut self, bytes: &[u8]) {
@@ -211,5 +221,6 @@ impl<R: Net<Stream = TcpStream> + Eprint, A: Api + Drop> Api for OtherServer<'_,
         self.connector
             .teller()
             .note_not_understood(Trouble::Unreadable, b"", bytes);
+        self.api.note_not_understood(bytes);
     }
 }

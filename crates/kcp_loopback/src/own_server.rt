@@ -1,5 +1,6 @@
 //! The server of the same process, asked without connections.
 ghost use Rattle.std.specs.Prelude.{◌≡◌, IfOk};
+ghost use Rattle.api_client.specs.Asked.{Exchanges};
 ghost use Rattle.kcp_loopback.specs.Asking.{Asks, IsAskedOrNotSent, remote_at, seat_at};
 ghost use Rattle.kcp_loopback.specs.Told.{TellsResult};
 ghost use Rattle.request_parts.specs.Requests.{request_of};
@@ -117,6 +118,9 @@ impl<'a, R: Wait + Clock, C: Connect + Drop> OwnServer<'a, R, C> {
 impl<R: Wait + Clock, C: Connect + Drop> Api for OwnServer<'_, R, C> {
     ghost answers = { λ before request answer after. Asks (seat_at before) request answer (seat_at after) };
 
+    ghost exchanges = { λ before exchanged after. (seat_at after ≡ seat_at before)
+        × Exchanges C.connects C.connects_to_watch C.Reader.remaining C.Writer.contents (remote_at before) exchanged (remote_at after) };
+
     fn call(&mut self, alloc: Global, request: &Request) -> Answer {
         self.ask(alloc, request)
     }
@@ -140,4 +144,8 @@ impl<R: Wait + Clock, C: Connect + Drop> Api for OwnServer<'_, R, C> {
     fn more(&mut self, buf: &mut [u8]) -> More {
         self.remote.more(buf)
     }
+
+    fn note_understood(&mut self) {}
+
+    fn note_not_understood(&mut self, _bytes: &[u8]) {}
 }

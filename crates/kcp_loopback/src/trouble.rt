@@ -5,6 +5,7 @@ ghost use Rattle.kcp_loopback.specs.Troubles.{LacksDescriptor, is_of_connections
 
 use std::io;
 use std::io::ErrorKind;
+use thiserror::Error;
 
 /// The fault of a system call that finds no descriptor left for this process (Linux, errno(3), EMFILE).
 const NONE_FOR_PROCESS: i32 = 24;
@@ -13,17 +14,22 @@ const NONE_FOR_PROCESS: i32 = 24;
 const NONE_ON_MACHINE: i32 = 23;
 
 /// What keeps who asks a server from an answer that says something.
-#[derive(Clone, Copy)]
+#[derive(Debug, Clone, Copy, Error)]
 pub enum Trouble {
     /// No connection can be made.
+    #[error("no connection can be made")]
     Unreachable,
     /// No descriptor is left here for one.
+    #[error("no descriptor is left")]
     NoDescriptor,
     /// No memory is left here for one.
+    #[error("out of memory")]
     NoMemory,
     /// What it sends in the place of a list, or of frames of a watch, is none.
+    #[error("what the server sends is not understood")]
     Unreadable,
     /// What comes is no reply of HTTP.
+    #[error("what comes is no reply of HTTP")]
     NoReply,
 }
 

@@ -1,15 +1,15 @@
 //! What the words after the program's name ask: a command, with its options.
 #![tactic(auto)]
 
-pub mod all_options;
-pub mod command;
-pub mod control_options;
+mod all_options;
+mod command;
+mod control_options;
 pub mod defaults;
 pub mod examples;
-pub mod mistake;
-pub mod serve_options;
-pub mod setting;
-pub mod usage;
+mod mistake;
+mod serve_options;
+mod setting;
+mod usage;
 pub mod words;
 
 pub use all_options::AllOptions;

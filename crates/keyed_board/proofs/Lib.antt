@@ -1,3 +1,4 @@
 pub mod Shutting
 pub mod DueTold
 pub mod WorkBoards
+pub mod LeftAlone

@@ -14,7 +14,9 @@ use Rattle.keyed_queues.proofs.WorkDelays.{same_due}
 use Rattle.keyed_queues.proofs.WorkQueues.{got_is, done_is, added_all_are}
 use Rattle.keyed_board.specs.Boards as boards
 use Rattle.keyed_board.specs.Boards.{KeyBoard, with_keys, taken, finished, ticked}
-use Rattle.keyed_board.specs.WorkLaws.{work_board, AreWorkBoards}
+use Rattle.keyed_board.specs.Patience.{milliseconds_asked}
+use Rattle.keyed_board.specs.WorkLaws.{work_board, AreWorkBoards, longest_asked, requeued_after}
+use Rattle.keyed_board.specs.declared.failure.Failure.{Failure}
 use Rattle.keyed_board.specs.declared.outcome.Outcome.TheVariants.{Failed}
 
 no_longer : (f : ℕ) → delay_after f ≤ 1000000
@@ -23,15 +25,16 @@ no_longer f = by (5 * 2 ^ f)
     by : (d : ℕ) → min d 1000000 ≤ 1000000
     by d = grind arith
 
-no_end : (time d : ℕ) → time ≤ 9007199254740991 → d ≤ 1000000 → min (time + d) 18446744073709551615 ≡ time + d
-no_end time d h i = grind (arith, h, i)
+no_end : (time d least : ℕ) → time ≤ 9007199254740991 → d ≤ 1000000 → least ≤ 65535000 → min (time + max d least) 18446744073709551615 ≡ time + max d least
+no_end time d least h i j = grind (arith, h, i, j)
 
 later : (time n : ℕ) → max time (time + n) ≡ time + n
 later time n = grind arith
 
-fails_alike : (k : WorkKey) (ss : List Observation) (t : Table) (b : KeyBoard work_key_cmp) → b.time ≤ last_moment → work_board (all_lowered ss t) (finished k Failed b) ≡ works.requeued k ss (work_board t b)
-fails_alike k ss t b h =
-    let at = no_end b.time (delay_after (failures k b.failures)) h (no_longer (failures k b.failures)) in
+fails_alike : (k : WorkKey) (failure : Failure) (ss : List Observation) (t : Table) (b : KeyBoard work_key_cmp) → b.time ≤ last_moment → milliseconds_asked failure ≤ longest_asked
+    → work_board (all_lowered ss t) (finished k (Failed failure) b) ≡ requeued_after k ss (milliseconds_asked failure) (work_board t b)
+fails_alike k failure ss t b h asked =
+    let at = no_end b.time (delay_after (failures k b.failures)) (milliseconds_asked failure) h (no_longer (failures k b.failures)) asked in
     λ i. record { work = done_is k b.work i; delays = delayed k (at i) b.delays; failures = failed k b.failures; expected = all_lowered ss t; time = b.time }
 
 ticks_alike : (n : ℕ) (t : Table) (b : KeyBoard work_key_cmp) → may_tick n (work_board t b) ≡ true → work_board t (ticked (b.time + n) b) ≡ works.ticked n (work_board t b)

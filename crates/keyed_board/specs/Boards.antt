@@ -6,6 +6,7 @@ use Rattle.spec_client_go.specs.Delays.{delay_after}
 use Rattle.keyed_queues.specs.Queues.{KeyQueue, idle, added_all, got, done, shut}
 use Rattle.keyed_queues.specs.Delays.{KeyDelays, delayed, due, next_moment, still_delayed}
 use Rattle.keyed_queues.specs.Failures.{KeyFailures, failures, failed}
+use Rattle.keyed_board.specs.Patience.{milliseconds_asked}
 use Rattle.keyed_board.specs.declared.outcome.Outcome.{Outcome}
 use Rattle.keyed_board.specs.declared.outcome.Outcome.TheVariants.{Done, LookAgain, Failed}
 
@@ -50,11 +51,11 @@ abbrev pub counted : {N : Type 0} {R : N → N → Ordering} → N → KeyBoard 
 counted k b = record b { failures = failed k b.failures }
 
 -- the key leaves the worker's hands. Its failures are forgotten, unless this is one more; where it is to be looked at again, it
--- waits so long, and after a failure as long as its failures before tell
+-- waits so long, and after a failure as long as its failures before tell, and as the server asks
 abbrev pub finished : {N : Type 0} {R : N → N → Ordering} → N → Outcome → KeyBoard R → KeyBoard R
 finished k Done b = forgotten k (given_back k b)
 finished k (LookAgain milliseconds) b = postponed k milliseconds (forgotten k (given_back k b))
-finished k Failed b = counted k (postponed k (delay_after (failures k b.failures)) (given_back k b))
+finished k (Failed failure) b = counted k (postponed k (max (delay_after (failures k b.failures)) (milliseconds_asked failure)) (given_back k b))
 
 -- ---- time
 

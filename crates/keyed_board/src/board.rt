@@ -1,4 +1,5 @@
 //! A board of keys of any type, whose calls are its steps.
+use crate::failure::Failure;
 use crate::outcome::Outcome;
 use keyed_queues::{KeyedBackoff, KeyedDelays, KeyedQueue, Named};
 use std::alloc::{AllocError, Global};
@@ -114,8 +115,8 @@ impl<K: Named> KeyedBoard<K> {
     }
 
     /// Takes a key back from its worker. Unless all is done it is added again after a while: as long as the worker says, or after a
-    /// failure 5 milliseconds, twice as long after each that follows, and at most 1,000 seconds. The error is running out of memory, and
-    /// then nothing has changed.
+    /// failure 5 milliseconds, twice as long after each that follows, and at most 1,000 seconds; and no sooner than a server asks that
+    /// refused it (`Failure::milliseconds_asked`). The error is running out of memory, and then nothing has changed.
     pub fn finish(&mut self, key: &K, outcome: Outcome) -> Result<(), AllocError>
         ensures ok { OnOk result (said K.order K.says self.new ≡ finished (K.says key.now) outcome (said K.order K.says self.old)) }
         ensures err { OnErr result (said K.order K.says self.new ≡ said K.order K.says self.old) }
@@ -131,19 +132,20 @@ impl<K: Named> KeyedBoard<K> {
                 self.done(key);
                 Ok(())
             }
-            Outcome::Failed => self.fail(key),
+            Outcome::Failed(failure) => self.fail(key, failure),
         }
     }
 
     /// Takes a key that failed back from its worker.
-    fn fail(&mut self, key: &K) -> Result<(), AllocError>
-        ensures ok { OnOk result (said K.order K.says self.new ≡ finished (K.says key.now) Failed (said K.order K.says self.old)) }
+    fn fail(&mut self, key: &K, failure: Failure) -> Result<(), AllocError>
+        ensures ok { OnOk result (said K.order K.says self.new ≡ finished (K.says key.now) (Failed failure) (said K.order K.says self.old)) }
         ensures err { OnErr result (said K.order K.says self.new ≡ said K.order K.says self.old) }
     {
         let again = key.try_copy()?;
         let before = self.backoff.failures(key);
         let delay = self.backoff.delay(key)?;
-        let moment = self.time.saturating_add(delay);
+        let wait = delay.max(failure.milliseconds_asked());
+        let moment = self.time.saturating_add(wait);
         if let Err(refused) = self.delays.add_after(again, moment) {
             self.backoff.restore(key, before);
             return Err(refused);

@@ -2,9 +2,11 @@
 //! call is one step.
 #![tactic(auto)]
 
-pub mod board;
+mod board;
 pub mod board_laws;
-pub mod outcome;
+mod failure;
+mod outcome;
 
 pub use board::KeyedBoard;
+pub use failure::Failure;
 pub use outcome::Outcome;

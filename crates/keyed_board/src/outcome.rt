@@ -1,4 +1,5 @@
 //! How a worker's turn went.
+use crate::failure::Failure;
 
 /// How a worker's turn with a key went.
 #[derive(Clone, Copy)]
@@ -7,6 +8,6 @@ pub enum Outcome {
     Done,
     /// All is done for now: the key is to be looked at again after so many milliseconds.
     LookAgain { milliseconds: u64 },
-    /// It failed: the key is to be looked at again after its backoff.
-    Failed,
+    /// It failed, for this cause: the key is to be looked at again after its backoff, and no sooner than a server asks that refused it.
+    Failed(Failure),
 }

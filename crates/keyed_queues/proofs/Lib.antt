@@ -1,3 +1,4 @@
+-- Read Steps first: each call, by the keys in the list and in the two sets. DelaySteps is the same of delays; WorkQueues and WorkDelays say it of work keys.
 pub mod Numbers
 pub mod Steps
 pub mod Undone

@@ -4,15 +4,15 @@
 #![tactic(auto)]
 
 mod alarm;
-pub mod backoff;
+mod backoff;
 pub mod delay_laws;
-pub mod delays;
+mod delays;
 pub mod failure_laws;
-pub mod named;
-pub mod queue;
+mod named;
+mod queue;
 pub mod queue_laws;
-pub mod text;
-pub mod work;
+mod text;
+mod work;
 pub mod work_laws;
 
 pub use backoff::KeyedBackoff;

@@ -23,6 +23,7 @@ use spec_api::kinds::Kind;
 use spec_api::policies::Policy;
 use spec_api::refusals::Mismatch;
 use std::alloc::{AllocError, Global};
+use thiserror::Error;
 
 /// What becomes of an object that is deleted.
 #[derive(Drop)]
@@ -36,11 +37,13 @@ pub enum Fate {
 }
 
 /// Why an object is not deleted.
-#[derive(Drop)]
+#[derive(Debug, Drop, Error)]
 pub enum DeleteFault {
     /// A precondition is not met.
+    #[error("a precondition is not met")]
     Mismatch(Mismatch),
     /// Memory was wanted and refused.
+    #[error("out of memory")]
     NoMemory,
 }
 

@@ -5,11 +5,11 @@
 #![tactic(auto)]
 
 pub mod answer;
-pub mod constants;
-pub mod fault;
+mod constants;
+mod fault;
 pub mod lines;
 pub mod run_loop;
-pub mod service;
+mod service;
 
 pub use constants::no_memory_line;
 pub use fault::RunFault;

@@ -1,4 +1,5 @@
 pub mod SessionStates
+pub mod Refusals
 pub mod Effects
 pub mod Laws
 pub mod RecordedStates

@@ -4,12 +4,12 @@
 //! or dropped, before anything else is. `kcp_lines::replay` runs a session, and `sim_cluster` one that is recorded.
 #![tactic(auto)]
 
-pub mod effects;
-pub mod entries;
+mod effects;
+mod entries;
 mod openings;
-pub mod recorded;
+mod recorded;
 pub mod session_laws;
-pub mod sessions;
+mod sessions;
 
 pub use effects::{Effect, Prepared};
 pub use entries::JournalEntry;

@@ -334,15 +334,14 @@ impl Session {
 }
 
 impl LineService for Session {
-    ghost use Rattle.std.specs.Prelude.{Some};
-    ghost use Rattle.line_service.specs.Shown.{no_memory_line};
+    ghost use Rattle.line_session.specs.Refusals.{refusal};
     ghost use Rattle.line_session.specs.SessionStates.{reply_by_state, next_state};
 
     ghost reply = { reply_by_state };
 
     ghost next = { next_state };
 
-    ghost refusal = { λ line. Some no_memory_line };
+    ghost refusal = { refusal };
 
     fn serve(&mut self, alloc: Global, line: &[u8]) -> Result<Vec<u8>, AllocError> {
         if line.is_empty() {
@@ -351,7 +350,14 @@ impl LineService for Session {
         self.serve_text(alloc, line)
     }
 
-    fn refused(&self, _line: &[u8]) -> Option<&'static [u8]> {
-        Some(no_memory_line())
+    fn refused(&self, line: &[u8]) -> Option<&'static [u8]> {
+        if !line.is_empty() {
+            match read_line(line) {
+                Line::At(_) => None,
+                Line::Ask { .. } | Line::Compact(_) | Line::Unreadable => Some(no_memory_line()),
+            }
+        } else {
+            None
+        }
     }
 }

@@ -2,13 +2,15 @@
 use Rattle.std.proofs.Common.{◌≡◌, List, [], ◌∷◌, ◌++◌, Option, Some, None, refl, sym, ap, ◌∙◌, subst, append_assoc, append-nil}
 use Rattle.spec_api.specs.History.{Entries}
 use Rattle.spec_client_go.specs.Informers.{Informer, all_applied}
-use Rattle.spec_client_go.specs.Reflectors.{Delta, Listed, list_of, apply_delta, apply_deltas}
+use Rattle.spec_client_go.specs.Reflectors.{Delta, apply_delta, apply_deltas}
 use Rattle.spec_client_go.specs.Shifts.{Shift, shifts_of, all_shifts}
 use Rattle.informer_laws.proofs.Publishing.{applied_both, applied_members}
-use Rattle.list_and_watch.specs.Followers.{Follower, after_list, changes_in, published_unless, owed_after}
-use Rattle.list_and_watch.specs.Told.{Told, Step, listed, bytes, cut, expired, refused, publish, give, keep, ask, tell, cause_published, after_step, after_steps, owed_in, taken_at, taken_in, told_nothing}
+use Rattle.list_and_watch.specs.Exchanged.{Dealings}
+use Rattle.list_and_watch.specs.Followers.{Follower, changes_in, published_unless, owed_after}
+use Rattle.list_and_watch.specs.Told.{Told, Step, exchange, cut, publish, give, keep, ask, tell, clock, wait, cause_published, after_step, after_steps, owed_in, taken_at, taken_in, told_nothing}
 use Rattle.list_and_watch.specs.GivenLaws.{IsGivenOnce, ChangesAreGivenOnce}
 use Rattle.list_and_watch.specs.declared.causes.Cause.{Cause}
+use Rattle.list_and_watch.proofs.Published.{exchange_publishes}
 
 shifts_both : (ms : Entries) (ds es : List Delta) → all_shifts ms (ds ++ es) ≡ all_shifts ms ds ++ all_shifts (apply_deltas ms ds) es
 shifts_both ms [] es = refl
@@ -20,14 +22,10 @@ owed_are : (ms : Entries) (ds : List Delta) → owed_in (changes_in ms ds) ≡ a
 owed_are ms [] = refl
 owed_are ms (d ∷ ds) = refl
 
-list_publishes_nothing : (o : Option Listed) (f : Follower) → (after_list o f).informer.published ≡ f.informer.published
-list_publishes_nothing None f = refl
-list_publishes_nothing (Some l) f = refl
-
-published_kept : (i : Informer) (f : Follower) (owed : Option (List Shift)) (cause : Cause) (taken : List Shift) (ds : List Delta) → f.informer.published ≡ all_applied i.published ds
+published_kept : (i : Informer) (f : Follower) (owed : Option (List Shift)) (cause : Cause) (d : Dealings) (taken : List Shift) (ds : List Delta) → f.informer.published ≡ all_applied i.published ds
     → taken ++ owed_in owed ≡ all_shifts i.published.members ds
-    → IsGivenOnce i taken (record { follower = published_unless owed f; owed = owed_after owed f.informer; cause = cause })
-published_kept i f None cause taken ds at are =
+    → IsGivenOnce i taken (record { follower = published_unless owed f; owed = owed_after owed f.informer; cause = cause; dealings = d })
+published_kept i f None cause d taken ds at are =
     let members : f.informer.published.members ≡ apply_deltas i.published.members ds = ap (λ m. m.members) at ∙ applied_members i.published ds in
     record {
       deltas = ds ++ f.informer.pending;
@@ -38,24 +36,23 @@ published_kept i f None cause taken ds at are =
           ∙ ap (λ ms. all_shifts i.published.members ds ++ all_shifts ms f.informer.pending) members
           ∙ sym (shifts_both i.published.members ds f.informer.pending);
     }
-published_kept i f (Some changes) cause taken ds at are = record { deltas = ds; published = at; changes = are }
+published_kept i f (Some changes) cause d taken ds at are = record { deltas = ds; published = at; changes = are }
 
 -- at a step at which nothing is taken, and as much is owed
 same : (taken owed all : List Shift) → taken ++ owed ≡ all → (taken ++ []) ++ owed ≡ all
 same taken owed all are = ap (λ ts. ts ++ owed) (append-nil taken) ∙ are
 
 kept : (i : Informer) (s : Step) (taken : List Shift) (t : Told) → IsGivenOnce i taken t → IsGivenOnce i (taken ++ taken_at s t) (after_step s t)
-kept i (listed body) taken t is = record { deltas = is.deltas; published = list_publishes_nothing (list_of t.follower.reflector.kind body) t.follower ∙ is.published; changes = same taken (owed_in t.owed) (all_shifts i.published.members is.deltas) is.changes }
-kept i (bytes piece) taken t is = record { deltas = is.deltas; published = is.published; changes = same taken (owed_in t.owed) (all_shifts i.published.members is.deltas) is.changes }
+kept i (exchange e memory) taken t is = record { deltas = is.deltas; published = exchange_publishes e memory t.follower ∙ is.published; changes = same taken (owed_in t.owed) (all_shifts i.published.members is.deltas) is.changes }
 kept i cut taken t is = record { deltas = is.deltas; published = is.published; changes = same taken (owed_in t.owed) (all_shifts i.published.members is.deltas) is.changes }
-kept i expired taken t is = record { deltas = is.deltas; published = is.published; changes = same taken (owed_in t.owed) (all_shifts i.published.members is.deltas) is.changes }
-kept i refused taken t is = record { deltas = is.deltas; published = is.published; changes = same taken (owed_in t.owed) (all_shifts i.published.members is.deltas) is.changes }
 kept i publish taken t is =
-    published_kept i t.follower t.owed (cause_published t.owed t.follower.informer t.cause) (taken ++ []) is.deltas is.published (same taken (owed_in t.owed) (all_shifts i.published.members is.deltas) is.changes)
+    published_kept i t.follower t.owed (cause_published t.owed t.follower.informer t.cause) t.dealings (taken ++ []) is.deltas is.published (same taken (owed_in t.owed) (all_shifts i.published.members is.deltas) is.changes)
 kept i give taken t is = record { deltas = is.deltas; published = is.published; changes = append-nil (taken ++ owed_in t.owed) ∙ is.changes }
 kept i keep taken t is = record { deltas = is.deltas; published = is.published; changes = same taken (owed_in t.owed) (all_shifts i.published.members is.deltas) is.changes }
 kept i (ask onward) taken t is = record { deltas = is.deltas; published = is.published; changes = same taken (owed_in t.owed) (all_shifts i.published.members is.deltas) is.changes }
 kept i tell taken t is = record { deltas = is.deltas; published = is.published; changes = same taken (owed_in t.owed) (all_shifts i.published.members is.deltas) is.changes }
+kept i (clock n) taken t is = record { deltas = is.deltas; published = is.published; changes = same taken (owed_in t.owed) (all_shifts i.published.members is.deltas) is.changes }
+kept i (wait n onward) taken t is = record { deltas = is.deltas; published = is.published; changes = same taken (owed_in t.owed) (all_shifts i.published.members is.deltas) is.changes }
 
 all_kept : (i : Informer) (ss : List Step) (taken : List Shift) (t : Told) → IsGivenOnce i taken t → IsGivenOnce i (taken ++ taken_in ss t) (after_steps ss t)
 all_kept i [] taken t is = subst (λ ts. IsGivenOnce i ts t) (sym (append-nil taken)) is

@@ -1,5 +1,5 @@
 -- What a follower makes of what a server answers (client-go, tools/cache, Reflector).
-use Rattle.std.specs.Prelude.{◌≡◌, ◌⊎◌, ◌&&◌, ◌||◌, ℕ, List, length, take, nat_eq, nat_lt, nat_le, if◌then◌else◌, Bool, true, false, not, Option, Some, None, option_and_then}
+use Rattle.std.specs.Prelude.{◌≡◌, ◌⊎◌, ◌&&◌, ◌||◌, ℕ, List, nat_eq, nat_lt, if◌then◌else◌, Bool, true, false, not, Option, Some, None, option_and_then}
 use Rattle.spec_api.specs.declared.kinds.Kind.{Kind}
 use Rattle.spec_client_go.specs.Reflectors.{Listed, list_of, fed}
 use Rattle.spec_client_go.specs.declared.reflectors.Ask.{Ask}
@@ -12,8 +12,8 @@ use Rattle.http_client.specs.declared.answer.Answer.{Answer}
 use Rattle.http_client.specs.declared.answer.Answer.TheVariants as answer
 use Rattle.http_client.specs.declared.more.More.{More}
 use Rattle.http_client.specs.declared.more.More.TheVariants as more
-use Rattle.api_client.specs.declared.api.Opened.{Opened}
-use Rattle.api_client.specs.declared.api.Opened.TheVariants as opened
+use Rattle.api_client.specs.declared.opened.Opened.{Opened}
+use Rattle.api_client.specs.declared.opened.Opened.TheVariants as opened
 use Rattle.list_and_watch.specs.Followers.{Follower, after_bytes, after_cut, after_expiry, after_refusal}
 use Rattle.list_and_watch.specs.Recognized.{is_refusal}
 use Rattle.list_and_watch.specs.declared.tries.Piece.{Piece}
@@ -37,12 +37,12 @@ listed_in k a = option_and_then (list_of k) (body_in a)
 abbrev pub RefusesAnswer : Kind → Answer → ListFault → Type 0
 RefusesAnswer k a e = (e ≡ fault.Want) ⊎ ((e ≡ fault.Unreadable) × (listed_in k a ≡ None))
 
--- where what a watch was to begin after is no longer known, or it is refused, a list is asked for; where it is lost, or the server asks for
--- patience by 429, the same watch
+-- a watch begins with nothing of a frame; where what it was to begin after is no longer known, or it is refused, a list is asked for; where it is lost,
+-- or the server asks for patience by 429, the same watch
 abbrev pub after_opened : Opened → Follower → Follower
-after_opened opened.Open f = f
+after_opened opened.Open f = after_cut f
 after_opened opened.Expired f = after_expiry f
-after_opened (opened.Refused code) f = if nat_eq code 429 then f else after_expiry f
+after_opened (opened.Refused code wait) f = if nat_eq code 429 then f else after_expiry f
 after_opened opened.Lost f = f
 
 -- with these a server that does not know streams of initial events refuses them, or what is asked with them
@@ -56,16 +56,10 @@ leads_to_list code = (nat_lt code 500 && not (nat_eq code 429)) || nat_eq code 5
 
 -- where a stream is refused, and not for now alone, a list is asked for until one is taken in; else as a watch
 abbrev pub after_stream_opened : Opened → Follower → Follower
-after_stream_opened opened.Open f = f
+after_stream_opened opened.Open f = after_cut f
 after_stream_opened opened.Expired f = after_expiry f
-after_stream_opened (opened.Refused code) f = if leads_to_list code then after_refusal f else after_opened (opened.Refused code) f
+after_stream_opened (opened.Refused code wait) f = if leads_to_list code then after_refusal f else after_opened (opened.Refused code wait) f
 after_stream_opened opened.Lost f = f
-
--- the bytes that came, at the front of a buffer
-abbrev pub piece_in : More → List ℕ → Option (List ℕ)
-piece_in (more.Bytes n) buffer = if nat_le n (length buffer) then Some (take n buffer) else None
-piece_in more.End buffer = None
-piece_in more.Cut buffer = None
 
 -- a piece that was taken in, by why the watch is over, if it is
 abbrev pub piece_of : Option End → Piece
@@ -115,5 +109,5 @@ leaves_doubt left.Stopped = false
 abbrev pub is_left_open : Opened → Bool
 is_left_open opened.Open = false
 is_left_open opened.Expired = false
-is_left_open (opened.Refused code) = not (is_refusal code)
+is_left_open (opened.Refused code wait) = not (is_refusal code)
 is_left_open opened.Lost = true

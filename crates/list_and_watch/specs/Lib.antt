@@ -4,6 +4,7 @@ pub mod Listed
 pub mod Recognized
 pub mod Placed
 pub mod Answered
+pub mod Exchanged
 pub mod Causes
 pub mod Given
 pub mod Told

@@ -1,7 +1,8 @@
 //! What a follower makes of what a server answers.
 ghost use Rattle.std.specs.Prelude.{◌≡◌, OnOk, OnErr, IfErr, IsSome, option_map};
 ghost use Rattle.list_and_watch.specs.Followers.{after_list};
-ghost use Rattle.list_and_watch.specs.Answered.{body_in, is_left_open, listed_in, RefusesAnswer, after_opened, is_refusal_of_streams, leads_to_list, after_stream_opened, piece_in, IsPieceTaken};
+ghost use Rattle.api_client.specs.Exchanges.{piece_in};
+ghost use Rattle.list_and_watch.specs.Answered.{body_in, is_left_open, listed_in, RefusesAnswer, after_opened, is_refusal_of_streams, leads_to_list, after_stream_opened, IsPieceTaken};
 
 use crate::follower::Follower;
 use crate::recognizing::is_refusal;
@@ -57,7 +58,7 @@ pub(crate) fn is_left_open(opened: Opened) -> bool
 {
     match opened {
         Opened::Open | Opened::Expired => false,
-        Opened::Refused(code) => !is_refusal(code),
+        Opened::Refused { code, .. } => !is_refusal(code),
         Opened::Lost => true,
     }
 }
@@ -82,15 +83,16 @@ impl<I: Publishing> Follower<I> {
         }
     }
 
-    /// Takes in what became of the request for a watch. Where what it was to begin after is no longer known, or it is refused, a list is asked
-    /// for next; where it is lost, or the server asks for patience, the same watch.
+    /// Takes in what became of the request for a watch. It begins with nothing of a frame. Where what it was to begin after is no longer known, or it is
+    /// refused, a list is asked for next; where it is lost, or the server asks for patience, the same watch.
     pub(crate) fn on_opened(&mut self, opened: Opened)
         ensures { self.new ≡ after_opened opened self.old }
     {
         match opened {
-            Opened::Open | Opened::Lost => {}
+            Opened::Open => self.on_cut(),
+            Opened::Lost => {}
             Opened::Expired => self.on_expired(),
-            Opened::Refused(code) => {
+            Opened::Refused { code, .. } => {
                 if code != TOO_MANY_REQUESTS {
                     self.on_expired();
                 }
@@ -104,7 +106,7 @@ impl<I: Publishing> Follower<I> {
         ensures { self.new ≡ after_stream_opened opened self.old }
     {
         match opened {
-            Opened::Refused(code) if leads_to_list(code) => self.on_refused(),
+            Opened::Refused { code, .. } if leads_to_list(code) => self.on_refused(),
             _ => self.on_opened(opened),
         }
     }

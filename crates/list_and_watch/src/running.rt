@@ -1,8 +1,10 @@
 //! The loop of a follower.
-ghost use Rattle.std.specs.Prelude.{◌⊎◌};
+ghost use Rattle.std.specs.Prelude.{◌≡◌, ◌≢◌, ◌⊎◌};
+ghost use Rattle.spec_client_go.specs.Reflectors.{asks};
+ghost use Rattle.list_and_watch.specs.Exchanged.{at_opened, idle, left_for};
 ghost use Rattle.list_and_watch.specs.Given.{StaysSo};
-ghost use Rattle.list_and_watch.specs.Gone.{AsksOnce, Follows, GoesOn, SaysStop, WaitsNoMore, WhereStop, WhereStopped};
-ghost use Rattle.list_and_watch.specs.Told.{Told, told};
+ghost use Rattle.list_and_watch.specs.Gone.{AsksOnce, Does, Follows, GoesOn, Rests, SaysStop, WaitsNoMore, WhereGoOn, WhereStop, WhereStopped};
+ghost use Rattle.list_and_watch.specs.Told.{told};
 
 use crate::answered::is_left_open;
 use crate::doubts::look;
@@ -14,7 +16,7 @@ use crate::pauses::Pauses;
 use crate::recognizing::Recognized;
 use crate::sinks::Sink;
 use crate::timers::Timer;
-use crate::tries::Tried;
+use crate::tries::{Outcome, Tried};
 use crate::watching::watch;
 use api_client::{Api, Opened};
 use plain_informer::Publishing;
@@ -28,48 +30,38 @@ struct Known {
     owed: Owed,
     /// Whether it may be another server that is asked next.
     is_in_doubt: bool,
+    /// For how many milliseconds the server asked to be left alone.
+    milliseconds: u32,
 }
 
-/// Reads the watch that was asked for to its end, if it is open. Returns what came of it, and whether it may be another server that is asked next.
+/// Reads the watch that was asked for to its end, if it is open. Returns what came of it; where it is not open, that is given.
 fn read_on<I: Publishing, A: Api, T: Timer, S: Sink>(
     alloc: Global,
     opened: Opened,
+    unopened: Tried,
     follower: &mut Follower<I>,
     owed: &mut Owed,
     api: &mut A,
     timer: &mut T,
     sink: &mut S,
-) -> (Tried, bool)
-    ensures goes { GoesOn S.takes S.refuses S.answers S.hears (told follower.old owed.old) sink.old (told follower.new owed.new) sink.new }
+) -> Outcome
+    requires { unopened ≢ Tried.Stopped }
+    ensures goes { (kind : Kind) → GoesOn (Does S.takes S.refuses S.answers S.hears A.exchanges T.shows T.waits kind) (told follower.old owed.old (at_opened opened))
+        (sink.old, api.old, timer.old) (told follower.new owed.new (left_for result.milliseconds)) (sink.new, api.new, timer.new) }
     ensures stays { StaysSo S.stays sink.old sink.new }
-    ensures stops { WhereStopped result.0 (SaysStop S.answers sink.new) }
+    ensures stops { WhereStopped result.tried (SaysStop S.answers sink.new) }
 {
-    if opened == Opened::Open {
-        watch(alloc, follower, owed, api, timer, sink)
-    } else {
-        (Tried::Failed, is_left_open(opened))
+    match opened {
+        Opened::Open => watch(alloc, follower, owed, api, timer, sink),
+        _ => Outcome {
+            tried: unopened,
+            is_in_doubt: is_left_open(opened),
+            milliseconds: opened.milliseconds_asked(),
+        },
     }
 }
 
-/// Asks for a list. Returns what came of it, and whether it may be another server that is asked next.
-fn ask_list<I: Publishing, A: Api, S: Sink>(
-    alloc: Global,
-    kind: Kind,
-    follower: &mut Follower<I>,
-    owed: &mut Owed,
-    api: &mut A,
-    sink: &mut S,
-) -> (Tried, bool)
-    ensures goes { GoesOn S.takes S.refuses S.answers S.hears (told follower.old owed.old) sink.old (told follower.new owed.new) sink.new }
-    ensures stays { StaysSo S.stays sink.old sink.new }
-    ensures stops { WhereStopped result.0 (SaysStop S.answers sink.new) }
-{
-    let tried = list(alloc, kind, follower, owed, api, sink);
-    (tried, follower.next() == Ask::List)
-}
-
-/// Asks for a stream of initial events. A list follows without a pause where it is refused, and not for now alone. Returns what came of it, and
-/// whether it may be another server that is asked next.
+/// Asks for a stream of initial events. A list follows without a pause where it is refused, and not for now alone. Returns what came of it.
 fn ask_stream<I: Publishing, A: Api, T: Timer, S: Sink>(
     alloc: Global,
     kind: Kind,
@@ -78,20 +70,30 @@ fn ask_stream<I: Publishing, A: Api, T: Timer, S: Sink>(
     api: &mut A,
     timer: &mut T,
     sink: &mut S,
-) -> (Tried, bool)
-    ensures goes { GoesOn S.takes S.refuses S.answers S.hears (told follower.old owed.old) sink.old (told follower.new owed.new) sink.new }
+) -> Outcome
+    requires { asks follower.old.reflector ≡ Ask.Stream }
+    ensures goes { GoesOn (Does S.takes S.refuses S.answers S.hears A.exchanges T.shows T.waits kind) (told follower.old owed.old idle) (sink.old, api.old, timer.old)
+        (told follower.new owed.new (left_for result.milliseconds)) (sink.new, api.new, timer.new) }
     ensures stays { StaysSo S.stays sink.old sink.new }
-    ensures stops { WhereStopped result.0 (SaysStop S.answers sink.new) }
+    ensures stops { WhereStopped result.tried (SaysStop S.answers sink.new) }
 {
     let opened = api.open_stream(alloc, kind);
     follower.on_stream_opened(opened);
-    if follower.next() == Ask::List {
-        return (Tried::Done, is_left_open(opened));
-    }
-    read_on(alloc, opened, follower, owed, api, timer, sink)
+    let unopened = unopened(follower.next());
+    read_on(alloc, opened, unopened, follower, owed, api, timer, sink)
 }
 
-/// Asks for a watch after a revision. Returns what came of it, and whether it may be another server that is asked next.
+/// Returns what came of a stream that is not open, by what is to be asked next: where that is a list, it follows at once.
+fn unopened(next: Ask) -> Tried
+    ensures { result ≢ Tried.Stopped }
+{
+    match next {
+        Ask::List => Tried::Done,
+        Ask::Stream | Ask::Watch(_) => Tried::Failed,
+    }
+}
+
+/// Asks for a watch after a revision. Returns what came of it.
 fn ask_watch<I: Publishing, A: Api, T: Timer, S: Sink>(
     alloc: Global,
     kind: Kind,
@@ -101,18 +103,28 @@ fn ask_watch<I: Publishing, A: Api, T: Timer, S: Sink>(
     api: &mut A,
     timer: &mut T,
     sink: &mut S,
-) -> (Tried, bool)
-    ensures goes { GoesOn S.takes S.refuses S.answers S.hears (told follower.old owed.old) sink.old (told follower.new owed.new) sink.new }
+) -> Outcome
+    requires { asks follower.old.reflector ≡ Ask.Watch revision }
+    ensures goes { GoesOn (Does S.takes S.refuses S.answers S.hears A.exchanges T.shows T.waits kind) (told follower.old owed.old idle) (sink.old, api.old, timer.old)
+        (told follower.new owed.new (left_for result.milliseconds)) (sink.new, api.new, timer.new) }
     ensures stays { StaysSo S.stays sink.old sink.new }
-    ensures stops { WhereStopped result.0 (SaysStop S.answers sink.new) }
+    ensures stops { WhereStopped result.tried (SaysStop S.answers sink.new) }
 {
     let opened = api.open_watch(alloc, kind, revision);
     follower.on_opened(opened);
-    read_on(alloc, opened, follower, owed, api, timer, sink)
+    read_on(
+        alloc,
+        opened,
+        Tried::Failed,
+        follower,
+        owed,
+        api,
+        timer,
+        sink,
+    )
 }
 
-/// Asks for what the follower is to ask next, and takes in what comes. Returns what came of it, and whether it may be another server that is asked
-/// next.
+/// Asks for what the follower is to ask next, and takes in what comes. Returns what came of it.
 fn ask_next<I: Publishing, A: Api, T: Timer, S: Sink>(
     alloc: Global,
     kind: Kind,
@@ -121,13 +133,14 @@ fn ask_next<I: Publishing, A: Api, T: Timer, S: Sink>(
     api: &mut A,
     timer: &mut T,
     sink: &mut S,
-) -> (Tried, bool)
-    ensures goes { GoesOn S.takes S.refuses S.answers S.hears (told follower.old owed.old) sink.old (told follower.new owed.new) sink.new }
+) -> Outcome
+    ensures goes { GoesOn (Does S.takes S.refuses S.answers S.hears A.exchanges T.shows T.waits kind) (told follower.old owed.old idle) (sink.old, api.old, timer.old)
+        (told follower.new owed.new (left_for result.milliseconds)) (sink.new, api.new, timer.new) }
     ensures stays { StaysSo S.stays sink.old sink.new }
-    ensures stops { WhereStopped result.0 (SaysStop S.answers sink.new) }
+    ensures stops { WhereStopped result.tried (SaysStop S.answers sink.new) }
 {
     match follower.next() {
-        Ask::List => ask_list(alloc, kind, follower, owed, api, sink),
+        Ask::List => list(alloc, kind, follower, owed, api, sink),
         Ask::Stream => ask_stream(alloc, kind, follower, owed, api, timer, sink),
         Ask::Watch(revision) => ask_watch(alloc, kind, revision, follower, owed, api, timer, sink),
     }
@@ -143,13 +156,15 @@ fn ask<I: Publishing, A: Api, T: Timer, S: Sink>(
     timer: &mut T,
     sink: &mut S,
 ) -> Tried
-    ensures goes { GoesOn S.takes S.refuses S.answers S.hears (told follower.old known.old.owed) sink.old (told follower.new known.new.owed) sink.new }
+    ensures goes { GoesOn (Does S.takes S.refuses S.answers S.hears A.exchanges T.shows T.waits kind) (told follower.old known.old.owed idle) (sink.old, api.old, timer.old)
+        (told follower.new known.new.owed (left_for known.new.milliseconds)) (sink.new, api.new, timer.new) }
     ensures stays { StaysSo S.stays sink.old sink.new }
     ensures stops { WhereStopped result (SaysStop S.answers sink.new) }
 {
-    let (tried, is_in_doubt) = ask_next(alloc, kind, follower, &mut known.owed, api, timer, sink);
-    known.is_in_doubt = is_in_doubt;
-    tried
+    let outcome = ask_next(alloc, kind, follower, &mut known.owed, api, timer, sink);
+    known.is_in_doubt = outcome.is_in_doubt;
+    known.milliseconds = outcome.milliseconds;
+    outcome.tried
 }
 
 /// Looks whether the server is still the same, where it may be another one; and then asks what is to be asked next.
@@ -162,22 +177,21 @@ fn look_and_ask<I: Publishing, A: Api, T: Timer, S: Sink>(
     timer: &mut T,
     sink: &mut S,
 ) -> Tried
-    ensures goes { GoesOn S.takes S.refuses S.answers S.hears (told follower.old known.old.owed) sink.old (told follower.new known.new.owed) sink.new }
+    ensures goes { GoesOn (Does S.takes S.refuses S.answers S.hears A.exchanges T.shows T.waits kind) (told follower.old known.old.owed idle) (sink.old, api.old, timer.old)
+        (told follower.new known.new.owed (left_for known.new.milliseconds)) (sink.new, api.new, timer.new) }
     ensures stays { StaysSo S.stays sink.old sink.new }
     ensures stops { WhereStopped result (SaysStop S.answers sink.new) }
 {
     if !known.is_in_doubt {
         return ask(alloc, kind, follower, known, api, timer, sink);
     }
-    match look(alloc, kind, follower, api, sink) {
-        Recognized::Same | Recognized::Unknown => {
-            ask(alloc, kind, follower, known, api, timer, sink)
-        }
-        Recognized::Unanswered => Tried::Failed,
-        Recognized::Other => {
-            known.is_in_doubt = false;
-            Tried::Failed
-        }
+    let look = look(alloc, kind, follower, api, sink);
+    known.is_in_doubt = look.recognized == Recognized::Unanswered;
+    known.milliseconds = look.milliseconds;
+    if look.leads_on() {
+        ask(alloc, kind, follower, known, api, timer, sink)
+    } else {
+        Tried::Failed
     }
 }
 
@@ -192,7 +206,9 @@ fn try_once<I: Publishing, A: Api, T: Timer, S: Sink>(
     timer: &mut T,
     sink: &mut S,
 ) -> Tried
-    ensures asks { AsksOnce S.takes S.refuses S.answers S.hears (told follower.old known.old.owed) sink.old (told follower.new known.new.owed) sink.new }
+    requires { known.old.milliseconds ≡ 0 }
+    ensures asks { AsksOnce (Does S.takes S.refuses S.answers S.hears A.exchanges T.shows T.waits kind) (told follower.old known.old.owed idle) (sink.old, api.old, timer.old)
+        (told follower.new known.new.owed (left_for known.new.milliseconds)) (sink.new, api.new, timer.new) }
     ensures stays { StaysSo S.stays sink.old sink.new }
     ensures stops { WhereStopped result (SaysStop S.answers sink.new) }
 {
@@ -203,20 +219,18 @@ fn try_once<I: Publishing, A: Api, T: Timer, S: Sink>(
     }
 }
 
-/// Waits after a try that failed, unless the sink says that the follower stops, and returns whether it goes on.
-fn pause<T: Timer, S: Sink>(pauses: &mut Pauses, timer: &mut T, sink: &mut S) -> Onward
-    ensures goes { (t : Told) → GoesOn S.takes S.refuses S.answers S.hears t sink.old t sink.new }
-    ensures stays { StaysSo S.stays sink.old sink.new }
-    ensures stops { WhereStop result (SaysStop S.answers sink.new ⊎ WaitsNoMore T.waits timer.new) }
+/// Waits after a try that failed, and as long as the server asks to be left alone at least, which is over then. Returns whether the follower goes on.
+fn rest<T: Timer>(pauses: &mut Pauses, milliseconds: &mut u32, timer: &mut T) -> Onward
+    ensures rests { Rests T.shows T.waits milliseconds.old timer.old result timer.new }
+    ensures over { milliseconds.new ≡ 0 }
 {
     let pause = pauses.on_failed(timer.now());
-    match sink.goes_on() {
-        Onward::GoOn => timer.pause(pause),
-        Onward::Stop => Onward::Stop,
-    }
+    let asked = u64::from(*milliseconds);
+    *milliseconds = 0;
+    timer.pause(pause.max(asked))
 }
 
-/// Asks once, and waits where that failed. Returns whether the follower goes on.
+/// Asks once, and waits where that failed, or where the server asks to be left alone. Returns whether the follower goes on.
 fn go_once<I: Publishing, A: Api, T: Timer, S: Sink>(
     alloc: Global,
     kind: Kind,
@@ -227,22 +241,28 @@ fn go_once<I: Publishing, A: Api, T: Timer, S: Sink>(
     timer: &mut T,
     sink: &mut S,
 ) -> Onward
-    ensures asks { AsksOnce S.takes S.refuses S.answers S.hears (told follower.old known.old.owed) sink.old (told follower.new known.new.owed) sink.new }
+    requires { known.old.milliseconds ≡ 0 }
+    ensures asks { AsksOnce (Does S.takes S.refuses S.answers S.hears A.exchanges T.shows T.waits kind) (told follower.old known.old.owed idle) (sink.old, api.old, timer.old)
+        (told follower.new known.new.owed (left_for known.new.milliseconds)) (sink.new, api.new, timer.new) }
+    ensures free { WhereGoOn result (known.new.milliseconds ≡ 0) }
     ensures stays { StaysSo S.stays sink.old sink.new }
     ensures stops { WhereStop result (SaysStop S.answers sink.new ⊎ WaitsNoMore T.waits timer.new) }
 {
     match try_once(alloc, kind, follower, known, api, timer, sink) {
-        Tried::Done => Onward::GoOn,
-        Tried::Failed => pause(pauses, timer, sink),
+        Tried::Done if known.milliseconds == 0 => Onward::GoOn,
         Tried::Stopped => Onward::Stop,
+        _ => match sink.goes_on() {
+            Onward::GoOn => rest(pauses, &mut known.milliseconds, timer),
+            Onward::Stop => Onward::Stop,
+        },
     }
 }
 
 /// Keeps the copy of a follower of a kind up to date with a server until the sink or the timer stops it: asks what the follower is to ask
-/// next, publishes after each list and each piece of a watch, and gives the sink what that changes. After a try that failed it pauses. After one
-/// that did not end as servers end them, it looks first whether the server is still the same, and tells the sink where it is another one. A sink
-/// that does not take changes is given them again; those that it has not taken when the follower stops are not given again. What stays so of a sink
-/// is so of it when the follower has stopped.
+/// next, publishes after each list and each piece of a watch, and gives the sink what that changes. After a try that failed it pauses, and a server that
+/// asks to be left alone is asked nothing for as long. After one that did not end as servers end them, it looks first whether the server is still the
+/// same, and tells the sink where it is another one. A sink that does not take changes is given them again; those that it has not taken when the follower
+/// stops are not given again. What stays so of a sink is so of it when the follower has stopped.
 pub fn follow<I: Publishing, A: Api, T: Timer, S: Sink>(
     alloc: Global,
     kind: Kind,
@@ -251,13 +271,15 @@ pub fn follow<I: Publishing, A: Api, T: Timer, S: Sink>(
     timer: &mut T,
     sink: &mut S,
 )
-    ensures follows { Follows S.takes S.refuses S.answers S.hears (SaysStop S.answers sink.new ⊎ WaitsNoMore T.waits timer.new)
-        follower.old sink.old follower.new sink.new }
+    ensures follows { Follows (Does S.takes S.refuses S.answers S.hears A.exchanges T.shows T.waits kind)
+        (SaysStop S.answers sink.new ⊎ WaitsNoMore T.waits timer.new)
+        follower.old (sink.old, api.old, timer.old) follower.new (sink.new, api.new, timer.new) }
     ensures stays { StaysSo S.stays sink.old sink.new }
 {
     let mut known = Known {
         owed: Owed::new(),
         is_in_doubt: false,
+        milliseconds: 0,
     };
     let mut pauses = Pauses {
         failures: 0,

@@ -18,6 +18,16 @@ pub enum Tried {
     Stopped,
 }
 
+/// What came of what was asked.
+#[derive(Clone, Copy)]
+pub(crate) struct Outcome {
+    pub(crate) tried: Tried,
+    /// Whether it may be another server that is asked next.
+    pub(crate) is_in_doubt: bool,
+    /// For how many milliseconds the server asks to be left alone.
+    pub(crate) milliseconds: u32,
+}
+
 /// What came of a piece of a watch.
 #[derive(Clone, Copy)]
 pub enum Piece {

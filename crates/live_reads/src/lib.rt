@@ -1,6 +1,6 @@
 //! Live reads: what an answer to the request for an object says of it.
 #![tactic(auto)]
 
-pub mod found;
+mod found;
 
 pub use found::{FoundObject, can_be, found_in};

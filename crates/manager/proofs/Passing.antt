@@ -2,10 +2,10 @@
 use Rattle.std.proofs.Common.{◌≡◌, ◌≤◌, ◌+◌, ◌++◌, ℕ, List, [], ◌∷◌, Bool, true, false, None, Some, if◌then◌else◌, ap, arith}
 use Rattle.baton.specs.Marks.{entries, marked}
 use Rattle.baton.specs.declared.views.Known.{Known}
-use Rattle.spec_client_go.specs.Boards.{Board}
 use Rattle.control_desk.specs.Calls.{IsCall}
-use Rattle.control_desk.specs.Hands.{board}
-use Rattle.control_desk.specs.Steps.{Step, after, changing, is_same}
+use Rattle.control_desk.specs.Hands.{state}
+use Rattle.control_desk.specs.Steps.{Step, next_state, changing, is_same}
+use Rattle.control_desk.specs.declared.states.WorkState.{WorkState}
 use Rattle.manager.specs.Handled.{HasWaited}
 use Rattle.manager.specs.Passed.{milliseconds_of, passed_in}
 
@@ -18,12 +18,12 @@ passed_if true e name = omega arith
 passed_if false e name = omega arith
 
 -- a step lets its milliseconds pass, and no more
-pub passed_by : {Says : Board → Type 0} → (e : Step) (v w : Known Board Step) → IsCall v (changing e) Says w → passed_in w.made ≤ passed_in v.made + milliseconds_of e
+pub passed_by : {Says : WorkState → Type 0} → (e : Step) (v w : Known WorkState Step) → IsCall v (changing e) Says w → passed_in w.made ≤ passed_in v.made + milliseconds_of e
 passed_by e v w c =
     let made = ap (λ k. passed_in k.made) c.knows in
-    let parts = passed_append v.made (entries (marked v.name (changing e (board c.history)))) in
-    let one = passed_if (is_same (after (board c.history) e) (board c.history)) e v.name in
+    let parts = passed_append v.made (entries (marked v.name (changing e (state c.history)))) in
+    let one = passed_if (is_same (next_state (state c.history) e) (state c.history)) e v.name in
     omega arith
 
-pub passed_by_none : (v w : Known Board Step) → HasWaited v w → passed_in w.made ≡ passed_in v.made
+pub passed_by_none : (v w : Known WorkState Step) → HasWaited v w → passed_in w.made ≡ passed_in v.made
 passed_by_none v w h = ap passed_in h.1

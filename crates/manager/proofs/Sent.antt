@@ -16,8 +16,8 @@ use Rattle.crossbeam_queue.below.atomic_table.proofs.shared.Seat.TheSendSync as 
 use Rattle.crossbeam_queue.below.atomic_table.specs.contracts.shared.Seat as Pass
 use Rattle.crossbeam_queue.specs.contracts.array_queue.Doing as Doing
 use Rattle.baton.specs.contracts.views.PassView as View
-use Rattle.work_board.proofs.board.Board.TheSendSync as board
-use Rattle.work_board.specs.contracts.board.Board as Board
+use Rattle.control_desk.proofs.states.WorkState.TheSendSync as state
+use Rattle.control_desk.specs.contracts.states.WorkState as WorkState
 use Rattle.spec_api.proofs.kinds.Kind.TheSendSync as kind
 use Rattle.spec_api.specs.contracts.kinds.Kind as Kind
 use Rattle.list_and_watch.specs.contracts.follower.Follower as Follower
@@ -47,12 +47,12 @@ use Rattle.manager.specs.contracts.ticking.Ticker as Ticker
 listers : IsSend Listers.the_row
 listers = declared_send Listers.the_type (per_kind_of.the_send Lister.the_row lister, tt)
 
-taken : IsSend (Option.the_row Board.the_row)
-taken = search (option.the_send, board.the_send, sendable) depth 20
+taken : IsSend (Option.the_row WorkState.the_row)
+taken = search (option.the_send, state.the_send, sendable) depth 20
 
-pass : IsSend (as_row (Pass.the_field (Option.the_row Board.the_row) (Doing.the_row Board.the_row (View.the_row Board.the_row Entry.the_row))))
-pass = as_row_send (Pass.the_field (Option.the_row Board.the_row) (Doing.the_row Board.the_row (View.the_row Board.the_row Entry.the_row)))
-    (pass_of.the_send (Option.the_row Board.the_row) (Doing.the_row Board.the_row (View.the_row Board.the_row Entry.the_row)) taken)
+pass : IsSend (as_row (Pass.the_field (Option.the_row WorkState.the_row) (Doing.the_row WorkState.the_row (View.the_row WorkState.the_row Entry.the_row))))
+pass = as_row_send (Pass.the_field (Option.the_row WorkState.the_row) (Doing.the_row WorkState.the_row (View.the_row WorkState.the_row Entry.the_row)))
+    (pass_of.the_send (Option.the_row WorkState.the_row) (Doing.the_row WorkState.the_row (View.the_row WorkState.the_row Entry.the_row)) taken)
 
 maps : IsSend (Option.the_row (PerKind.the_row Indexed.the_row))
 maps = option.the_send (PerKind.the_row Indexed.the_row) (per_kind_of.the_send Indexed.the_row indexed_send)
@@ -80,7 +80,7 @@ module _ (a : NamedLft) (R : RattleType) (r : IsSync R) where
   lent_signals = search (signals.the_sync, heap.crosses, sendable) depth 20
 
   handler : IsSend (Handler.the_row a R)
-  handler = declared_send (Handler.the_type a R) (runtime, (alloc, (lent_desk, (pass, (lent_signals, (listers, (maps, (size, (size, (revision, tt))))))))))
+  handler = declared_send (Handler.the_type a R) (runtime, (alloc, (kind_sent, (lent_desk, (pass, (lent_signals, (listers, (maps, (size, (size, (revision, tt)))))))))))
 
   module _ (A : RattleType) (s : IsSend A) (w : Wait.Ghosts R.Denot) where
     api : IsSend (as_row (Field.row_field A))

@@ -5,4 +5,5 @@ pub mod Handled
 pub mod Told
 pub mod Passed
 pub mod Woken
+pub mod Resting
 pub mod Followed

@@ -2,12 +2,14 @@
 ghost use Rattle.control_desk.specs.Desks.{IsPassAt};
 
 use crate::handling::Handling;
+use crate::origins::Origin;
 use control_desk::{ControlDesk, WorkPass};
 use indexer::{Indexed, Shift};
 use informer::Listers;
 use list_and_watch::{Cause, Onward, Sink, shows_other_server};
 use manager_worker::Signals;
 use object_keys::PerKind;
+use spec_api::kinds::Kind;
 use std::alloc::{AllocError, Global};
 use std::sync::Wait;
 use std::time::Clock;
@@ -18,6 +20,8 @@ use std::time::Clock;
 pub struct Handler<'a, R> {
     rt: &'a R,
     alloc: Global,
+    /// The kind of which changes are handled.
+    kind: Kind,
     desk: &'a ControlDesk,
     pass: WorkPass,
     signals: &'a Signals,
@@ -44,17 +48,19 @@ impl<'a, R: Wait + Clock> Handler<'a, R> {
     pub fn new(
         rt: &'a R,
         alloc: Global,
+        kind: Kind,
         desk: &'a ControlDesk,
         pass: WorkPass,
         signals: &'a Signals,
         listers: Listers,
     ) -> Handler<'a, R>
         requires { IsPassAt desk.now pass }
-        ensures { (result.looks ≡ None) × (result.handled ≡ 0) × (result.added ≡ 0) × (result.revision ≡ 0) }
+        ensures { (result.kind ≡ kind) × (result.looks ≡ None) × (result.handled ≡ 0) × (result.added ≡ 0) × (result.revision ≡ 0) }
     {
         Handler {
             rt,
             alloc,
+            kind,
             desk,
             pass,
             signals,
@@ -72,6 +78,7 @@ impl<'a, R: Wait + Clock> Handler<'a, R> {
         ensures none { self.new.looks ≡ None → self.old.looks ≡ None }
         ensures err { OnErr result (self.new.looks ≡ self.old.looks) }
         ensures revision { self.new.revision ≡ self.old.revision }
+        ensures kind { self.new.kind ≡ self.old.kind }
         ensures pass { known self.new.pass ≡ known self.old.pass }
         ensures handled { self.new.handled ≡ self.old.handled }
         ensures added { self.new.added ≡ self.old.added }
@@ -91,14 +98,15 @@ impl<'a, R: Wait + Clock> Handler<'a, R> {
 
     /// Handles the changes of a publish but those that were handled, and then adds the keys that are looked at again but those that were added. The error
     /// is running out of memory, or that an informer is closed: some more are handled then, and the others are left.
-    fn handle_from(&mut self, shifts: &[Shift], cause: Cause) -> Result<(), AllocError>
-        ensures ok { OnOk result (HandlesAll cause self.old.looks self.new.listers.listers
+    fn handle_from(&mut self, shifts: &[Shift], origin: Origin) -> Result<(), AllocError>
+        ensures ok { OnOk result (HandlesAll origin self.old.looks self.new.listers.listers
             (drop self.old.handled (map shift_of shifts.now)) self.old.added (known self.old.pass) (known self.new.pass)) }
-        ensures err { OnErr result (Stops cause
-            (record { handled = self.old.handled; added = self.old.added; revision = self.old.revision; looks = self.old.looks })
+        ensures err { OnErr result (Stops origin
+            (record { kind = self.old.kind; handled = self.old.handled; added = self.old.added; revision = self.old.revision; looks = self.old.looks })
             (map shift_of shifts.now) self.new.listers.listers (known self.old.pass) (known self.new.pass)
-            (record { handled = self.new.handled; added = self.new.added; revision = self.new.revision; looks = self.new.looks })) }
+            (record { kind = self.new.kind; handled = self.new.handled; added = self.new.added; revision = self.new.revision; looks = self.new.looks })) }
         ensures revision { self.new.revision ≡ self.old.revision }
+        ensures kind { self.new.kind ≡ self.old.kind }
     {
         self.look()?;
         let Some(looks) = &self.looks else {
@@ -109,7 +117,7 @@ impl<'a, R: Wait + Clock> Handler<'a, R> {
             alloc: self.alloc,
             desk: self.desk,
             looks,
-            cause,
+            origin,
         };
         handling.handle_all(&mut self.pass, &mut self.handled, &mut self.added, shifts)
     }
@@ -121,14 +129,14 @@ impl<R: Wait + Clock> Sink for Handler<'_, R> {
     ghost use Rattle.std.specs.Prelude.{◌≡◌};
 
     ghost takes = { λ before shifts objects cause after.
-        Takes cause (record { handled = before.handled; added = before.added; revision = before.revision; looks = before.looks }) objects shifts after.listers.listers
+        Takes cause (record { kind = before.kind; handled = before.handled; added = before.added; revision = before.revision; looks = before.looks }) objects shifts after.listers.listers
         (known before.pass) (known after.pass)
-        (record { handled = after.handled; added = after.added; revision = after.revision; looks = after.looks }) };
+        (record { kind = after.kind; handled = after.handled; added = after.added; revision = after.revision; looks = after.looks }) };
 
     ghost refuses = { λ before shifts objects cause after.
-        Refuses cause (record { handled = before.handled; added = before.added; revision = before.revision; looks = before.looks }) objects shifts after.listers.listers
+        Refuses cause (record { kind = before.kind; handled = before.handled; added = before.added; revision = before.revision; looks = before.looks }) objects shifts after.listers.listers
         (known before.pass) (known after.pass)
-        (record { handled = after.handled; added = after.added; revision = after.revision; looks = after.looks }) };
+        (record { kind = after.kind; handled = after.handled; added = after.added; revision = after.revision; looks = after.looks }) };
 
     ghost answers = { λ before onward after. after ≡ before };
 
@@ -146,7 +154,12 @@ impl<R: Wait + Clock> Sink for Handler<'_, R> {
             self.signals.note_lost();
             return Ok(());
         }
-        self.handle_from(shifts, cause)?;
+        let origin = Origin {
+            kind: self.kind,
+            revision: objects.revision(),
+            cause,
+        };
+        self.handle_from(shifts, origin)?;
         self.looks = None;
         self.handled = 0;
         self.added = 0;

@@ -13,6 +13,7 @@ ghost use Rattle.object_keys.specs.WorkKeys.{work_key_of};
 ghost use Rattle.list_and_watch.specs.Causes.{is_first};
 ghost use Rattle.manager.specs.Handled.{step_of, HasWaited, Handles, StopsAt, Adds, StopsAdding, HandlesBy, StopsBy};
 
+use crate::origins::Origin;
 use crate::relisting::keys_again;
 use control_desk::{ControlDesk, WorkPass};
 use indexer::{Indexed, Shift};
@@ -44,17 +45,17 @@ pub(crate) struct Handling<'a, R> {
     pub(crate) desk: &'a ControlDesk,
     /// What is published of all kinds.
     pub(crate) looks: &'a PerKind<Indexed>,
-    /// Why they are given.
-    pub(crate) cause: Cause,
+    /// Where they come from.
+    pub(crate) origin: Origin,
 }
 
 impl<R: Wait> Handling<'_, R> {
     /// Returns what a change shows of the pods that are expected: nothing, where it is of the first list.
     fn seen(&self, shift: &Shift) -> Result<Vec<Observation>, AllocError>
         ensures { IfOk result (λ v. map observation_of v.items
-            ≡ observations (record { shift = shift_of shift.now; is_in_initial_list = is_first self.now.cause })) }
+            ≡ observations (record { shift = shift_of shift.now; is_in_initial_list = is_first self.now.origin.cause })) }
     {
-        match self.cause {
+        match self.origin.cause {
             Cause::FirstList => Ok(Vec::new(self.alloc)),
             Cause::LaterList | Cause::Changes => observations(self.alloc, shift),
         }
@@ -73,19 +74,26 @@ impl<R: Wait> Handling<'_, R> {
         )
     }
 
-    /// Handles a change at the board, in one step: what it shows of the pods that are expected is noted, and the keys that it owes wait. A
-    /// change of the first list shows no pod. The error is running out of memory, and changes nothing there.
+    /// Handles a change at the board, in one step: what it shows of the pods that are expected is noted, and the keys that it owes wait. The
+    /// step says of which kind it is, and at which revision its map. A change of the first list shows no pod. The error is running out of memory, and changes nothing there.
     fn handle(&self, pass: &mut WorkPass, shift: &Shift) -> Result<(), AllocError>
         requires { IsPassAt self.now.desk.now pass.old }
         ensures pass { IsPassAt self.now.desk.now pass.new }
         ensures ok { OnOk result (IsCall (known pass.old)
-            (changing (step_of self.now.cause self.now.looks.now (shift_of shift.now))) Nothing (known pass.new)) }
+            (changing (step_of self.now.origin self.now.looks.now (shift_of shift.now))) Nothing (known pass.new)) }
         ensures err { OnErr result (HasWaited (known pass.old) (known pass.new)) }
     {
         let seen = self.seen(shift)?;
         let keys = self.owed(shift)?;
-        self.desk
-            .observe(self.rt, pass, seen.as_slice(), keys.as_slice())
+        let Origin { kind, revision, .. } = self.origin;
+        self.desk.observe(
+            self.rt,
+            pass,
+            kind,
+            revision,
+            seen.as_slice(),
+            keys.as_slice(),
+        )
     }
 
     /// Handles the changes but the first so many, one after another, and counts them. The error is running out of memory at one of them:
@@ -98,10 +106,10 @@ impl<R: Wait> Handling<'_, R> {
     ) -> Result<(), AllocError>
         requires { IsPassAt self.now.desk.now pass.old }
         ensures pass { IsPassAt self.now.desk.now pass.new }
-        ensures ok { OnOk result (Handles self.now.cause self.now.looks.now
+        ensures ok { OnOk result (Handles self.now.origin self.now.looks.now
             (drop handled.old (map shift_of shifts.now)) (known pass.old) (known pass.new)) }
         ensures all { OnOk result (drop handled.new (map shift_of shifts.now) ≡ []) }
-        ensures err { OnErr result (StopsAt self.now.cause self.now.looks.now
+        ensures err { OnErr result (StopsAt self.now.origin self.now.looks.now
             (drop handled.old (map shift_of shifts.now)) (drop handled.new (map shift_of shifts.now)) (known pass.old) (known pass.new)) }
     {
         while let Some(shift) = shifts.get(*handled) {
@@ -121,13 +129,15 @@ impl<R: Wait> Handling<'_, R> {
     ) -> Result<(), AllocError>
         requires { IsPassAt self.now.desk.now pass.old }
         ensures pass { IsPassAt self.now.desk.now pass.new }
-        ensures ok { OnOk result (Adds (drop added.old (map work_key_of keys.now)) (known pass.old) (known pass.new)) }
-        ensures err { OnErr result (StopsAdding (drop added.old (map work_key_of keys.now)) (drop added.new (map work_key_of keys.now))
+        ensures ok { OnOk result (Adds self.now.origin (drop added.old (map work_key_of keys.now)) (known pass.old) (known pass.new)) }
+        ensures err { OnErr result (StopsAdding self.now.origin (drop added.old (map work_key_of keys.now)) (drop added.new (map work_key_of keys.now))
             (known pass.old) (known pass.new)) }
     {
         while *added < keys.len() {
             let piece = next_piece(keys, *added);
-            self.desk.observe(self.rt, pass, &[], piece)?;
+            let Origin { kind, revision, .. } = self.origin;
+            self.desk
+                .observe(self.rt, pass, kind, revision, &[], piece)?;
             *added += piece.len();
         }
         Ok(())
@@ -144,13 +154,13 @@ impl<R: Wait> Handling<'_, R> {
     ) -> Result<(), AllocError>
         requires { IsPassAt self.now.desk.now pass.old }
         ensures pass { IsPassAt self.now.desk.now pass.new }
-        ensures ok { OnOk result (HandlesBy self.now.cause self.now.looks.now (drop handled.old (map shift_of shifts.now)) added.old
+        ensures ok { OnOk result (HandlesBy self.now.origin self.now.looks.now (drop handled.old (map shift_of shifts.now)) added.old
             (known pass.old) (known pass.new)) }
-        ensures err { OnErr result (StopsBy self.now.cause self.now.looks.now (map shift_of shifts.now) handled.old added.old
+        ensures err { OnErr result (StopsBy self.now.origin self.now.looks.now (map shift_of shifts.now) handled.old added.old
             (known pass.old) (known pass.new) handled.new added.new) }
     {
         self.handle_rest(pass, handled, shifts)?;
-        let keys = keys_again(self.alloc, self.cause, self.looks)?;
+        let keys = keys_again(self.alloc, self.origin.cause, self.looks)?;
         self.add_rest(pass, added, keys.as_slice())
     }
 }

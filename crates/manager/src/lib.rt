@@ -5,9 +5,10 @@
 pub mod handler;
 pub(crate) mod handling;
 pub mod members;
+pub mod origins;
 pub mod reflecting;
 pub(crate) mod relisting;
-pub mod running;
+mod running;
 pub mod ticking;
 
 pub use manager_worker::{Gate, Open, Signals};

@@ -39,7 +39,9 @@ impl<'a, R: Wait + Clock, A: Api + Drop> Reflecting<'a, R, A> {
         api: A,
         handler: Handler<'a, R>,
     ) -> Reflecting<'a, R, A>
-        ensures { reflector_of result ≡ begun_streaming kind }
+        requires { handler.kind ≡ kind }
+        ensures begun { reflector_of result ≡ begun_streaming kind }
+        ensures kind { result.handler.kind ≡ kind }
     {
         Reflecting {
             rt,
@@ -56,7 +58,7 @@ impl<'a, R: Wait + Clock, A: Api + Drop> Reflecting<'a, R, A> {
     /// in order, and after each list but the first the keys that are looked at again; and of the last publish as much as there was memory for.
     pub fn run(&mut self)
         ensures { self.old.handler.looks ≡ None → self.old.handler.handled ≡ 0 → self.old.handler.added ≡ 0
-            → IsToldAll self.old.follower self.old.handler.revision (known self.old.handler.pass) self.new.follower (known self.new.handler.pass) }
+            → IsToldAll self.old.handler.kind self.old.follower self.old.handler.revision (known self.old.handler.pass) self.new.follower (known self.new.handler.pass) }
     {
         let mut clock = StoppableClock::new(self.rt, &self.signals.stop);
         let Reflecting {

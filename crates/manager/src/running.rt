@@ -65,7 +65,15 @@ impl<'a, R: Threads + Wait + Clock + Sync, G: Gate> Shared<'a, R, G> {
     ) -> ManagerThread<'a, R, A, G>
         requires { IsNewAt self.now.desk.now pass }
     {
-        let handler = Handler::new(self.rt, self.alloc, self.desk, pass, self.signals, listers);
+        let handler = Handler::new(
+            self.rt,
+            self.alloc,
+            kind,
+            self.desk,
+            pass,
+            self.signals,
+            listers,
+        );
         ManagerThread::Follows(Reflecting::new(
             self.rt,
             self.alloc,

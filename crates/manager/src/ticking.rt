@@ -10,8 +10,8 @@ use std::sync::Wait;
 use std::time::Clock;
 use tcp_client::StoppableClock;
 
-/// How many milliseconds lie between two ticks.
-const TICK_MILLISECONDS: u64 = 5;
+/// How many milliseconds are waited for memory.
+const PAUSE_MILLISECONDS: u64 = 5;
 
 /// How many milliseconds lie between two looks for expectations that aged out: each goes over all that is expected.
 const LOOK_MILLISECONDS: u64 = 1_000;
@@ -19,6 +19,11 @@ const LOOK_MILLISECONDS: u64 = 1_000;
 /// What lets time pass at the board: no more than passes on the clock, of which a fall is no time (`metadata_values::stopwatch::Stopwatch`). It also
 /// wakes the keys of ReplicaSets that wait for what is never seen, as a pod whose create was lost on the way: nothing else adds them when
 /// their expectations age out.
+///
+/// It sleeps until the next key comes due, for a second at most, in which it looks for such ReplicaSets. The board's time stands still
+/// meanwhile. Who gives back a key with a delay catches up with it first, and wakes this after (`manager_worker::TimeSignals`): so the key waits
+/// for its delay by the clock as well, and comes when that is over. What is expected from then on ages out by as much sooner as the board's time
+/// is behind, by a second of five minutes at most.
 #[derive(Drop)]
 pub struct Ticker<'a, R> {
     rt: &'a R,
@@ -34,11 +39,12 @@ pub struct Ticker<'a, R> {
 }
 
 impl<'a, R: Wait + Clock> Ticker<'a, R> {
-    ghost use Rattle.std.specs.Prelude.{◌≡◌, ◌+◌, ◌-◌, ◌<◌, ◌⊎◌, OnOk, OnErr};
+    ghost use Rattle.std.specs.Prelude.{◌≡◌, ◌+◌, ◌-◌, ◌<◌, ◌⊎◌, None, OnOk, OnErr};
     ghost use Rattle.control_desk.specs.Calls.{IsCall, Nothing};
     ghost use Rattle.control_desk.specs.Desks.{known, IsNewAt};
     ghost use Rattle.control_desk.specs.Steps as steps;
     ghost use Rattle.manager.specs.Handled.{HasWaited};
+    ghost use Rattle.manager.specs.Resting.{rest_before};
     ghost use Rattle.manager.specs.Woken.{Wakes};
 
     /// Returns what lets time pass, before any has.
@@ -77,8 +83,8 @@ impl<'a, R: Wait + Clock> Ticker<'a, R> {
         Ok(())
     }
 
-    /// Adds the keys of the ReplicaSets whose expectations aged out since it was done last, as those that a change owes. The error is
-    /// running out of memory: then none are added, and they are the next time.
+    /// Adds the keys of the ReplicaSets whose expectations aged out since it was done last. The error is running out of memory: then none are
+    /// added, and they are the next time.
     fn wake(&mut self) -> Result<(), AllocError>
         ensures ok { OnOk result (Wakes self.old.woken self.new.woken (known self.old.pass) (known self.new.pass)) }
         ensures err { OnErr result (HasWaited (known self.old.pass) (known self.new.pass)) }
@@ -87,7 +93,7 @@ impl<'a, R: Wait + Clock> Ticker<'a, R> {
     {
         let aged = self.desk.aged_out(self.rt, &mut self.pass, self.woken)?;
         self.desk
-            .observe(self.rt, &mut self.pass, &[], aged.keys.as_slice())?;
+            .add(self.rt, &mut self.pass, aged.keys.as_slice())?;
         self.woken = aged.moment;
         Ok(())
     }
@@ -117,16 +123,52 @@ impl<'a, R: Wait + Clock> Ticker<'a, R> {
         }
     }
 
-    /// Lets time pass as the clock shows it, until all is to stop.
+    /// Returns for how many milliseconds there is nothing to do: until the next key comes due, and not beyond the next look for expectations
+    /// that aged out; one at least.
+    fn rest(&mut self) -> u64
+        ensures rest { IsCall (known self.old.pass) (λ s. None)
+            (λ s. result ≡ rest_before self.old.passed self.old.woken s.board) (known self.new.pass) }
+        ensures some { 0 < result }
+        ensures passed { self.new.passed ≡ self.old.passed }
+        ensures woken { self.new.woken ≡ self.old.woken }
+    {
+        let since = self.passed.saturating_sub(self.woken);
+        let until_look = LOOK_MILLISECONDS.saturating_sub(since);
+        let until_due = self.desk.until_due(self.rt, &mut self.pass);
+        until_due.unwrap_or(until_look).min(until_look).max(1)
+    }
+
+    /// Lets time pass as the clock went on in all, wakes those whose expectations aged out, and then the workers where a key waits. Who asked
+    /// for time as often as was seen before the clock was looked at is told. Returns for how many milliseconds there is nothing to do then; where
+    /// memory ran out, after how many it is done again.
+    fn go_on(&mut self, moment: u64, asked: u64) -> u64
+        ensures { 0 < result }
+    {
+        let ticked = self.tick(moment);
+        let woken = self.wake_in_time();
+        // What is due next is looked at before anybody goes on who delays a key: its ring ends the sleep.
+        let rest = self.rest();
+        if ticked.is_ok() {
+            self.signals.time.note_passed(asked);
+        }
+        self.announce();
+        if ticked.is_ok() && woken.is_ok() {
+            rest
+        } else {
+            PAUSE_MILLISECONDS
+        }
+    }
+
+    /// Lets time pass as the clock shows it, until all is to stop, and sleeps until something is due.
     pub fn run(&mut self) {
         let mut clock = StoppableClock::new(self.rt, &self.signals.stop);
         for _ in self.rt.forever() {
-            if self.signals.stop.rest(self.rt, TICK_MILLISECONDS) {
+            let asked = self.signals.time.count_asked();
+            if self.signals.stop.is_stopped() {
                 return;
             }
-            let _ = self.tick(clock.milliseconds());
-            let _ = self.wake_in_time();
-            self.announce();
+            let rest = self.go_on(clock.milliseconds(), asked);
+            self.signals.time.sleep(self.rt, asked, rest);
         }
     }
 }

@@ -2,6 +2,7 @@
 use Rattle.std.proofs.Common.{◌≡◌, ◌∙◌, ◌⊎◌, ◌++◌, ℕ, List, [], ◌∷◌, Bool, true, false, nat_eq, Option, Some, None, inl, inr, refl, sym, ap, append_assoc, append-nil}
 use Rattle.std.specs.Prelude.{IfSome, not}
 use mathlib.Core.Bool.{true≢false}
+use Rattle.object_keys.specs.declared.per_kind.PerKind.{PerKind}
 use Rattle.spec_api.specs.Keys.{Key}
 use Rattle.spec_api.specs.ObjectRequests as words
 use Rattle.spec_api.specs.declared.kinds.Kind.{Kind}
@@ -85,7 +86,7 @@ next_if : (b : Bool) (cs : List Command) (x : Command) → issuing b cs ≡ Some
 next_if true cs x is = (is, refl)
 next_if false cs x is = absurd (nothing x is)
 
-next_issued : (t : Turn) (x : Command) → next t ≡ issue x → (first (left t) ≡ Some x) × (all_accepted t.issues ≡ true)
+pub next_issued : (t : Turn) (x : Command) → next t ≡ issue x → (first (left t) ≡ Some x) × (all_accepted t.issues ≡ true)
 next_issued t x at =
     next_if (all_accepted t.issues) (left t) x
     (issued_by (first (unseen t)) (first (asks t)) (expecting t.has_expected (expected t)) (issuing (all_accepted t.issues) (left t)) x (ap issued_in at))
@@ -98,11 +99,11 @@ More t u = (rest : List Issue) × (u.issues ≡ t.issues ++ rest)
 no_more : (t u : Turn) → u.issues ≡ t.issues → More t u
 no_more t u same = ([], same ∙ sym (append-nil t.issues))
 
-module _ {L A : Type 0} (shows : L → Kind → Option Snapshot → L → Type 0) (answers : A → words.Request → client.Answer → A → Type 0) where
-  more_at : (s z : InTurn L A) (n : NextStep) (p : Progress) → Takes shows answers n s z p → More s.turn z.turn
-  more_at s z (look k) progress.Went takes = no_more s.turn z.turn (ap (λ (v : Turn). v.issues) takes.0.2)
-  more_at s z (look k) progress.Again takes = no_more s.turn z.turn (ap (λ (v : Turn). v.issues) takes.0.2)
-  more_at s z (look k) progress.GivenUp takes = absurd takes.0
+module _ {L A : Type 0} (shows : L → Kind → Option Snapshot → L → Type 0) (answers : A → words.Request → client.Answer → A → Type 0) (handled : PerKind ℕ) where
+  more_at : (s z : InTurn L A) (n : NextStep) (p : Progress) → Takes shows answers handled n s z p → More s.turn z.turn
+  more_at s z (look k) progress.Went takes = no_more s.turn z.turn (ap (λ (v : Turn). v.issues) takes.0.3)
+  more_at s z (look k) progress.Again takes = no_more s.turn z.turn (ap (λ (v : Turn). v.issues) takes.0.3)
+  more_at s z (look k) progress.GivenUp takes = no_more s.turn z.turn (ap (λ (v : Turn). v.issues) takes.0.3)
   more_at s z (look k) progress.AtEnd takes = absurd takes.0
   more_at s z (look k) progress.CutShort takes = absurd takes.0
   more_at s z ask_satisfied progress.Went takes = no_more s.turn z.turn (ap (λ (v : Turn). v.issues) takes.0.1)
@@ -130,10 +131,11 @@ module _ {L A : Type 0} (shows : L → Kind → Option Snapshot → L → Type 0
   then_more : (t u v : Turn) → More t u → More u v → More t v
   then_more t u v a b = (a.0 ++ b.0, b.1 ∙ ap (λ (is : List Issue). is ++ b.0) a.1 ∙ append_assoc t.issues a.0 b.0)
 
-  stay : {s z : InTurn L A} → Reaches shows answers s z → More s.turn z.turn
+  stay : {s z : InTurn L A} → Reaches shows answers handled s z → More s.turn z.turn
   stay {s = s} none = no_more s.turn s.turn refl
   stay {s = s} (more m z p reached takes going) = then_more s.turn m.turn z.turn (stay reached) (more_at m z (next m.turn) p takes)
   stay (sees m w reached seen) = stay reached
 
+module _ {L A : Type 0} (shows : L → Kind → Option Snapshot → L → Type 0) (answers : A → words.Request → client.Answer → A → Type 0) where
   pub issued_in_order : AreIssuedInOrder shows answers
-  issued_in_order = record { once = issued_once (Hears answers); stay = λ s z reached. stay reached; next = next_issued }
+  issued_in_order = record { once = issued_once (Hears answers); stay = λ handled s z reached. stay shows answers handled reached; next = next_issued }

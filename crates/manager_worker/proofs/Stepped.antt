@@ -1,11 +1,11 @@
 -- What each step does, by what its parts do.
-use Rattle.std.proofs.Common.{◌≡◌, Bool, true, false, Option, Some, None, Result, Ok, Err, inl, inr, refl, subst, sym}
+use Rattle.std.proofs.Common.{◌≡◌, ◌≤◌, ℕ, Bool, true, false, Option, Some, None, Result, Ok, Err, inl, inr, refl, subst, sym}
 use Rattle.std.specs.Prelude.{IfOk, OnErr, IfSome, option_map}
 use Rattle.baton.specs.declared.views.Known.{Known}
+use Rattle.object_keys.specs.declared.per_kind.PerKind.{PerKind}
 use Rattle.spec_api.specs.Keys.{Key}
 use Rattle.spec_api.specs.ObjectRequests as words
 use Rattle.spec_api.specs.declared.kinds.Kind.{Kind}
-use Rattle.spec_client_go.specs.Boards.{Board}
 use Rattle.spec_client_go.specs.Commands.{Command}
 use Rattle.spec_client_go.specs.Expectations.{Owner}
 use Rattle.spec_server.specs.Snapshots.{Snapshot}
@@ -16,6 +16,7 @@ use Rattle.http_client.specs.declared.answer.Answer as client
 use Rattle.request_encoding.specs.Texts.{can_be_told}
 use Rattle.control_desk.specs.Calls.{IsCall, Nothing}
 use Rattle.control_desk.specs.Steps.{Step, changing, forget}
+use Rattle.control_desk.specs.declared.states.WorkState.{WorkState}
 use Rattle.reconcile_turn.specs.Seen.{answered_to}
 use Rattle.reconcile_turn.specs.declared.answers.CommandAnswer.{CommandAnswer}
 use Rattle.reconcile_turn.specs.declared.answers.CommandAnswer.TheVariants as answer
@@ -36,21 +37,21 @@ each (Some a) P so = so a
 
 -- ---- the board
 
-pub sees : {S : Board → Type 0} (v w : Known Board Step) → IsCall v (λ b. None) S w → Sees v w
+pub sees : {S : WorkState → Type 0} (v w : Known WorkState Step) → IsCall v (λ b. None) S w → Sees v w
 sees v w call = record { history = call.history; later = call.later; made = call.made; happened = call.happened; says = tt; knows = call.knows }
 
-pub satisfied_by : (t u : Turn) (v w : Known Board Step) (o : Owner) (b : Bool) → owner t ≡ Some o → u ≡ with_sight (satisfied b) t
-    → IsCall v (λ d. None) (λ d. b ≡ is_satisfied_for (Some o) d) w → Asks t v u w progress.Went
+pub satisfied_by : (t u : Turn) (v w : Known WorkState Step) (o : Owner) (b : Bool) → owner t ≡ Some o → u ≡ with_sight (satisfied b) t
+    → IsCall v (λ d. None) (λ d. b ≡ is_satisfied_for (Some o) d.board) w → Asks t v u w progress.Went
 satisfied_by t u v w o b own eq call =
-    let at : Option Owner → Type 0 = λ x. IsCall v (asking x t.work_key.key) (λ d. b ≡ is_satisfied_for x d) w in (b, eq, subst at (sym own) call)
+    let at : Option Owner → Type 0 = λ x. IsCall v (asking x t.work_key.key) (λ d. b ≡ is_satisfied_for x d.board) w in (b, eq, subst at (sym own) call)
 
-gone : (t : Turn) (v w : Known Board Step) → IsCall v (changing (forget t.work_key.key)) Nothing w → IsCall v (asking None t.work_key.key) (λ d. true ≡ is_satisfied_for None d) w
+gone : (t : Turn) (v w : Known WorkState Step) → IsCall v (changing (forget t.work_key.key)) Nothing w → IsCall v (asking None t.work_key.key) (λ d. true ≡ is_satisfied_for None d.board) w
 gone t v w call = record { history = call.history; later = call.later; made = call.made; happened = call.happened; says = refl; knows = call.knows }
 
-pub forgotten_by : (t u : Turn) (v w : Known Board Step) → owner t ≡ None → u ≡ with_sight (satisfied true) t
+pub forgotten_by : (t u : Turn) (v w : Known WorkState Step) → owner t ≡ None → u ≡ with_sight (satisfied true) t
     → IsCall v (changing (forget t.work_key.key)) Nothing w → Asks t v u w progress.Went
 forgotten_by t u v w own eq call =
-    let at : Option Owner → Type 0 = λ x. IsCall v (asking x t.work_key.key) (λ d. true ≡ is_satisfied_for x d) w in (true, eq, subst at (sym own) (gone t v w call))
+    let at : Option Owner → Type 0 = λ x. IsCall v (asking x t.work_key.key) (λ d. true ≡ is_satisfied_for x d.board) w in (true, eq, subst at (sym own) (gone t v w call))
 
 -- ---- what is noted
 
@@ -144,6 +145,6 @@ module _ {A : Type 0} (answers : A → words.Request → client.Answer → A →
   issued (Some x) t u before after q l p is asks heeds =
       let at : words.Request → Type 0 = λ r. AsksOnce answers before r l after in issued_by x t u before after l p (subst at (the_same q (requested t x) is) asks) heeds
 
-module _ {L A : Type 0} (shows : L → Kind → Option Snapshot → L → Type 0) (answers : A → words.Request → client.Answer → A → Type 0) where
-  pub stepped : (s z : InTurn L A) (n : NextStep) (p : Progress) → next s.turn ≡ n → Takes shows answers n s z p → Steps shows answers s z p
-  stepped s z n p at takes = let by : NextStep → Type 0 = λ m. Takes shows answers m s z p in subst by (sym at) takes
+module _ {L A : Type 0} (shows : L → Kind → Option Snapshot → L → Type 0) (answers : A → words.Request → client.Answer → A → Type 0) (handled : PerKind ℕ) where
+  pub stepped : (s z : InTurn L A) (n : NextStep) (p : Progress) → next s.turn ≡ n → Takes shows answers handled n s z p → Steps shows answers handled s z p
+  stepped s z n p at takes = let by : NextStep → Type 0 = λ m. Takes shows answers handled m s z p in subst by (sym at) takes

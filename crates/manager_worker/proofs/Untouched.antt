@@ -1,7 +1,8 @@
 -- Nothing of a turn is expected or issued while something is still to be seen or read.
-use Rattle.std.proofs.Common.{◌≡◌, ◌∙◌, ◌⊎◌, List, [], ◌∷◌, Bool, true, false, Option, Some, None, inl, inr, refl, sym, ap, subst}
+use Rattle.std.proofs.Common.{◌≡◌, ◌∙◌, ◌⊎◌, ℕ, List, [], ◌∷◌, Bool, true, false, Option, Some, None, inl, inr, refl, sym, ap, subst}
 use mathlib.Core.Bool.{true≢false}
 use Rattle.serde_json.specs.Data.{Data}
+use Rattle.object_keys.specs.declared.per_kind.PerKind.{PerKind}
 use Rattle.spec_api.specs.Keys.{Key}
 use Rattle.spec_api.specs.ObjectRequests as words
 use Rattle.spec_api.specs.declared.kinds.Kind.{Kind}
@@ -15,14 +16,14 @@ use Rattle.reconcile_turn.specs.declared.answers.CommandAnswer.{CommandAnswer}
 use Rattle.reconcile_turn.proofs.Steps.{step_by, next_seeing, next_reading, next_planned}
 use Rattle.manager_worker.specs.Ending.{IsUntouched}
 use Rattle.manager_worker.specs.Finding.{Adds}
-use Rattle.manager_worker.specs.Stepping.{InTurn, Notes, Takes, Reaches, none, more, sees}
+use Rattle.manager_worker.specs.Stepping.{InTurn, Notes, Takes, Steps, Reaches, none, more, sees}
 use Rattle.live_reads.specs.declared.found.FoundObject.{FoundObject}
 use Rattle.live_reads.specs.declared.found.FoundObject.TheVariants as object
 use Rattle.manager_worker.specs.declared.steps.Progress.{Progress}
 use Rattle.manager_worker.specs.declared.steps.Progress.TheVariants as progress
 
 -- whether something is to be seen or read first
-abbrev is_early : NextStep → Bool
+abbrev pub is_early : NextStep → Bool
 is_early (look k) = true
 is_early ask_satisfied = true
 is_early (read k) = true
@@ -31,9 +32,9 @@ is_early (issue x) = false
 is_early finish = false
 
 -- all that is to be seen and read was
-record IsPlanned (t : Turn) : Type 0 where
-  seen : unseen t ≡ []
-  asked : asks t ≡ []
+pub record IsPlanned (t : Turn) : Type 0 where
+  pub seen : unseen t ≡ []
+  pub asked : asks t ≡ []
 
 abbrev IsInOrder : Turn → Type 0
 IsInOrder t = IsPlanned t ⊎ IsUntouched t
@@ -60,7 +61,7 @@ planned_by_sights : (t : Turn) (ss : List Sighting) → unseen t ≡ ss → is_e
 planned_by_sights t [] seen late = planned_by_reads t (asks t) seen refl late
 planned_by_sights t (s ∷ ss) seen late = absurd (true≢false (sym (ap is_early (next_seeing t s (ap first seen)) ∙ early_sight s) ∙ late))
 
-planned : (t : Turn) (s : NextStep) → next t ≡ s → is_early s ≡ false → IsPlanned t
+pub planned : (t : Turn) (s : NextStep) → next t ≡ s → is_early s ≡ false → IsPlanned t
 planned t s at late = planned_by_sights t (unseen t) refl (ap is_early at ∙ late)
 
 untouched_by : (t : Turn) → is_early (next t) ≡ true → IsInOrder t → IsUntouched t
@@ -92,13 +93,13 @@ pub noted : (x : Command) (a : CommandAnswer) (t u : Turn) → Notes x a t u →
 noted x a t u (inl e) = (answer_of a, e)
 noted x a t u (inr e) = (lost, e)
 
-module _ {L A : Type 0} (shows : L → Kind → Option Snapshot → L → Type 0) (answers : A → words.Request → client.Answer → A → Type 0) where
-  kept_at : (s z : InTurn L A) (n : NextStep) (p : Progress) → next s.turn ≡ n → Takes shows answers n s z p → IsInOrder s.turn → IsInOrder z.turn
+module _ {L A : Type 0} (shows : L → Kind → Option Snapshot → L → Type 0) (answers : A → words.Request → client.Answer → A → Type 0) (handled : PerKind ℕ) where
+  kept_at : (s z : InTurn L A) (n : NextStep) (p : Progress) → next s.turn ≡ n → Takes shows answers handled n s z p → IsInOrder s.turn → IsInOrder z.turn
   kept_at s z (look k) progress.Went at takes is =
       let was = untouched s.turn (look k) at refl is in
-      as_before (with_sight (looked k takes.0.0) s.turn) z.turn takes.0.2 (inr (record { expected = was.expected; issued = was.issued }))
-  kept_at s z (look k) progress.Again at takes is = as_before s.turn z.turn takes.0.2 is
-  kept_at s z (look k) progress.GivenUp at takes is = absurd takes.0
+      as_before (with_sight (looked k takes.0.0) s.turn) z.turn takes.0.3 (inr (record { expected = was.expected; issued = was.issued }))
+  kept_at s z (look k) progress.Again at takes is = as_before s.turn z.turn takes.0.3 is
+  kept_at s z (look k) progress.GivenUp at takes is = as_before s.turn z.turn takes.0.3 is
   kept_at s z (look k) progress.AtEnd at takes is = absurd takes.0
   kept_at s z (look k) progress.CutShort at takes is = absurd takes.0
   kept_at s z ask_satisfied progress.Went at takes is =
@@ -133,11 +134,20 @@ module _ {L A : Type 0} (shows : L → Kind → Option Snapshot → L → Type 0
   kept_at s z (issue x) progress.CutShort at takes is = as_before s.turn z.turn takes.0.2 is
   kept_at s z finish p at takes is = as_before s.turn z.turn (ap (λ (v : InTurn L A). v.turn) takes.1) is
 
-  kept : {s z : InTurn L A} → Reaches shows answers s z → IsInOrder s.turn → IsInOrder z.turn
+  kept : {s z : InTurn L A} → Reaches shows answers handled s z → IsInOrder s.turn → IsInOrder z.turn
   kept none is = is
   kept (more m v p reached takes going) is = kept_at m v (next m.turn) p refl takes (kept reached is)
   kept (sees m w reached seen) is = kept reached is
 
-  -- at a live read nothing is expected or issued, if nothing was when the turn began
-  pub untouched_at_read : (s z : InTurn L A) → Reaches shows answers s z → IsUntouched s.turn → (r : Key) → next z.turn ≡ read r → IsUntouched z.turn
-  untouched_at_read s z reached was r at = untouched z.turn (read r) at refl (kept reached (inr was))
+  early_where_given_up : (s z : InTurn L A) (n : NextStep) → Takes shows answers handled n s z progress.GivenUp → is_early n ≡ true
+  early_where_given_up s z (look k) takes = refl
+  early_where_given_up s z ask_satisfied takes = absurd takes.0
+  early_where_given_up s z (read k) takes = refl
+  early_where_given_up s z (expect e) takes = absurd takes.0
+  early_where_given_up s z (issue x) takes = absurd takes.0
+  early_where_given_up s z finish takes = let other : progress.GivenUp ≡ progress.AtEnd = takes.0 in absurd (cc)
+
+  -- where a turn is given up nothing is expected or issued, if nothing was when it began
+  pub untouched_where_given_up : (s z : InTurn L A) → Reaches shows answers handled s z → IsUntouched s.turn → (u : InTurn L A) → Steps shows answers handled z u progress.GivenUp
+      → IsUntouched z.turn
+  untouched_where_given_up s z reached was u takes = untouched_by z.turn (early_where_given_up z u (next z.turn) takes) (kept reached (inr was))

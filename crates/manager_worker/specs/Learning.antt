@@ -2,6 +2,7 @@
 use Rattle.std.specs.Prelude.{◌≡◌, ◌⊎◌, ◌≤◌, ◌<◌, ◌&&◌, ◌||◌, ℕ, List, Bool, true, false, not, nat_eq, codes, if◌then◌else◌}
 use Rattle.std.specs.List.{starts_with}
 use Rattle.std.specs.Str.{IsUtf8}
+use Rattle.http_client.specs.Waits.{milliseconds_by}
 use Rattle.http_client.specs.declared.answer.Answer as client
 use Rattle.http_client.specs.declared.answer.Answer.TheVariants as outcome
 use Rattle.spec_api.specs.ObjectRequests as words
@@ -10,7 +11,6 @@ use Rattle.request_encoding.specs.Texts.{can_be_told}
 use Rattle.reconcile_turn.specs.Seen.{answer_of, data_of}
 use Rattle.reconcile_turn.specs.declared.answers.CommandAnswer.{CommandAnswer}
 use Rattle.reconcile_turn.specs.declared.answers.CommandAnswer.TheVariants as answer
-use Rattle.manager_worker.specs.Patience.{milliseconds_by}
 use Rattle.manager_worker.specs.declared.answers.Learnt.{Learnt}
 use Rattle.manager_worker.specs.declared.answers.Learnt.TheVariants as learnt
 

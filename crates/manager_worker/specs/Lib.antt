@@ -8,3 +8,5 @@ pub mod Stepping
 pub mod Ending
 pub mod Working
 pub mod Repeating
+pub mod Older
+pub mod Sparing

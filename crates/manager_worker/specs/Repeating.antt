@@ -1,6 +1,7 @@
 -- That no command which may have been carried out is issued again in its turn.
-use Rattle.std.specs.Prelude.{◌≡◌, ◌⊎◌, ◌++◌, List, ◌∷◌, [], Bool, true, false, not, nat_eq, Option, None, Some, IfSome}
+use Rattle.std.specs.Prelude.{◌≡◌, ◌⊎◌, ◌++◌, ℕ, List, ◌∷◌, [], Bool, true, false, not, nat_eq, Option, None, Some, IfSome}
 use mathlib.Core.Logic.{inl, inr}
+use Rattle.object_keys.specs.declared.per_kind.PerKind.{PerKind}
 use Rattle.spec_api.specs.ObjectRequests as words
 use Rattle.spec_api.specs.declared.kinds.Kind.{Kind}
 use Rattle.spec_client_go.specs.Commands.{Command}
@@ -44,5 +45,5 @@ module _ {L A : Type 0} (shows : L → Kind → Option Snapshot → L → Type 0
   -- what is noted stays, and the command that is issued next is the one of the plan that follows all that is noted, and all of that was accepted
   pub record AreIssuedInOrder : Type 0 where
     pub once : AreIssuedOnce (Hears answers)
-    pub stay : (s z : InTurn L A) → Reaches shows answers s z → (rest : List Issue) × (z.turn.issues ≡ s.turn.issues ++ rest)
+    pub stay : (handled : PerKind ℕ) (s z : InTurn L A) → Reaches shows answers handled s z → (rest : List Issue) × (z.turn.issues ≡ s.turn.issues ++ rest)
     pub next : (t : Turn) (x : Command) → next t ≡ issue x → (first (left t) ≡ Some x) × (all_accepted t.issues ≡ true)

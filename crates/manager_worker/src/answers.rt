@@ -1,13 +1,12 @@
 //! What a worker learns of its command.
 ghost use Rattle.std.specs.Prelude.{◌≡◌};
+ghost use Rattle.http_client.specs.Waits.{milliseconds_by};
 ghost use Rattle.manager_worker.specs.Learning.{IsAccepted, Learns, LearnsOf, begins_as_object, leaves_open};
-ghost use Rattle.manager_worker.specs.Patience.{milliseconds_by};
 
-use crate::patience::milliseconds_by;
-use http_client::HttpReply;
 use http_client::statuses::{
     BAD_GATEWAY, FIRST_REDIRECTION, GATEWAY_TIMEOUT, INTERNAL_SERVER_ERROR, OK, SERVICE_UNAVAILABLE,
 };
+use http_client::{HttpReply, milliseconds_by};
 use reconcile_turn::CommandAnswer;
 
 /// What a worker learns of its command.

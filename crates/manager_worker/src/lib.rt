@@ -3,18 +3,20 @@
 #![tactic(auto)]
 
 pub mod answers;
-pub mod gates;
+mod gates;
 pub mod laws;
-pub mod looking;
+mod looking;
 mod patience;
-pub mod signals;
+mod signals;
 pub mod steps;
-pub mod tools;
+mod time_signals;
+mod tools;
 pub mod turning;
-pub mod working;
+mod working;
 
 pub use gates::{Gate, Open};
 pub use looking::Looking;
 pub use signals::Signals;
+pub use time_signals::TimeSignals;
 pub use tools::Tools;
 pub use working::Worker;

@@ -1,6 +1,7 @@
 //! What threads tell one another.
 ghost use Rattle.std.specs.Prelude.{◌≡◌, ◌<◌, IfSome, is_some, true};
 
+use crate::time_signals::TimeSignals;
 use spec_api::kinds::Kind;
 use std::sync::Wait;
 use std::sync::atomic::{AtomicU64, Ordering};
@@ -18,6 +19,8 @@ const LONGEST_SLEEP: u64 = 1000;
 pub struct Signals {
     /// Tells all threads to stop.
     pub stop: Stop,
+    /// Wake who lets time pass at the board, and who waits for that.
+    pub time: TimeSignals,
     /// Rings when a key may wait.
     work: Bell,
     /// How many kinds have published their first list.
@@ -36,6 +39,7 @@ impl Signals {
     pub const fn new(most_turns: Option<u64>) -> Signals {
         Signals {
             stop: Stop::new(),
+            time: TimeSignals::new(),
             work: Bell::new(),
             listed: Bell::new(),
             finished: AtomicU64::new(0),
@@ -111,6 +115,7 @@ impl Signals {
     /// Tells all threads to stop, and wakes those that wait.
     pub fn stop_all(&self) {
         self.stop.stop();
+        self.time.wake_all();
         self.work.ring();
         self.listed.ring();
     }

@@ -21,7 +21,7 @@ use api_client::Api;
 use control_desk::{ControlDesk, WorkPass};
 use http_client::statuses::BAD_REQUEST;
 use live_reads::{FoundObject, can_be, found_in};
-use object_keys::Key;
+use object_keys::{Key, PerKind};
 use reconcile_turn::{CommandAnswer, Expected, NextStep, Sight, Turn};
 use request_encoding::can_be_told;
 use request_parts::Request;
@@ -37,7 +37,7 @@ pub enum Progress {
     Went,
     /// It was not, and is to be tried again.
     Again,
-    /// It was not, and the turn is given up: a server refused a live read.
+    /// It was not, and the turn is given up: a server refused a live read, or what is published is older than the key.
     GivenUp,
     /// It is the end of the turn.
     AtEnd,
@@ -70,19 +70,26 @@ fn add_found(turn: &mut Turn, key: &Key, found: FoundObject) -> Result<Progress,
 }
 
 impl<R: Wait + Clock, L: Looking + Drop, A: Api + Drop, G> Tools<'_, R, L, A, G> {
-    /// Looks at what is published of a kind.
-    fn look(&mut self, turn: &mut Turn, kind: Kind) -> Result<Progress, AllocError>
+    /// Looks at what is published of a kind. Where that is older than what was handled of this kind before the key was taken, the turn is given
+    /// up: it shows nothing of the change that owed the key.
+    fn look(
+        &mut self,
+        turn: &mut Turn,
+        kind: Kind,
+        handled: &PerKind<u64>,
+    ) -> Result<Progress, AllocError>
         requires { next turn.old ≡ look kind }
-        ensures looks { Looks L.shows kind turn.old self.old.listers turn.new self.new.listers (told result) }
+        ensures looks { Looks L.shows handled.now kind turn.old self.old.listers turn.new self.new.listers (told result) }
         ensures api { self.new.api ≡ self.old.api }
     {
-        match self.listers.published(kind)? {
-            Some(published) => {
-                turn.see(Sight::Looked(kind, published))?;
-                Ok(Progress::Went)
-            }
-            None => Ok(Progress::Again),
+        let Some(published) = self.listers.published(kind)? else {
+            return Ok(Progress::Again);
+        };
+        if published.revision() < *handled.get(kind) {
+            return Ok(Progress::GivenUp);
         }
+        turn.see(Sight::Looked(kind, published))?;
+        Ok(Progress::Went)
     }
 
     /// Asks whether all pods that are expected have been seen; of a ReplicaSet that is no longer there nothing is expected.
@@ -246,22 +253,24 @@ impl<R: Wait + Clock, L: Looking + Drop, A: Api + Drop, G> Tools<'_, R, L, A, G>
         Ok(self.heed(turn, learnt))
     }
 
-    /// Takes the next step of a turn, but its end, and notes for how many milliseconds the server asks to be left alone, at the longest.
+    /// Takes the next step of a turn, but its end, and notes for how many milliseconds the server asks to be left alone, at the longest. No look is
+    /// older than what was handled.
     pub fn step(
         &mut self,
         desk: &ControlDesk,
         pass: &mut WorkPass,
         turn: &mut Turn,
+        handled: &PerKind<u64>,
         patience: &mut u32,
     ) -> Result<Progress, AllocError>
         requires pass { IsPassAt desk.now pass.old }
         ensures pass { IsPassAt desk.now pass.new }
         ensures key { key_in_hand pass.new ≡ key_in_hand pass.old }
-        ensures steps { Steps L.shows A.answers (in_turn turn.old self.old.listers (heard self.old.api patience.old) (known pass.old))
+        ensures steps { Steps L.shows A.answers handled.now (in_turn turn.old self.old.listers (heard self.old.api patience.old) (known pass.old))
             (in_turn turn.new self.new.listers (heard self.new.api patience.new) (known pass.new)) (told result) }
     {
         match turn.next() {
-            NextStep::Look(kind) => self.look(turn, kind),
+            NextStep::Look(kind) => self.look(turn, kind, handled),
             NextStep::AskSatisfied => self.ask_satisfied(desk, pass, turn),
             NextStep::Read(key) => {
                 let key = key.try_copy()?;

@@ -1,14 +1,13 @@
 //! A worker that takes one key after another, with a turn for each, until all is to stop.
-ghost use Rattle.std.specs.Prelude.{◌≡◌, option_map};
+ghost use Rattle.std.specs.Prelude.{◌≡◌};
 ghost use Rattle.control_desk.specs.Desks.{IsPassAt, key_in_hand};
-ghost use Rattle.object_keys.specs.WorkKeys.{work_key_of};
+ghost use Rattle.control_desk.specs.Taken.{key_taken};
 
 use crate::gates::Gate;
 use crate::looking::Looking;
 use crate::tools::Tools;
 use api_client::Api;
-use control_desk::{ControlDesk, WorkPass};
-use object_keys::WorkKey;
+use control_desk::{ControlDesk, TakenKey, WorkPass};
 use reconcile_turn::Turn;
 use std::sync::Wait;
 use std::time::Clock;
@@ -21,10 +20,10 @@ const PAUSE_MILLISECONDS: u64 = 50;
 pub struct Worker<'a, R, L: Drop, A: Drop, G> {
     desk: &'a ControlDesk,
     pass: WorkPass,
-    hand: Option<WorkKey>,
+    hand: Option<TakenKey>,
     tools: Tools<'a, R, L, A, G>,
     ghost sits: { IsPassAt desk.now pass },
-    ghost mine: { key_in_hand pass ≡ option_map work_key_of hand },
+    ghost mine: { key_in_hand pass ≡ key_taken hand },
 }
 
 impl<'a, R: Wait + Clock, L: Looking + Drop, A: Api + Drop, G: Gate> Worker<'a, R, L, A, G> {
@@ -65,8 +64,8 @@ impl<'a, R: Wait + Clock, L: Looking + Drop, A: Api + Drop, G: Gate> Worker<'a, 
             tools,
         } = self;
         match desk.take_key(tools.rt, pass) {
-            Ok(Some(key)) => {
-                *hand = Some(key);
+            Ok(Some(taken)) => {
+                *hand = Some(taken);
                 true
             }
             Ok(None) => false,
@@ -88,16 +87,16 @@ impl<'a, R: Wait + Clock, L: Looking + Drop, A: Api + Drop, G: Gate> Worker<'a, 
             hand,
             tools,
         } = self;
-        let Some(key) = hand else {
+        let Some(taken) = hand else {
             return true;
         };
-        let Ok(copy) = key.try_copy() else {
+        let Ok(copy) = taken.key.try_copy() else {
             tools.signals.stop.rest(tools.rt, PAUSE_MILLISECONDS);
             return true;
         };
-        tools.gate.before(key);
+        tools.gate.before(&taken.key);
         let turn = Turn::begin(tools.alloc, copy);
-        if !tools.turn(desk, pass, key, turn) {
+        if !tools.turn(desk, pass, taken, turn) {
             return false;
         }
         *hand = None;

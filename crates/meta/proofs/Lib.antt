@@ -1,3 +1,4 @@
+-- Read Tidied first: what is read of an object is one. StoredTexts has that a stored text is read back.
 pub mod ItemTexts
 pub mod LabelTexts
 pub mod StoredTexts

@@ -1,6 +1,6 @@
 //! Objects whose metadata is being written.
 #![tactic(auto)]
 
-pub mod draft;
+mod draft;
 
 pub use draft::Draft;

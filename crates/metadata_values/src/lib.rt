@@ -5,15 +5,15 @@
 //! a `Stopwatch` counts no time where it falls back. `tcp_client::WallClock` counts by one.
 #![tactic(auto)]
 
-pub mod clock_moments;
-pub mod labels;
+mod clock_moments;
+mod labels;
 pub mod laws;
-pub mod limits;
+mod limits;
 pub mod moments;
-pub mod object_labels;
+mod object_labels;
 pub mod revisions;
 pub mod stopwatch;
-pub mod subdomains;
+mod subdomains;
 pub mod uids;
 
 pub use clock_moments::{moment, moment_of};

@@ -4,10 +4,10 @@
 //! to see to, before it is stored. A comparison writes the texts of both. `replicaset` and `deployment` plan by these.
 #![tactic(auto)]
 
-pub mod copies;
+mod copies;
 pub mod digits;
 pub mod parts;
-pub mod values;
+mod values;
 
 pub use copies::{blank, inner, says_the_same};
 pub use parts::{in_spec, in_status, text_at, text_in, truth_at};

@@ -1,3 +1,4 @@
+-- Read KeyOrder first: the derived orders are those of ranks and names. SeenMaps and SeenSets have maps and sets by what their keys say.
 pub mod KeyOrder
 pub mod MapViews
 pub mod PerKinds

@@ -4,10 +4,10 @@
 //! given what comes after that place in the list that it asks for. `server` answers pages by these.
 #![tactic(auto)]
 
-pub mod pieces;
+mod pieces;
 pub(crate) mod reading;
-pub mod texts;
-pub mod tokens;
+mod texts;
+mod tokens;
 
 pub use pieces::{closing_text, opening_text, push_item};
 pub use texts::page_text;

@@ -5,15 +5,15 @@
 //! a creation that is observed twice counts twice. `watch_example` publishes with a `PlainInformer`; `manager::Handler` handles changes.
 #![tactic(auto)]
 
+pub(crate) mod key_lists;
 pub(crate) mod looking;
-pub mod owed;
-pub(crate) mod owing;
-pub mod plain;
-pub mod publisher;
-pub mod publishing;
+mod owed;
+mod plain;
+mod publisher;
+mod publishing;
 pub(crate) mod rollouts;
 mod sets;
-pub mod showing;
+mod showing;
 
 pub use indexer::{Indexed, Shift};
 pub use owed::keys_of;

@@ -7,8 +7,8 @@ ghost use Rattle.plain_informer.specs.Owed.{change_of};
 ghost use Rattle.reconcile_types.specs.Hands.{looks_of};
 ghost use Rattle.object_keys.specs.WorkKeys.{work_key_of};
 
+use crate::key_lists::{add_all, in_order};
 use crate::looking::{adopters, dependents_in};
-use crate::owing::{add_all, in_order};
 use crate::rollouts::{deployments_of_pod, is_same, push_all};
 use meta::{Kind, Object};
 use object_keys::{Key, PerKind, WorkKey};

@@ -1,3 +1,4 @@
+-- Read References and Owing first: what owes a look at a key. SetTurns, ItemTurns and DeploymentTurns have what each plan reads; StillPlans joins them.
 pub mod Elements
 pub mod Owing
 pub mod Maps

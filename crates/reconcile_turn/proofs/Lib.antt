@@ -1,3 +1,4 @@
+-- Read Steps first: the next step of a turn, by how far it is. Issues has what is issued as answers come.
 pub mod Turning
 pub mod Firsts
 pub mod Issues

@@ -5,7 +5,7 @@
 #![tactic(auto)]
 
 pub mod answers;
-pub mod expected;
+mod expected;
 pub mod next_steps;
 pub mod observing;
 pub(crate) mod planning;

@@ -4,12 +4,12 @@
 //! that it replaces, so that the server refuses what was planned of an older one. `collector` plans by looks and live reads.
 #![tactic(auto)]
 
-pub mod commands;
-pub mod counts;
-pub mod entries;
+mod commands;
+mod counts;
+mod entries;
 pub mod hands;
-pub mod seen;
-pub mod updates;
+mod seen;
+mod updates;
 
 pub use commands::{Command, Plan, Version};
 pub use counts::{count_in_spec, count_in_status, not_below_0};

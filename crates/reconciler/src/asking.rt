@@ -1,14 +1,15 @@
 //! What most controllers ask of a server.
-ghost use Rattle.std.specs.Prelude.{◌≡◌, IfOk, IfErr, None, Ok};
-ghost use Rattle.keyed_board.specs.declared.outcome.Outcome.TheVariants.{Done, Failed};
+ghost use Rattle.std.specs.Prelude.{◌≡◌, IfOk};
+ghost use Rattle.http_client.specs.declared.answer.Answer.{Answer};
 ghost use Rattle.object_keys.specs.Keys.{key_of};
 ghost use Rattle.request_parts.specs.Requests.{request_of};
-ghost use Rattle.reconciler.specs.Asked.{is_delete, is_done, outcome_of, AsksOne, deletes};
+ghost use Rattle.reconciler.specs.Asked.{is_delete, is_done, outcome_of, asked_by, AsksFor, deletes};
+ghost use Rattle.reconciler.specs.Traces.{Asks};
 
 use api_client::Api;
 use http_client::Answer;
 use http_client::statuses::{FIRST_REDIRECTION, NOT_FOUND, OK};
-use keyed_board::Outcome;
+use keyed_board::{Failure, Outcome};
 use lifecycle::DeleteOptions;
 use meta::Object;
 use object_keys::Key;
@@ -64,23 +65,32 @@ fn outcome_of(request: &Request, answer: &Answer) -> Outcome
             if is_done(request, reply.code) {
                 Outcome::Done
             } else {
-                Outcome::Failed
+                Outcome::Failed(Failure::Refused {
+                    code: reply.code,
+                    retry_after: reply.retry_after,
+                })
             }
         }
-        Answer::NotSent | Answer::Lost => Outcome::Failed,
+        Answer::NotSent | Answer::Lost => Outcome::Failed(Failure::NoReply),
     }
 }
 
-/// Asks what is to be asked for a key, if something is, and returns how it went: done where nothing is, where the server did it (a code from 200 to
-/// 299), or where what it was to delete is not there (404); failed at any other code, as at a conflict, where nothing came back, and where memory ran out.
-pub fn ask<A: Api>(alloc: Global, api: &mut A, next: Result<Option<Request>, AllocError>) -> Outcome
-    ensures nothing { next ≡ Ok None → result ≡ Done }
-    ensures err { IfErr next (λ e. result ≡ Failed) }
-    ensures asked { IfOk next (AsksOne A.answers api.old api.new result) }
+/// Asks a request of a server, and returns how that went.
+fn ask_one<A: Api>(alloc: Global, api: &mut A, request: &Request) -> Outcome
+    ensures { (answer : Answer) × A.answers api.old (request_of request.now) answer api.new × (result ≡ outcome_of (request_of request.now) answer) }
+{
+    outcome_of(request, &api.call(alloc, request))
+}
+
+/// Asks what is to be asked for a key, if something is, and nothing else, and returns how it went: done where nothing is, where the server did it (a code
+/// from 200 to 299), or where what it was to delete is not there (404). Else it failed, and it is said why: at any other code, as at a conflict, by that
+/// and by how long the server asks to be left alone; where nothing came back; or where it is given a failure in place of a request.
+pub fn ask<A: Api>(alloc: Global, api: &mut A, next: Result<Option<Request>, Failure>) -> Outcome
+    ensures { Asks A.answers api.old api.new (λ trace. AsksFor (asked_by next) trace result) }
 {
     match next {
-        Ok(Some(request)) => outcome_of(&request, &api.call(alloc, &request)),
+        Ok(Some(request)) => ask_one(alloc, api, &request),
         Ok(None) => Outcome::Done,
-        Err(_) => Outcome::Failed,
+        Err(failure) => Outcome::Failed(failure),
     }
 }

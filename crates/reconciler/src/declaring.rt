@@ -1,13 +1,16 @@
 //! Objects that a controller declares.
-ghost use Rattle.std.specs.Prelude.{◌≡◌, IfOk, [], codes, option_map, unwrap_or};
+ghost use Rattle.std.specs.Prelude.{◌≡◌, IfOk, IfErr, Ok, [], codes, option_map, unwrap_or};
 ghost use Rattle.serde_json.specs.View.{view};
 ghost use Rattle.spec_api.specs.Metadata.{version};
 ghost use Rattle.object_keys.specs.Keys.{key_of};
 ghost use Rattle.request_parts.specs.Requests.{request_of};
+ghost use Rattle.reconciler.specs.Guarded.{Refuses};
 ghost use Rattle.reconciler.specs.Declarations.{at_seen_version, brings_about, is_other_than, metadata_patch, named};
 
+use crate::guarding::guarded;
 use json_values::merging::merge;
 use json_values::values::has_float;
+use keyed_board::Failure;
 use meta::Object;
 use object_keys::Key;
 use request_parts::Request;
@@ -55,15 +58,17 @@ fn at_seen_version(alloc: Global, seen: &Object, declared: Value) -> Result<Valu
 
 /// Returns what has the object under a key be there and say what is declared, by what is shown of it. Where it is absent it is created, by the key's
 /// name. Where it says something else it is patched: what is declared is merged into it (RFC 7396), and the version that was seen is named, so that
-/// who wrote since makes it a conflict. Nothing is returned just where it says so already. A list is declared as a whole, so one that others add to,
-/// as `finalizers`, is not to be declared. The error is running out of memory.
+/// who wrote since makes it a conflict. Nothing is returned just where it says so already. A list is declared, and compared, as a whole: so one that others add to,
+/// as `finalizers`, is not to be declared, and one into whose items a server writes defaults, as `containers`, is to be declared with these, since it is
+/// patched again at each reconcile else. The errors are running out of memory, and that the object was seen without a version.
 pub fn create_or_patch(
     alloc: Global,
     key: Key,
     shown: Option<&Object>,
     declared: Value,
-) -> Result<Option<Request>, AllocError>
-    ensures { IfOk result (λ next. option_map request_of next ≡ brings_about (key_of key) (view declared) (option_map (λ o. o.now.value) shown.entry)) }
+) -> Result<Option<Request>, Failure>
+    ensures asked { IfOk result (λ next. brings_about (key_of key) (view declared) (option_map (λ o. o.now.value) shown.entry) ≡ Ok (option_map request_of next)) }
+    ensures refused { IfErr result (Refuses (brings_about (key_of key) (view declared) (option_map (λ o. o.now.value) shown.entry))) }
 {
     let Some(seen) = shown else {
         let body = named(alloc, key.name.as_str(), declared)?;
@@ -75,5 +80,5 @@ pub fn create_or_patch(
         return Ok(None);
     }
     let patch = at_seen_version(alloc, seen, declared)?;
-    Ok(Some(Request::Patch(key, patch)))
+    guarded(seen, Request::Patch(key, patch))
 }

@@ -54,13 +54,14 @@ fn owed_at<K: Named, C: Reconciler<K>>(
     controller: &C,
     objects: &Indexed,
     entries: &[Entry<'_>],
+    shown: &PerKind<Indexed>,
 ) -> Result<Vec<K>, AllocError>
-    ensures { IfOk result (λ keys. AreOwed C.owes (map (λ e. shift_at objects.now.members objects.now.members (key_of e.key.now)) entries.now) keys.items) }
+    ensures { IfOk result (λ keys. AreOwed (C.owes shown.now) (map (λ e. shift_at objects.now.members objects.now.members (key_of e.key.now)) entries.now) keys.items) }
 {
     let mut keys = Vec::new(alloc);
     for entry in entries {
         let change = unchanged_at(alloc, objects, entry.key)?;
-        let mut more = controller.keys_of(alloc, &change)?;
+        let mut more = controller.keys_of(alloc, &change, shown)?;
         keys.append(&mut more)?;
     }
     Ok(keys)
@@ -71,11 +72,12 @@ fn owed_in<K: Named, C: Reconciler<K>>(
     alloc: Global,
     controller: &C,
     objects: &Indexed,
+    shown: &PerKind<Indexed>,
 ) -> Result<Vec<K>, AllocError>
-    ensures { IfOk result (λ keys. AreOwed C.owes (unchanged objects.now.members) keys.items) }
+    ensures { IfOk result (λ keys. AreOwed (C.owes shown.now) (unchanged objects.now.members) keys.items) }
 {
     let entries = objects.list(alloc)?;
-    owed_at(alloc, controller, objects, entries.as_slice())
+    owed_at(alloc, controller, objects, entries.as_slice(), shown)
 }
 
 /// Returns the keys that all objects owe which are shown, of each kind: of one that is not followed nothing is. The error is running out of memory.
@@ -84,12 +86,12 @@ pub fn owed_again<K: Named, C: Reconciler<K>>(
     controller: &C,
     shown: &PerKind<Indexed>,
 ) -> Result<Vec<K>, AllocError>
-    ensures { IfOk result (λ keys. AreOwed C.owes (all_unchanged shown.now) keys.items) }
+    ensures { IfOk result (λ keys. AreOwed (C.owes shown.now) (all_unchanged shown.now) keys.items) }
 {
-    let config_maps = owed_in(alloc, controller, &shown.config_maps)?;
-    let pods = owed_in(alloc, controller, &shown.pods)?;
-    let replica_sets = owed_in(alloc, controller, &shown.replica_sets)?;
-    let deployments = owed_in(alloc, controller, &shown.deployments)?;
+    let config_maps = owed_in(alloc, controller, &shown.config_maps, shown)?;
+    let pods = owed_in(alloc, controller, &shown.pods, shown)?;
+    let replica_sets = owed_in(alloc, controller, &shown.replica_sets, shown)?;
+    let deployments = owed_in(alloc, controller, &shown.deployments, shown)?;
     let apps = joined(replica_sets, deployments)?;
     let later = joined(pods, apps)?;
     joined(config_maps, later)

@@ -23,9 +23,9 @@ fn declared(alloc: Global, shown: Option<&str>, phase: &str) -> Result<String, A
     let next = match shown {
         Some(text) => {
             let seen = object(alloc, Kind::ConfigMap, text)?;
-            create_or_patch(alloc, key, Some(&seen), wanted)?
+            create_or_patch(alloc, key, Some(&seen), wanted)
         }
-        None => create_or_patch(alloc, key, None, wanted)?,
+        None => create_or_patch(alloc, key, None, wanted),
     };
     told(alloc, next)
 }

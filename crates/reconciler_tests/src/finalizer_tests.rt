@@ -17,13 +17,13 @@ const TWO: &str =
 /// What is asked so that the Pod `a` has a finalizer.
 fn ensured(alloc: Global, finalizer: &str) -> Result<String, AllocError> {
     let (key, pod) = (key(alloc, Kind::Pod, "a")?, object(alloc, Kind::Pod, HELD)?);
-    told(alloc, ensure_finalizer(alloc, key, &pod, finalizer)?)
+    told(alloc, ensure_finalizer(alloc, key, &pod, finalizer))
 }
 
 /// What is asked so that the Pod `a` has a finalizer no longer.
 fn removed(alloc: Global, finalizer: &str) -> Result<String, AllocError> {
     let (key, pod) = (key(alloc, Kind::Pod, "a")?, object(alloc, Kind::Pod, HELD)?);
-    told(alloc, remove_finalizer(alloc, key, &pod, finalizer)?)
+    told(alloc, remove_finalizer(alloc, key, &pod, finalizer))
 }
 
 #[test]
@@ -44,4 +44,16 @@ fn a_finalizer_is_removed_and_no_other(rt: HostRuntime) {
 #[test]
 fn one_that_is_not_there_is_not_removed(rt: HostRuntime) {
     assert_text(&rt, &removed(rt.alloc(), "example.com/three"), "nothing");
+}
+
+/// What is asked so that a Pod that says no version has a finalizer.
+fn unversioned(alloc: Global) -> Result<String, AllocError> {
+    let pod = object(alloc, Kind::Pod, "{\"metadata\":{\"name\":\"a\"}}")?;
+    let key = key(alloc, Kind::Pod, "a")?;
+    told(alloc, ensure_finalizer(alloc, key, &pod, "example.com/one"))
+}
+
+#[test]
+fn what_says_no_version_is_not_written_to(rt: HostRuntime) {
+    assert_text(&rt, &unversioned(rt.alloc()), "the object says no version");
 }

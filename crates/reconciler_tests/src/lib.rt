@@ -11,3 +11,7 @@ mod finalizer_tests;
 mod mirror_tests;
 #[cfg(test)]
 mod scenes;
+#[cfg(test)]
+mod telling_tests;
+#[cfg(test)]
+mod watch_tests;

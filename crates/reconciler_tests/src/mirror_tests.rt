@@ -16,10 +16,10 @@ const CREATED: &str =
     "POST /api/v1/namespaces/default/configmaps {\"data\":{\"phase\":\"Running\"},\"metadata\":{\"name\":\"a\",\"ownerReferences\":[{\"apiVersion\":\"v1\",\"blockOwnerDeletion\":true,\"controller\":true,\"kind\":\"Pod\",\"name\":\"a\",\"uid\":\"u\"}]}}\ndone";
 
 const CONFLICT: &str =
-    "PATCH /api/v1/namespaces/default/configmaps/a {\"data\":{\"phase\":\"Running\"},\"metadata\":{\"resourceVersion\":\"5\"}}\nfailed";
+    "PATCH /api/v1/namespaces/default/configmaps/a {\"data\":{\"phase\":\"Running\"},\"metadata\":{\"resourceVersion\":\"5\"}}\nfailed: the server answers with 409";
 
 const LEFT: &str =
-    "DELETE /api/v1/namespaces/default/configmaps/a {\"preconditions\":{\"uid\":\"m\"}}\nfailed";
+    "DELETE /api/v1/namespaces/default/configmaps/a {\"preconditions\":{\"uid\":\"m\"}}\nfailed: the server does not reply";
 
 /// What a reconcile of the Pod `a` asks and how it ends, by these objects and answers.
 fn of_a(

@@ -2,7 +2,7 @@
 use indexer::Indexed;
 use meta::Object;
 use object_keys::{Key, PerKind};
-use reconciler::{Outcome, Reconciler};
+use reconciler::{Failure, Outcome, Reconciler};
 use reflector::{Delta, SharedObject};
 use request_parts::Request;
 use scripted_api::{Script, ScriptedAnswer, line_of};
@@ -54,11 +54,11 @@ pub(crate) fn shown(
 }
 
 /// Returns what an outcome is called.
-fn called(outcome: Outcome) -> &'static str {
+fn called(alloc: Global, outcome: Outcome) -> Result<String, AllocError> {
     match outcome {
-        Outcome::Done => "done",
-        Outcome::LookAgain { .. } => "look again",
-        Outcome::Failed => "failed",
+        Outcome::Done => String::from_str(alloc, "done"),
+        Outcome::LookAgain { .. } => String::from_str(alloc, "look again"),
+        Outcome::Failed(failure) => format!(in alloc; "failed: {failure}"),
     }
 }
 
@@ -79,14 +79,19 @@ pub(crate) fn reconciled<C: Reconciler<Key>>(
         text.push_str(line.as_str())?;
         text.push_str("\n")?;
     }
-    text.push_str(called(outcome))?;
+    text.push_str(called(alloc, outcome)?.as_str())?;
     Ok(text)
 }
 
-/// Returns the line of a request, and `nothing` where there is none.
-pub(crate) fn told(alloc: Global, next: Option<Request>) -> Result<String, AllocError> {
-    let Some(request) = next else {
-        return String::from_str(alloc, "nothing");
+/// Returns the line of a request, `nothing` where there is none, and why it is not to be asked.
+pub(crate) fn told(
+    alloc: Global,
+    next: Result<Option<Request>, Failure>,
+) -> Result<String, AllocError> {
+    let request = match next {
+        Ok(Some(request)) => request,
+        Ok(None) => return String::from_str(alloc, "nothing"),
+        Err(failure) => return format!(in alloc; "{failure}"),
     };
     match line_of(alloc, &request)? {
         Some(line) => Ok(line),

@@ -9,7 +9,7 @@ ghost use Rattle.reconcile_types.specs.Commands.{command_of, commands_of};
 ghost use Rattle.reconcile_types.specs.Entries.{entry_of};
 ghost use Rattle.reconcile_types.specs.Hands.{hand_of};
 
-use crate::claiming::claim_pods;
+use crate::claim_commands::claim_pods;
 use crate::claims::{may_adopt, selector_of};
 use crate::looked_at::{pods_looked_at, set_looked_at};
 use crate::ranks::Ranked;

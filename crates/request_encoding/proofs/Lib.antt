@@ -1,3 +1,4 @@
+-- Read Routed first: the path of a route is read as that route. ScopesAsked has what a server takes each target for.
 pub mod Segments
 pub mod Routed
 pub mod Asked

@@ -7,15 +7,15 @@
 
 pub mod asking;
 pub(crate) mod checks;
-pub mod collection_targets;
+mod collection_targets;
 pub mod deletes;
-pub mod faults;
+mod faults;
 pub mod laws;
 pub(crate) mod queries;
-pub mod scopes;
+mod scopes;
 pub mod targets;
 pub mod telling;
-pub mod text;
+mod text;
 
 pub use asking::request_text;
 pub use collection_targets::{list_target, page_target, stream_target, watch_target};

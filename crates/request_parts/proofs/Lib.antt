@@ -1,3 +1,4 @@
+-- Read Wholes first: the parts of a request's reading make the whole. Found has the table of routes.
 pub mod LimitTexts
 pub mod TokenTexts
 pub mod Wholes

@@ -8,6 +8,7 @@ ghost use Rattle.request_parts.specs.Seen.{ReadsBody};
 
 use serde_json::Value;
 use std::alloc::Global;
+use thiserror::Error;
 
 /// The greatest length of a body, in bytes.
 pub const LONGEST_BODY: usize = 1_048_576;
@@ -20,11 +21,13 @@ pub fn is_too_long(text: &[u8]) -> bool
 }
 
 /// Why a body is not read.
-#[derive(Clone, Copy)]
+#[derive(Debug, Clone, Copy, Error)]
 pub enum BodyFault {
     /// It is no JSON in UTF-8.
+    #[error("the body is no JSON")]
     NotJson,
     /// Memory was wanted and refused.
+    #[error("out of memory")]
     NoMemory,
 }
 

@@ -14,15 +14,19 @@ use spec_api::methods::Method;
 use spec_api::refusals::Part;
 use std::alloc::{AllocError, Global};
 use std::borrow::CowStr;
+use thiserror::Error;
 
 /// Why a request is refused before its query is read, by the first check that it does not pass.
-#[derive(Clone, Copy)]
+#[derive(Debug, Clone, Copy, Error)]
 pub enum CheckFault {
     /// The path names nothing that is served.
+    #[error("the path names nothing that is served")]
     NoSuchPath,
     /// The path names what cannot be a namespace.
+    #[error("the path names what cannot be a namespace")]
     BadNamespace,
     /// What the path names does not serve the method.
+    #[error("the path does not serve the method")]
     MethodNotAllowed,
 }
 

@@ -7,24 +7,30 @@ ghost use Rattle.request_parts.specs.declared.faults.QueryFault.TheVariants as q
 use object_keys::Fault;
 use spec_api::refusals::Part;
 use std::alloc::AllocError;
+use thiserror::Error;
 
 /// Why a query is not read.
-#[derive(Clone, Copy)]
+#[derive(Debug, Clone, Copy, Error)]
 pub enum QueryFault {
     /// It is not understood, or not served so far.
+    #[error("the query is not understood")]
     BadQuery,
     /// All else is understood, but its page token is none.
+    #[error("the page token is none")]
     BadToken,
     /// Memory was wanted and refused.
+    #[error("out of memory")]
     NoMemory,
 }
 
 /// Why a member of a query, which is no page token, is not read.
-#[derive(Clone, Copy)]
+#[derive(Debug, Clone, Copy, Error)]
 pub enum MemberFault {
     /// It is not understood.
+    #[error("the query is not understood")]
     BadQuery,
     /// Memory was wanted and refused.
+    #[error("out of memory")]
     NoMemory,
 }
 

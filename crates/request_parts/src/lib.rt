@@ -15,7 +15,7 @@ pub mod line;
 pub mod list_options;
 pub(crate) mod members;
 pub mod query;
-pub mod request;
+mod request;
 pub mod table;
 pub mod targets;
 pub mod watch_options;

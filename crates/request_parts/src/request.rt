@@ -23,3 +23,23 @@ pub enum Request {
     /// The object under a key removed, or being deleted from then on, by these options.
     Delete(Key, DeleteOptions),
 }
+
+impl Request {
+    ghost use Rattle.std.specs.Prelude.{◌≡◌};
+    ghost use Rattle.request_parts.specs.Requests.{kind_named, request_of};
+
+    /// Returns the kind of the objects that the request names. It takes no memory.
+    pub fn kind(&self) -> Kind
+        ensures { result ≡ kind_named (request_of self.now) }
+    {
+        match self {
+            Request::List(view) => view.kind,
+            Request::Create(kind, _, _) => *kind,
+            Request::Get(key)
+            | Request::Update(key, _)
+            | Request::UpdateStatus(key, _)
+            | Request::Patch(key, _)
+            | Request::Delete(key, _) => key.kind,
+        }
+    }
+}

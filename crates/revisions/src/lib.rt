@@ -2,7 +2,7 @@
 #![tactic(auto)]
 
 mod changes;
-pub mod journal;
+mod journal;
 pub mod making;
 pub mod past;
 pub mod watched;

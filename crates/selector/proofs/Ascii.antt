@@ -7,6 +7,7 @@ use Rattle.std.proofs.lemmas.List.Sums.{split_at_first, passes_at_first}
 use Rattle.std.specs.List.{list_all, list_any, slice_split, onto_first, before_first, after_first, position_or_len}
 use Rattle.std.specs.Str.{IsAscii, IsUtf8}
 use Rattle.spec_api.proofs.FirstPlaces.{some-place}
+use Rattle.spec_api.proofs.LabelBytes.{is_domain_byte, is_dot, labels-bytes, onto}
 use Rattle.spec_api.proofs.Truths.{and_true, left_true, right_true}
 use Rattle.spec_api.specs.Keys.{is_letter_or_digit, is_label, is_subdomain}
 use Rattle.spec_api.specs.Labels.{is_name_byte, is_alphanumeric, is_short_name, is_label_value, is_label_key, is_slash}
@@ -17,12 +18,6 @@ name-small b h = grind (arith, nat_tests)
 
 domain-small : (b : ℕ) → (is_letter_or_digit b || (b == 45)) ≡ true → b < 128
 domain-small b h = grind (arith, nat_tests)
-
-abbrev is_domain_byte : ℕ → Bool
-is_domain_byte b = is_letter_or_digit b || (b == 45)
-
-abbrev is_dot : ℕ → Bool
-is_dot b = b == 46
 
 slash-small : (b : ℕ) → is_slash b ≡ true → b < 128
 slash-small b h = grind (arith, nat_tests)
@@ -46,13 +41,6 @@ parts-ascii : (t : List ℕ) → list_all (list_all is_domain_byte) (slice_split
 parts-ascii [] h = IsAscii-nil
 parts-ascii (b ∷ t) h = by (is_dot b) (λ g. parts-ascii t g) refl
   where
-    onto : (c : ℕ) (ps : List (List ℕ)) → list_all (list_all is_domain_byte) (onto_first c ps) ≡ true → (is_domain_byte c ≡ true) × (list_all (list_all is_domain_byte) ps ≡ true)
-    onto c [] h = (left_true (is_domain_byte c) true (left_true (is_domain_byte c && true) true h), refl)
-    onto c (p ∷ ps) h =
-        let front = left_true (is_domain_byte c && list_all is_domain_byte p) (list_all (list_all is_domain_byte) ps) h in
-        let back = right_true (is_domain_byte c && list_all is_domain_byte p) (list_all (list_all is_domain_byte) ps) h in
-        (left_true (is_domain_byte c) (list_all is_domain_byte p) front, and_true (list_all is_domain_byte p) (list_all (list_all is_domain_byte) ps) (right_true (is_domain_byte c) (list_all is_domain_byte p) front) back)
-
     by : (v : Bool) → (list_all (list_all is_domain_byte) (slice_split is_dot t) ≡ true → IsAscii t) → is_dot b ≡ v → IsAscii (b ∷ t)
     by true more e =
         let g : list_all (list_all is_domain_byte) (slice_split is_dot t) ≡ true = rw e at h in
@@ -62,19 +50,6 @@ parts-ascii (b ∷ t) h = by (is_dot b) (λ g. parts-ascii t g) refl
         let g : list_all (list_all is_domain_byte) (onto_first b (slice_split is_dot t)) ≡ true = rw e at h in
         let o = onto b (slice_split is_dot t) g in
         IsAscii-cons b t (domain-small b o.0) (more o.1)
-
-label-bytes : (t : List ℕ) → is_label t ≡ true → list_all is_domain_byte t ≡ true
-label-bytes t h =
-    let long = nat_lt 0 (length t) in
-    let names = list_all is_domain_byte t in
-    let begins = is_letter_or_digit (slice_index t 0) in
-    let ends = is_letter_or_digit (slice_index t (length t - 1)) in
-    right_true long names (left_true (long && names) begins (left_true (long && names && begins) ends h))
-
-labels-bytes : (ps : List (List ℕ)) → list_all is_label ps ≡ true → list_all (list_all is_domain_byte) ps ≡ true
-labels-bytes [] h = refl
-labels-bytes (p ∷ ps) h =
-    and_true (list_all is_domain_byte p) (list_all (list_all is_domain_byte) ps) (label-bytes p (left_true (is_label p) (list_all is_label ps) h)) (labels-bytes ps (right_true (is_label p) (list_all is_label ps) h))
 
 subdomain-ascii : (t : List ℕ) → is_subdomain t ≡ true → IsAscii t
 subdomain-ascii t h = parts-ascii t (labels-bytes (slice_split is_dot t) (left_true (list_all is_label (slice_split is_dot t)) (nat_le (length t) 253) h))

@@ -3,15 +3,15 @@
 #![tactic(auto)]
 
 mod cuts;
-pub mod faults;
-pub mod fields;
-pub mod labels;
+mod faults;
+mod fields;
+mod labels;
 mod owned;
 pub mod requirement_values;
-pub mod selectors;
+mod selectors;
 pub mod texts;
 mod values;
-pub mod views;
+mod views;
 
 pub use faults::{PartFault, SelectorFault};
 pub use fields::Fields;

@@ -1,3 +1,4 @@
+-- Read Windows first: what is always true of a server's windows. Watches and Pages have what is given of them.
 pub mod Begun
 pub mod Pages
 pub mod Sent

@@ -24,6 +24,7 @@ use Rattle.keyed_queues.specs.Queues.{KeyQueue, added, added_all, got, handed}
 use Rattle.keyed_board.specs.Boards.{KeyBoard, moment_in}
 use Rattle.keyed_board.specs.Steps.{Step, add, add_after, take, finish, tick, shut_down, after}
 use Rattle.keyed_board.specs.declared.outcome.Outcome.{Outcome}
+use Rattle.keyed_board.specs.Patience.{milliseconds_asked}
 use Rattle.keyed_board.specs.declared.outcome.Outcome.TheVariants.{Done, LookAgain, Failed}
 use Rattle.keyed_board.proofs.Shutting.{added_shut, all_added_shut, got_shut, done_shut}
 use Rattle.shared_keyed_board.specs.Histories.{History, board, MayFollow}
@@ -136,8 +137,8 @@ module _ {N : Type 0} (R : N → N → Ordering) (total : IsTotalOrder R) (tells
   finish_awaited : (j : N) (o : Outcome) (b : KeyBoard R) → IsAwaited b → IsAwaited (after b (finish j o))
   finish_awaited j Done b a = both b.work (queues.done j b.work) b.delays b.delays (done_wants j b.work) (λ d. d) a
   finish_awaited j (LookAgain n) b a = both b.work (queues.done j b.work) b.delays (delayed j (moment_in n b) b.delays) (done_wants j b.work) (put_waits j (moment_in n b) b.delays) a
-  finish_awaited j Failed b a =
-      let at = moment_in (delay_after (failures j b.failures)) b in both b.work (queues.done j b.work) b.delays (delayed j at b.delays) (done_wants j b.work) (put_waits j at b.delays) a
+  finish_awaited j (Failed failure) b a =
+      let at = moment_in (max (delay_after (failures j b.failures)) (milliseconds_asked failure)) b in both b.work (queues.done j b.work) b.delays (delayed j at b.delays) (done_wants j b.work) (put_waits j at b.delays) a
 
   step_awaited : (h : History N) (name : ℕ) (e : Step N) → MayFollow R h name e → IsOpen R (board R h) → IsAwaited (board R h) → IsAwaited (after (board R h) e) ⊎ (e ≡ take k)
   step_awaited h name (add ks) may o a = inl (both (board R h).work (added_all ks (board R h).work) (board R h).delays (board R h).delays (all_added_wants ks (board R h).work) (λ d. d) a)
@@ -160,10 +161,10 @@ module _ {N : Type 0} (R : N → N → Ordering) (total : IsTotalOrder R) (tells
   asked b (take j) q o = absurd q
   asked b (finish j Done) q o = absurd q
   asked b (finish j (LookAgain n)) q o = inr (subst (λ (i : N). map.contains_key (delayed i (moment_in n b) b.delays) k ≡ true) (sym q) (put_itself (moment_in n b) b.delays))
-  asked b (finish j Failed) q o =
+  asked b (finish j (Failed failure)) q o =
       inr
-      (subst (λ (i : N). map.contains_key (delayed i (moment_in (delay_after (failures i b.failures)) b) b.delays) k ≡ true) (sym q)
-      (put_itself (moment_in (delay_after (failures k b.failures)) b) b.delays))
+      (subst (λ (i : N). map.contains_key (delayed i (moment_in (max (delay_after (failures i b.failures)) (milliseconds_asked failure)) b) b.delays) k ≡ true) (sym q)
+      (put_itself (moment_in (max (delay_after (failures k b.failures)) (milliseconds_asked failure)) b) b.delays))
   asked b (tick now) q o = absurd q
   asked b shut_down q o = absurd q
 

@@ -80,7 +80,7 @@ module _ {N : Type 0} (R : N → N → Ordering) where
   pub finished_work : (k : N) (o : Outcome) (b : KeyBoard R) → (after b (finish k o)).work ≡ queues.done k b.work
   finished_work k Done b = refl
   finished_work k (LookAgain milliseconds) b = refl
-  finished_work k Failed b = refl
+  finished_work k (Failed failure) b = refl
 
 module _ {N : Type 0} (R : N → N → Ordering) (total : IsTotalOrder R) where
   all_added_sound : (ks : List N) (w : KeyQueue R) → IsSound R total w → IsSound R total (added_all ks w)

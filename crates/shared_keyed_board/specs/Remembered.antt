@@ -17,7 +17,7 @@ Asks k (add_after j milliseconds) = j ≡ k
 Asks k (take j) = ⊥
 Asks k (finish j Done) = ⊥
 Asks k (finish j (LookAgain milliseconds)) = j ≡ k
-Asks k (finish j Failed) = j ≡ k
+Asks k (finish j (Failed failure)) = j ≡ k
 Asks k (tick now) = ⊥
 Asks k shut_down = ⊥
 

@@ -3,18 +3,18 @@
 #![tactic(auto)]
 
 mod attempt;
-pub mod board_law;
-pub mod boards;
+mod board_law;
+mod boards;
 mod doing;
 pub mod entries;
-pub mod gathering;
+mod gathering;
 mod giving;
-pub mod handling;
-pub mod hands;
+mod handling;
+mod hands;
 pub mod laws;
 mod steps;
-pub mod turns;
-pub mod waiting;
+mod turns;
+mod waiting;
 
 pub use board_law::BoardLaw;
 pub use boards::{BoardPass, SharedKeyedBoard};

@@ -118,8 +118,8 @@ impl<K: Named> SharedKeyedBoard<K> {
     }
 
     /// Gives back the key in the hands of the pass. Unless all is done it is added again after a while: as long as the worker says, or
-    /// after a failure 5 milliseconds, twice as long after each that follows, and at most 1,000 seconds. The error is running out of
-    /// memory, and gives nothing back: the key is still in the hands of the pass.
+    /// after a failure 5 milliseconds, twice as long after each that follows, and at most 1,000 seconds; and no sooner than a server asks
+    /// that refused it. The error is running out of memory, and gives nothing back: the key is still in the hands of the pass.
     pub fn finish<R: Wait>(
         &self,
         rt: &R,

@@ -5,8 +5,8 @@ pub(crate) mod alone;
 pub(crate) mod chunks;
 pub(crate) mod cutting;
 pub(crate) mod entries;
-pub mod left;
-pub mod map;
+mod left;
+mod map;
 pub(crate) mod ranges;
 
 pub use left::EntriesLeft;

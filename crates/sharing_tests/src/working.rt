@@ -25,7 +25,7 @@ fn key(alloc: Global, worker: u64, number: u64) -> Result<WorkKey, AllocError> {
     })
 }
 
-/// Adds a key of a worker.
+/// Adds a key of a worker, as one that a ReplicaSet owes.
 fn add<R: Wait>(
     rt: &R,
     alloc: Global,
@@ -39,7 +39,7 @@ fn add<R: Wait>(
     ensures key { key_in_hand pass.new ≡ key_in_hand pass.old }
 {
     let key = key(alloc, worker, number)?;
-    desk.observe(rt, pass, &[], &[key])
+    desk.observe(rt, pass, Kind::ReplicaSet, number, &[], &[key])
 }
 
 /// Takes a key, whoever added it, gives it back, and counts it. Returns whether one waited.
@@ -49,10 +49,10 @@ fn handle<R: Wait>(rt: &R, desk: &ControlDesk, pass: &mut WorkPass, handled: &At
     ensures pass { IsPassAt desk.now pass.new }
     ensures free { key_in_hand pass.new ≡ None }
 {
-    let Ok(Some(key)) = desk.take_key(rt, pass) else {
+    let Ok(Some(taken)) = desk.take_key(rt, pass) else {
         return false;
     };
-    desk.done(rt, pass, &key);
+    desk.done(rt, pass, &taken.key);
     handled.fetch_add(1, Ordering::SeqCst);
     true
 }

@@ -1,3 +1,4 @@
+-- Read Stood first: a stored cluster stands for a cluster, step after step. Headlines has what holds of every cluster.
 pub mod Stood
 pub mod Headlines
 pub mod Answered

@@ -4,10 +4,10 @@
 //! so that it grows with each write. `sim_manager` has workers beside one, and `world_tests` takes random steps.
 #![tactic(auto)]
 
-pub mod changes;
-pub mod clusters;
-pub mod requested;
-pub mod stopped;
+mod changes;
+mod clusters;
+mod requested;
+mod stopped;
 
 pub use clusters::Cluster;
 pub use stopped::Stopped;

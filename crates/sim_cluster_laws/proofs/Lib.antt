@@ -1,3 +1,4 @@
+-- Read Moving first: each move leaves a follower that follows the server. Runs takes it over every list of steps; LeadRuns and PassRuns are of the deltas that wait.
 pub mod Appending
 mod Delivering
 pub mod Feeding

@@ -1,3 +1,4 @@
+-- Read PlaneRuns first: the server's history is reached, and followers follow it, whatever steps are taken. Spared has that the collector spares what has a live owner.
 pub mod Asking
 pub mod PlaneRuns
 pub mod Replacing

@@ -5,11 +5,11 @@
 #![tactic(auto)]
 
 mod beginnings;
-pub mod followers;
-pub mod links;
-pub mod notifications;
-pub mod openings;
-pub mod outcomes;
+mod followers;
+mod links;
+mod notifications;
+mod openings;
+mod outcomes;
 
 pub use followers::SimulatedFollower;
 pub use links::Link;

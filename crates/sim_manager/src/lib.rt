@@ -4,10 +4,10 @@
 
 mod acting;
 mod issuing;
-pub mod manager;
-pub mod outcomes;
+mod manager;
+mod outcomes;
 mod seeing;
-pub mod told_outcomes;
+mod told_outcomes;
 
 pub use manager::Manager;
 pub use outcomes::WorkOutcome;

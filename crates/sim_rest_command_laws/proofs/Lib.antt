@@ -1,3 +1,4 @@
+-- Read Leads first: changes that owed nothing, where each change owes the key, are none. Collecting and Deleting have the collector's first commands.
 pub mod Leads
 pub mod Deletes
 pub mod UnderNames

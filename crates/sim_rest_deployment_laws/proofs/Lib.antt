@@ -1,3 +1,4 @@
+-- Read Plans first: what a Deployment's plan commands. FirstCommands has that the first of these owes its key; the others are what it rests on.
 pub mod EditedSets
 pub mod ReadSets
 pub mod Looked

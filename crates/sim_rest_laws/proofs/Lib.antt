@@ -1,3 +1,4 @@
+-- Read TurnSteps first: what a step makes of a turn in hand. LastTurns and Still have what is so at rest; Whole joins the laws of runs with what is left.
 pub mod Kept
 pub mod LastTurns
 pub mod Shifted

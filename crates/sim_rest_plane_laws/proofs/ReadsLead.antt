@@ -156,11 +156,11 @@ pub all_later : (P : Shift → Type 0) (xs ys : List Shift) → AllByRecursion P
 all_later P [] ys a = a
 all_later P (x ∷ xs) ys a = all_later P xs ys a.1
 
-all_earlier : (P : Shift → Type 0) (xs ys : List Shift) → AllByRecursion P (xs ++ ys) → AllByRecursion P xs
+pub all_earlier : (P : Shift → Type 0) (xs ys : List Shift) → AllByRecursion P (xs ++ ys) → AllByRecursion P xs
 all_earlier P [] ys a = tt
 all_earlier P (x ∷ xs) ys a = (a.0, all_earlier P xs ys a.1)
 
-none_before : (ds es : List Delta) → NoReplace (ds ++ es) → NoReplace ds
+pub none_before : (ds es : List Delta) → NoReplace (ds ++ es) → NoReplace ds
 none_before [] es n = tt
 none_before (replace r os ∷ ds) es n = absurd n
 none_before (put o ∷ ds) es n = none_before ds es n

@@ -39,7 +39,7 @@ use Rattle.sim_rest_laws.proofs.ShiftRuns.{members_run, run_both, none_split, no
 use Rattle.sim_rest_laws.proofs.Still.{all_from, unowed}
 use Rattle.sim_rest_laws.proofs.Whole.{begins_at}
 use Rattle.sim_rest_plane_laws.specs.PlanePassLaws.{WroteUnowed, LastWritesAreUnowed}
-use Rattle.sim_rest_plane_laws.proofs.ReadsLead.{Through, through, all_later, found_in, still_told, at_end, after_is, none_replaced, apply_both, ascending_at, reaches}
+use Rattle.sim_rest_plane_laws.proofs.ReadsLead.{Through, through, all_later, found_in, still_told, at_end, after_is, none_replaced, apply_both, ascending_at, reaches, none_before, all_earlier}
 
 -- ---- what is accepted was delivered
 
@@ -74,17 +74,6 @@ pub happens : (p : ControlPlane) (w : ℕ) (t : Turn) (x : Command) → HasInHan
 happens p w t x here is =
     by_counted (λ c m o. history c ≡ history_after (history p.cluster) (accept (requested t x) (history p.cluster) p.cluster.session.moment)) (step_in p (works w (action.issue delivered)))
     (ap (λ (a : Acted). history (after_request a.request p.cluster)) (issues_act (client p.cluster) w t x p.manager here is))
-
-none_first : (ds es : List Delta) → NoReplace (ds ++ es) → NoReplace ds
-none_first [] es n = tt
-none_first (replace r os ∷ ds) es n = absurd n
-none_first (put o ∷ ds) es n = none_first ds es n
-none_first (remove r k ∷ ds) es n = none_first ds es n
-none_first (mark r ∷ ds) es n = none_first ds es n
-
-all_first : (P : Shift → Type 0) (xs ys : List Shift) → AllByRecursion P (xs ++ ys) → AllByRecursion P xs
-all_first P [] ys a = tt
-all_first P (x ∷ xs) ys a = (a.0, all_first P xs ys a.1)
 
 record Between (h : History) (k : Kind) (s : Snapshot) (ds : List Delta) (a b : ℕ) : Type 0 where
   first : List Delta
@@ -173,7 +162,7 @@ module _ (window workers : ℕ) (initial : InitialSync) (before after : List Ste
       let mid = apply_deltas ms bt.first in
       let ss = all_shifts mid bt.middle in
       let none = subst NoReplace bt.is (none_replaced window workers initial before after j t' once rest z x (s ∷ y) k e) in
-      let none_mid = none_first bt.middle bt.last (none_later bt.first (bt.middle ++ bt.last) none) in
+      let none_mid = none_before bt.middle bt.last (none_later bt.first (bt.middle ++ bt.last) none) in
       let none_x = (none_split (z.before ++ works z.worker action.take ∷ x) (s ∷ y) (subst NoRestart (after_is window workers initial before after j t' once rest z x (s ∷ y) e) once.none)).0 in
       let none_y = (none_split x (s ∷ y) (subst NoRestart e z.none)).1 in
       let led = lead_deltas w.key bt.middle mid none_mid (ascending_deltas bt.first ms (ascending_at window workers initial before after j t' once rest z x k none_x)) in
@@ -205,7 +194,7 @@ module _ (window workers : ℕ) (initial : InitialSync) (before after : List Ste
         ts,
         subst (λ o. Lead w.key o ss w.put) was (subst (Lead w.key (found w.key mid) ss) is led),
         subst (λ o. Lead w.key o ts (state h (present h) w.key)) is (subst (Lead w.key (found w.key next) ts) is_now on_led),
-        all_first (OwedNothing j (ShownIn q since)) ss ts owed,
+        all_earlier (OwedNothing j (ShownIn q since)) ss ts owed,
         all_later (OwedNothing j (ShownIn q since)) ss ts owed,
       )
     where

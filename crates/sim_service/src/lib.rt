@@ -4,10 +4,10 @@
 //! lines, and `conformance/simulate/cases` has worked ones.
 #![tactic(auto)]
 
-pub mod runs;
+mod runs;
 pub mod service_laws;
-pub mod simulations;
-pub mod telling;
+mod simulations;
+mod telling;
 
 pub use runs::simulate;
 pub use simulations::Simulation;

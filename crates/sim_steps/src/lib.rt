@@ -4,12 +4,12 @@
 //! it is taken, only the world knows that takes it. `docs/SIMULATE.md` lists the lines.
 #![tactic(auto)]
 
-pub mod actions;
-pub mod asked;
-pub mod config;
-pub mod moves;
-pub mod plane_steps;
-pub mod steps;
+mod actions;
+mod asked;
+mod config;
+mod moves;
+mod plane_steps;
+mod steps;
 mod words;
 
 pub use actions::{Action, Delivery};

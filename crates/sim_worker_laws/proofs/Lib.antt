@@ -1,3 +1,4 @@
+-- Read Acting first: an action is closed, takes a key, or goes on with a turn. HandRuns, IssuedRuns and LookRuns are the laws over every list of steps.
 pub mod Acting
 mod Actions
 pub mod Counting

@@ -8,7 +8,7 @@ pub mod answering;
 pub mod copies;
 pub mod issued;
 pub mod lines;
-pub mod slots;
+mod slots;
 mod steps_next;
 mod words;
 

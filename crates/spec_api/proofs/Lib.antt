@@ -1,15 +1,19 @@
+-- Read PutLaws first: what is found after an insert into entries in order. VerbSteps has what is left of each verb once its first checks are passed.
 pub mod EscapedTexts
 pub mod FirstPlaces
 pub mod FirstStatus
 pub mod FoundMembers
 pub mod JsonMembers
 pub mod KindOrder
+pub mod LabelBytes
+pub mod NextTexts
 pub mod NoFloatsRead
 pub mod OnLiterals
 pub mod PageLists
 pub mod PathForms
 pub mod PutLaws
 pub mod RevisionTexts
+pub mod SameFound
 pub mod TokenTexts
 pub mod TokensOfData
 pub mod TokensRead

@@ -1,3 +1,4 @@
+-- Read KeyQueueRuns first: what each call on a queue keeps. Due and DueKeys have which keys are due.
 pub mod WorkKeyOrder
 pub mod Alarms
 pub mod Due

@@ -1,3 +1,4 @@
+-- Read Meanings first: what bytes ask, and what else they cannot ask. Staying and Halves are the laws of bytes that go on, or are cut; Asked and Read those of what is written.
 pub mod OnLiterals
 pub mod Fields
 pub mod Meanings

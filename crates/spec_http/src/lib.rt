@@ -8,7 +8,7 @@ pub mod connection_laws;
 pub mod head_examples;
 pub mod reply_examples;
 pub mod reply_laws;
-pub mod request;
+mod request;
 pub mod request_laws;
 
 pub use request::request_head;

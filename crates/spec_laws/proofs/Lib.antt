@@ -1,3 +1,5 @@
+-- Read Runs and Reaching first: what is true after any lines, and of everything reached, one step after another. Then by subject: VerbLaws (verbs), Parsed and
+-- ReadAgain (what is stored reads as itself), Looks and InitialStreams (watches), JoinedPages (lists), PlanLaws, DeploymentPlans and Garbage (plans).
 pub mod Awaited
 pub mod WorkQueueRuns
 pub mod Cases

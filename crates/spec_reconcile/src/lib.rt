@@ -1,8 +1,8 @@
 //! What controllers plan, as mathematics: what they read live, and what they command of what a worker has read in its turn.
 #![tactic(auto)]
 
-pub mod rollouts;
-pub mod standing;
+mod rollouts;
+mod standing;
 
 pub use rollouts::{Pace, Summary, Tally};
 pub use standing::Standing;

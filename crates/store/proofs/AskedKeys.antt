@@ -14,6 +14,7 @@ use Rattle.std.specs.BTreeMap.Range.{entries_between, range_contains}
 use Rattle.std.specs.Str.{bytes_eq}
 use Rattle.std.specs.declared.ops.Bound.TheVariants.{Included, Excluded, Unbounded}
 use Rattle.serde_json.specs.Data.{Data}
+use Rattle.spec_api.proofs.NextTexts.{nil_first, then_next, zero_next}
 use Rattle.spec_api.specs.History.{View, Entries, in_view, in_namespace, viewed}
 use Rattle.spec_api.specs.Kinds.{rank, kind_after}
 use Rattle.spec_api.proofs.KindOrder.{rank_after, last_rank}
@@ -34,10 +35,6 @@ use Rattle.store.specs.Seen.{members_seen}
 use Rattle.store.proofs.SeenMaps.{key_cmp}
 
 -- ---- texts
-
-nil_first : (t : List ℕ) → is_le (slice_cmp nat_cmp [] t) ≡ true
-nil_first [] = refl
-nil_first (x ∷ t) = refl
 
 zero_after : (t : List ℕ) → slice_cmp nat_cmp (t ++ 0 ∷ []) t ≡ Greater
 zero_after [] = refl
@@ -155,19 +152,6 @@ first-later a b = by (is_lt (name_cmp a b)) refl
     by false is = ap is_le (tied_itself name_total a)
 
 -- ---- after a place
-
-then_next : (o r q : Ordering) → is_le r ≡ is_lt q → is_le (ordering_then o r) ≡ is_lt (ordering_then o q)
-then_next Less r q same = refl
-then_next Equal r q same = same
-then_next Greater r q same = refl
-
--- the texts that are no earlier than a text and a zero are those after the text
-zero_next : (s t : List ℕ) → is_le (slice_cmp nat_cmp (s ++ 0 ∷ []) t) ≡ is_lt (slice_cmp nat_cmp s t)
-zero_next [] [] = refl
-zero_next [] (zero ∷ t) = nil_first t
-zero_next [] (suc y ∷ t) = grind arith
-zero_next (x ∷ s) [] = refl
-zero_next (x ∷ s) (y ∷ t) = then_next (nat_cmp x y) (slice_cmp nat_cmp (s ++ 0 ∷ []) t) (slice_cmp nat_cmp s t) (zero_next s t)
 
 -- the names of a kind that are no earlier than the first after a place are those after it
 next_place : (j : Kind) (p : Place) (k : Name) → rank j ≡ rank k.kind → is_le (name_cmp (first_after j p) k) ≡ is_after (Some p) k

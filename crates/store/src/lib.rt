@@ -1,15 +1,15 @@
 //! The objects that are there, and the present revision; how many there may be.
 #![tactic(auto)]
 
-pub mod chunks;
-pub mod limits;
-pub mod members;
+mod chunks;
+mod limits;
+mod members;
 mod objects;
-pub mod page_snapshots;
-pub mod past_snapshots;
+mod page_snapshots;
+mod past_snapshots;
 mod ranges;
-pub mod snapshots;
-pub mod stores;
+mod snapshots;
+mod stores;
 
 pub use chunks::Chunk;
 pub use limits::MOST_OBJECTS;

@@ -96,4 +96,8 @@ impl<R: Net<Stream = TcpStream>, A: ToSocketAddrs> Connect for TcpConnect<'_, R,
         let reader = BufReader::new(self.alloc, writer.try_clone()?)?;
         Ok((reader, writer))
     }
+
+    fn connect_to_watch(&mut self) -> io::Result<(BufReader<TcpStream>, TcpStream)> {
+        self.connect()
+    }
 }

@@ -5,12 +5,12 @@
 //! `WallClock`.
 #![tactic(auto)]
 
-pub mod connecting;
+mod connecting;
 pub mod patient;
-pub mod stoppable_clock;
-pub mod stoppable_connecting;
-pub mod time_limits;
-pub mod wall_clock;
+mod stoppable_clock;
+mod stoppable_connecting;
+mod time_limits;
+mod wall_clock;
 
 pub use connecting::TcpConnect;
 pub use patient::Patient;

@@ -1,9 +1,9 @@
 //! Keys and objects for tests; readers and writers over memory, which give and take a few bytes a call, and fail at one of their calls.
 #![tactic(auto)]
 
-pub mod objects;
-pub mod sink;
-pub mod source;
+mod objects;
+mod sink;
+mod source;
 
 pub use objects::{key, object, stored};
 pub use sink::TestSink;

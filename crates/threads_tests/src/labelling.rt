@@ -13,8 +13,9 @@ use std::thread;
 use std::time::{Clock, Duration};
 
 /// A client labels a set once a turn is planned that updates it, before the update is made, while the clock stands still and watches are
-/// paused, so that nobody hears of the label. The turn's key stays away until the delay of a first failure is over, and comes again then. The
-/// client resumes the watches, and waits until the set has both the label and so many replicas.
+/// paused, so that nobody hears of the label. The clock goes on then, but the board's time does not, as nothing is due. The turn's key stays
+/// away until the delay of a first failure is over, which counts from the turn's end, and comes again then. The client resumes the watches, and
+/// waits until the set has both the label and so many replicas.
 #[derive(Drop)]
 pub struct Labelling<'a, 'g, R> {
     pub client: Client<'a, FakeClock<R>>,
@@ -32,6 +33,9 @@ const LABEL: &str = "{\"metadata\":{\"labels\":{\"marked\":\"yes\"}}}";
 /// How many milliseconds a key waits that failed once.
 const DELAY_MILLISECONDS: u64 = 5;
 
+/// How many milliseconds the clock goes on while nothing is due: more than the delay, and less than what lets time pass sleeps.
+const IDLE_MILLISECONDS: u64 = 500;
+
 /// How many milliseconds of the machine's clock a key that is not to come is waited for.
 const LOOK_MILLISECONDS: u64 = 100;
 
@@ -45,8 +49,8 @@ fn is_as_wanted(set: &Value, replicas: u64) -> bool {
 }
 
 impl<R: Wait + Clock> Labelling<'_, '_, R> {
-    /// Labels the set once the turn is planned and the other worker waits, so that no turn ends but this one, and waits until it has. Returns
-    /// whether it has.
+    /// Labels the set once the turn is planned and the other worker waits, so that no turn ends but this one, and waits until it has, half a
+    /// second later by the clock. Returns whether it has.
     fn fail_turn(&mut self) -> bool {
         if !self.gate.await_plan() || !self.gate.await_other() {
             return false;
@@ -55,6 +59,7 @@ impl<R: Wait + Clock> Labelling<'_, '_, R> {
         let is_labelled = self
             .client
             .patch(Kind::ReplicaSet, self.set.as_str(), LABEL);
+        self.client.rt.step(IDLE_MILLISECONDS);
         self.gate.release();
         is_labelled && wait_until(self.client.rt, || self.signals.turns_left() != left)
     }

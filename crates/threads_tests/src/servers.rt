@@ -196,4 +196,8 @@ impl<R: Wait + Clock> Api for SharedServer<'_, R> {
         }
         unreachable!()
     }
+
+    fn note_understood(&mut self) {}
+
+    fn note_not_understood(&mut self, _bytes: &[u8]) {}
 }

@@ -1,7 +1,7 @@
 //! What an object has to be before it is stored: checks, whose first fault refuses the request.
 #![tactic(auto)]
 
-pub mod checks;
+mod checks;
 mod counts;
 mod finalizers;
 mod labels;

@@ -6,6 +6,6 @@
 
 pub mod create;
 pub mod made_names;
-pub mod making;
+mod making;
 
 pub use making::{created, with_first_status};

@@ -10,7 +10,7 @@ pub mod first_status;
 pub mod generations;
 pub mod limits;
 pub mod names_given;
-pub mod placing;
+mod placing;
 pub mod stored_texts;
 
 pub use placing::{is_full, put_in_place, replaced, unchanged};

@@ -2,7 +2,7 @@
 #![tactic(auto)]
 
 pub mod patch;
-pub mod status;
+mod status;
 pub mod update;
 
 pub use status::update_status;

@@ -1,3 +1,4 @@
 pub mod Seen
 pub mod Aged
 pub mod Later
+pub mod Due

@@ -3,6 +3,7 @@ ghost use Rattle.std.specs.Prelude.{◌≡◌, ◌+◌, ◌≤◌, IfOk, OnOk, O
 ghost use Rattle.spec_client_go.specs.Boards.{begun, taken, finished, requeued, observed, expecting_creations, expecting_deletions, is_satisfied, forgotten, lowered, all_lowered, may_tick, ticked, last_moment};
 ghost use Rattle.spec_client_go.specs.WorkQueues.{handed};
 ghost use Rattle.work_board.specs.Aged.{HaveAgedOut};
+ghost use Rattle.work_board.specs.Due.{until_due};
 ghost use Rattle.work_board.specs.Later.{requeued_after};
 ghost use Rattle.work_board.specs.Seen.{owner_of, observation_of};
 ghost use Rattle.object_keys.specs.Keys.{key_of};
@@ -208,6 +209,14 @@ impl Board {
         self.delayed.drop_due(now);
         self.time = now;
         Ok(true)
+    }
+
+    /// Returns how many milliseconds pass until the next key comes due, if one is delayed. It takes no memory.
+    pub fn until_due(&self) -> Option<u64>
+        ensures { result ≡ until_due self.now }
+    {
+        let moment = self.delayed.next_moment()?;
+        Some(moment.saturating_sub(self.time))
     }
 
     /// Returns the time, in milliseconds.

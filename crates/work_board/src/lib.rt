@@ -2,10 +2,10 @@
 //! expected, and the time. Each call is one step.
 #![tactic(auto)]
 
-pub mod aged_out;
-pub mod board;
+mod aged_out;
+mod board;
 pub mod laws;
-pub mod observation;
+mod observation;
 
 pub use aged_out::AgedOut;
 pub use board::Board;

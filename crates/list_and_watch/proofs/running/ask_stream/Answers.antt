@@ -1,19 +1,24 @@
+use Rattle.list_and_watch.specs.Exchanged.{at_opened, idle, left_for}
+use Rattle.list_and_watch.specs.Gone.{Deals, Does}
 use Rattle.list_and_watch.specs.Told.{told}
-use Rattle.list_and_watch.proofs.Gone.{at_owed, goes_both, opens_stream}
+use Rattle.list_and_watch.proofs.Dealt.{opens_stream}
+use Rattle.list_and_watch.proofs.Gone.{at_owed}
+use Rattle.list_and_watch.proofs.Joined.{beside_clock, goes_both}
 use Rattle.list_and_watch.proofs.running.ask_stream.Goals as goal
-
-pub returns-then-eq-clause-goes : goal.returns-then-eq-clause-goes
-returns-then-eq-clause-goes g c =
-    let f = c.args.follower.now in
-    let p = c.on_stream_opened.new.self in
-    let now = c.args.sink.now in
-    at_owed g.S.Sink.takes g.S.Sink.refuses g.S.Sink.answers g.S.Sink.hears f p c.args.owed.now now now (opens_stream g.S.Sink.takes g.S.Sink.refuses g.S.Sink.answers g.S.Sink.hears c.open_stream-opened.result f p now c.on_stream_opened.ensures)
 
 pub returns-clause-goes : goal.returns-clause-goes
 returns-clause-goes g c =
+    let k = c.args.kind in
     let f = c.args.follower.now in
     let p = c.on_stream_opened.new.self in
     let o = c.args.owed.now in
-    let now = c.args.sink.now in
-    goes_both g.S.Sink.takes g.S.Sink.refuses g.S.Sink.answers g.S.Sink.hears (told f o) (told p o) (told c.read_on.new.follower c.read_on.new.owed) now now c.read_on.new.sink
-    (at_owed g.S.Sink.takes g.S.Sink.refuses g.S.Sink.answers g.S.Sink.hears f p o now now (opens_stream g.S.Sink.takes g.S.Sink.refuses g.S.Sink.answers g.S.Sink.hears c.open_stream-opened.result f p now c.on_stream_opened.ensures)) c.read_on.ensures.goes
+    let a = c.open_stream-opened.result in
+    let b = c.args.sink.now in
+    let before = c.args.api.now in
+    let after = c.open_stream-opened.new.self in
+    let x = c.args.timer.now in
+    let end = told c.read_on.new.follower c.read_on.new.owed (left_for c.read_on.result.milliseconds) in
+    goes_both (Does g.S.Sink.takes g.S.Sink.refuses g.S.Sink.answers g.S.Sink.hears g.A.Api.exchanges g.T.Timer.shows g.T.Timer.waits k) (told f o idle) (told p o (at_opened a)) end (b, before, x) (b, after, x) (c.read_on.new.sink, c.read_on.new.api, c.read_on.new.timer)
+    (beside_clock g.S.Sink.takes g.S.Sink.refuses g.S.Sink.answers g.S.Sink.hears g.A.Api.exchanges k g.T.Timer.shows g.T.Timer.waits x (told f o idle) (told p o (at_opened a)) (b, before) (b, after)
+    (at_owed (Deals g.S.Sink.takes g.S.Sink.refuses g.S.Sink.answers g.S.Sink.hears g.A.Api.exchanges k) f p o idle (at_opened a) (b, before) (b, after) (opens_stream g.S.Sink.takes g.S.Sink.refuses g.S.Sink.answers g.S.Sink.hears g.A.Api.exchanges k a f p b before after c.requires c.open_stream-opened.ensures c.on_stream_opened.ensures)))
+    (c.read_on.ensures.goes k)

@@ -7,7 +7,7 @@ use Rattle.reconciler.proofs.unchanged.owed_again.Goals as goal
 
 pub returns : goal.returns
 returns g c =
-    let owes = g.C.Reconciler.owes in
+    let owes = (g.C.Reconciler.owes c.args.shown.now) in
     let shown = c.args.shown.now in
     let first = c.in_ok-config_maps.config_maps.items in
     let second = c.in_ok-pods.pods.items in

@@ -13,7 +13,7 @@ give-requires-clause-follows g c =
 pub give-requires-clause-state : goal.give-requires-clause-state
 give-requires-clause-state g c opening so =
     let v = known c.args.pass.now in
-    gives_step v.seen v.name g.M.EntryMade.entry (finish (work_key_of c.args.key.now)) c.args.held c.done.new.held opening v.opening c.requires.pass.opening c.requires.pass.board c.done.ensures c.requires.entry so
+    gives_step v.seen v.name g.M.EntryMade.entry (finish (work_key_of c.args.key.now)) c.args.held c.done.new.held opening v.opening c.requires.pass.opening c.requires.pass.state c.done.ensures c.requires.entry so
 
 pub returns-clause-key : goal.returns-clause-key
 returns-clause-key g c =

@@ -1,7 +1,7 @@
 use Rattle.std.proofs.Common.{◌∙◌, ap, refl}
 use Rattle.work_board.specs.Seen.{owner_of}
 use Rattle.control_desk.specs.Desks.{known}
-use Rattle.control_desk.specs.Hands.{board}
+use Rattle.control_desk.specs.Hands.{state}
 use Rattle.control_desk.specs.Steps.{in_hand, expect_creations}
 use Rattle.control_desk.proofs.Turns.{follows_step, gives_step, key_stays}
 use Rattle.control_desk.proofs.desks.ControlDesk.expect_creations_held.Goals as goal
@@ -14,9 +14,9 @@ give-requires-clause-follows g c =
 pub give-requires-clause-state : goal.give-requires-clause-state
 give-requires-clause-state g c opening so =
     let v = known c.args.pass.now in
-    gives_step v.seen v.name g.M.EntryMade.entry (expect_creations (owner_of c.args.owner.now) c.args.creations) c.args.held c.expect_creations.new.held opening v.opening c.requires.pass.opening c.requires.pass.board c.in-Ok.ensures.ok c.requires.entry so
+    gives_step v.seen v.name g.M.EntryMade.entry (expect_creations (owner_of c.args.owner.now) c.args.creations) c.args.held c.expect_creations.new.held opening v.opening c.requires.pass.opening c.requires.pass.state c.in-Ok.ensures.ok c.requires.entry so
 
 pub returns-in-Ok-clause-key : goal.returns-in-Ok-clause-key
 returns-in-Ok-clause-key g c =
     let v = known c.args.pass.now in
-    ap (λ w. in_hand w.own.made) c.give.ensures.given ∙ key_stays (board v.seen) v.made v.name g.M.EntryMade.entry (expect_creations (owner_of c.args.owner.now) c.args.creations) (λ m. refl) c.requires.entry
+    ap (λ w. in_hand w.own.made) c.give.ensures.given ∙ key_stays (state v.seen) v.made v.name g.M.EntryMade.entry (expect_creations (owner_of c.args.owner.now) c.args.creations) (λ m. refl) c.requires.entry

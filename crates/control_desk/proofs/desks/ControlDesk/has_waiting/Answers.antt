@@ -11,5 +11,5 @@ some_mapped f (Some x) = refl
 pub returns-clause-step : goal.returns-clause-step
 returns-clause-step g c =
     calls _ _ _ _ _ c.take-held.ensures.taken
-    (c.is_some-waits.ensures ∙ (some_mapped _ c.first.result ∙ (ap is_some c.first.ensures ∙ ap (λ b. is_some (handed b.work)) (c.get.ensures ∙ c.take-held.ensures.holding.board))))
+    (c.is_some-waits.ensures ∙ (some_mapped _ c.first.result ∙ (ap is_some c.first.ensures ∙ ap (λ s. is_some (handed s.board.work)) (c.get.ensures ∙ c.take-held.ensures.holding.state))))
     c.give_back.ensures.known

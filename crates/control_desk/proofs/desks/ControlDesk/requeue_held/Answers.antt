@@ -14,7 +14,7 @@ give-requires-clause-follows g c =
 pub give-requires-clause-state : goal.give-requires-clause-state
 give-requires-clause-state g c opening so =
     let v = known c.args.pass.now in
-    gives_step v.seen v.name g.M.EntryMade.entry (requeue (work_key_of c.args.key.now) (map observation_of c.args.undone.now) c.args.least) c.args.held c.requeue.new.held opening v.opening c.requires.pass.opening c.requires.pass.board
+    gives_step v.seen v.name g.M.EntryMade.entry (requeue (work_key_of c.args.key.now) (map observation_of c.args.undone.now) c.args.least) c.args.held c.requeue.new.held opening v.opening c.requires.pass.opening c.requires.pass.state
     c.in-Ok.ensures.ok c.requires.entry so
 
 pub returns-in-Ok-clause-key : goal.returns-in-Ok-clause-key

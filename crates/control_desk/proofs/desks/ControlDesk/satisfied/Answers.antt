@@ -6,5 +6,5 @@ use Rattle.control_desk.proofs.desks.ControlDesk.satisfied.Goals as goal
 
 pub returns-clause-step : goal.returns-clause-step
 returns-clause-step g c =
-    calls _ _ _ _ _ c.take-held.ensures.taken ((rw (sym c.get.ensures) c.satisfied-answer.ensures) ∙ ap (λ b. is_satisfied (owner_of c.args.owner.now) b) c.take-held.ensures.holding.board)
+    calls _ _ _ _ _ c.take-held.ensures.taken ((rw (sym (ap (λ s. s.board) c.get.ensures)) c.satisfied-answer.ensures) ∙ ap (λ s. is_satisfied (owner_of c.args.owner.now) s.board) c.take-held.ensures.holding.state)
     c.give_back.ensures.known

@@ -1,7 +1,7 @@
 use Rattle.std.proofs.Common.{◌∙◌, ap, sym}
 use Rattle.baton.specs.Marks.{made_by}
 use Rattle.crossbeam_queue.specs.Passes.{view}
-use Rattle.control_desk.proofs.Turns.{taken_by, board_of}
+use Rattle.control_desk.proofs.Turns.{taken_by, state_of}
 use Rattle.control_desk.proofs.desks.ControlDesk.take.Goals as goal
 
 pub returns-clause-holding : goal.returns-clause-holding
@@ -14,7 +14,7 @@ returns-clause-holding g c =
       pass = c.take.ensures.pass.1;
       opening = ap (λ z. z.own.opening) t.knows ∙ c.requires.1;
       holds = ap (λ z. z.own.holds) t.knows;
-      board = board_of v w c.take.result t c.requires.1;
+      state = state_of v w c.take.result t c.requires.1;
       made = ap (λ z. made_by z.own.name w.own.seen) t.knows ∙ so.made ∙ sym (ap (λ z. z.own.made) t.knows);
       happened = so.happened;
     }

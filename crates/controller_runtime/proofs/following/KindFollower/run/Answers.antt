@@ -15,4 +15,4 @@ returns-clause-adds g c = let h = c.args.self.now.handler in (c.follow.ensures.s
 
 pub returns-clause-told : goal.returns-clause-told
 returns-clause-told g c =
-    board_told g.K.Named.order g.K.Named.says g.C.Reconciler.owes (λ h. h.revision) (λ h. sight g.K.Named.says h.pass) (λ h. h.listers.listers) _ c.args.self.now.follower c.follow.new.follower c.args.self.now.handler c.follow.new.sink c.follow.ensures.follows
+    board_told g.K.Named.order g.K.Named.says g.C.Reconciler.owes (λ h. h.revision) (λ h. sight g.K.Named.says h.pass) (λ h. h.listers.listers) g.A.Api.exchanges _ _ c.args.self.now.kind _ c.args.self.now.follower c.follow.new.follower c.args.self.now.handler c.follow.new.sink _ _ _ _ c.follow.ensures.follows

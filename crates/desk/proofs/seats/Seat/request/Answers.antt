@@ -15,7 +15,7 @@ returns-after-served g c =
     elim c.if-served.branch [
       | then-served w ↦
           rw w.self-is (called g.A.Asking.MayAsk (seat.desk.now ≡ seat.desk.now) refl g.L.Listener.Hears (known seat.pass) (known pass) (request_of c.args.request) c.args.moment c.in-Ok.served seat.listener w.wrote.new.self
-          c.in-Ok.ensures.call (λ e. subst (λ k. g.L.Listener.Hears k seat.listener w.wrote.new.self) c.kind_of-kind.ensures w.wrote.ensures) (λ e. absurd (true≢false (sym w.if-served.true ∙ e))))
+          c.in-Ok.ensures.call (λ e. subst (λ k. g.L.Listener.Hears k seat.listener w.wrote.new.self) c.kind-kind.ensures w.wrote.ensures) (λ e. absurd (true≢false (sym w.if-served.true ∙ e))))
       | else-served w ↦
           rw w.self-is (called g.A.Asking.MayAsk (seat.desk.now ≡ seat.desk.now) refl g.L.Listener.Hears (known seat.pass) (known pass) (request_of c.args.request) c.args.moment c.in-Ok.served seat.listener seat.listener
           c.in-Ok.ensures.call (λ e. absurd (true≢false (sym e ∙ w.if-served.false))) (λ e. refl))

@@ -23,8 +23,8 @@ pub returns-clause-err : goal.returns-clause-err
 returns-clause-err g c =
     let a = c.args.self.now in
     let b = c.look.new.self in
-    stops_looked c.handle_all.result c.args.cause
-    (record { handled = a.handled; added = a.added; revision = a.revision; looks = a.looks })
-    (record { handled = c.handle_all.new.handled; added = c.handle_all.new.added; revision = b.revision; looks = b.looks })
+    stops_looked c.handle_all.result c.args.origin
+    (record { kind = a.kind; handled = a.handled; added = a.added; revision = a.revision; looks = a.looks })
+    (record { kind = b.kind; handled = c.handle_all.new.handled; added = c.handle_all.new.added; revision = b.revision; looks = b.looks })
     (map shift_of c.args.shifts.now) b.listers.listers c.in-Some.looks b.handled b.added (known a.pass) (known b.pass) (known c.handle_all.new.pass)
     c.look.ensures.handled c.look.ensures.added c.look.ensures.pass c.look.ensures.looked c.in-Some.is c.handle_all.ensures.err

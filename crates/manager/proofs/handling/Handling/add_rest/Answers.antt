@@ -12,6 +12,6 @@ loop-added-preserved g c =
     let piece = c.next_piece-piece.result.now in
     let some = c.next_piece-piece.ensures.some in
     let more =
-    added_more (drop a.added.now keys) (drop l.added keys) (drop (l.added + length piece) keys) (map work_key_of piece) (known a.pass.now) (known l.pass) (known c.observe.new.pass)
+    added_more a.self.now.origin (drop a.added.now keys) (drop l.added keys) (drop (l.added + length piece) keys) (map work_key_of piece) (known a.pass.now) (known l.pass) (known c.observe.new.pass)
     (parted work_key_of a.keys.now piece l.added c.next_piece-piece.ensures.part) (is_piece work_key_of piece some.0 some.1) l.invariant.1 c.in_ok-observe.ensures.step in
     (c.in_ok-observe.ensures.pass, more)

@@ -14,7 +14,7 @@ use Rattle.manager.proofs.handling.Handling.handle.Goals as goal
 pub returns-clause-ok : goal.returns-clause-ok
 returns-clause-ok g c =
     let s = shift_of c.args.shift.now in
-    let shown = observations (record { shift = s; is_in_initial_list = is_first c.args.self.now.cause }) in
+    let shown = observations (record { shift = s; is_in_initial_list = is_first c.args.self.now.origin.cause }) in
     let owed = keys_of (change_of s) (looks_of (λ m. m) c.args.self.now.looks.now) in
-    called_as c.observe.result (map observation_of c.as_slice.result.now) shown (map work_key_of c.as_slice-2.result.now) owed (known c.args.pass.now) (known c.observe.new.pass)
+    called_as c.observe.result c.args.self.now.origin.kind c.args.self.now.origin.revision (map observation_of c.as_slice.result.now) shown (map work_key_of c.as_slice-2.result.now) owed (known c.args.pass.now) (known c.observe.new.pass)
     (ap (map observation_of) c.as_slice.ensures.value ∙ c.in_ok-seen.ensures) (ap (map work_key_of) c.as_slice-2.ensures.value ∙ c.in_ok-keys.ensures) c.observe.ensures.step

@@ -11,6 +11,6 @@ loop-shift-preserved g c =
     let maps = a.self.now.looks.now in
     let inside : l.handled < length a.shifts.now = grind arith in
     let more =
-    as_far_more shift_of a.self.now.cause maps a.shifts.now a.handled.now l.handled c.in-Some.shift.now (known a.pass.now) (known l.pass) (known c.handle.new.pass)
+    as_far_more shift_of a.self.now.origin maps a.shifts.now a.handled.now l.handled c.in-Some.shift.now (known a.pass.now) (known l.pass) (known c.handle.new.pass)
     inside c.in-Some.ensures.lookup.1 l.invariant.1 c.in_ok-handle.ensures.ok in
     (c.in_ok-handle.ensures.pass, more)

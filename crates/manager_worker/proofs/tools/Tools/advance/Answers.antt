@@ -11,8 +11,8 @@ pub returns-in_err-finish-clause-advances : goal.returns-in_err-finish-clause-ad
 returns-in_err-finish-clause-advances g c =
     let s = in_turn c.args.turn.now c.args.self.now.listers (heard c.args.self.now.api c.args.patience.now) (known c.args.pass.now) in
     let z = in_turn c.args.turn.now c.args.self.now.listers (heard c.args.self.now.api c.args.patience.now) (known c.finish.new.pass) in
-    fails c.from_residual.result (λ x. Advances g.L.Looking.shows g.A.Api.answers c.args.key.now s z x) c.from_residual.ensures.0
-    (not_ended g.L.Looking.shows g.A.Api.answers c.args.key.now s (known c.finish.new.pass) c.in_err-finish.ensures.sees)
+    fails c.from_residual.result (λ x. Advances g.L.Looking.shows g.A.Api.answers c.args.taken.now.handled c.args.taken.now.key s z x) c.from_residual.ensures.0
+    (not_ended g.L.Looking.shows g.A.Api.answers c.args.taken.now.handled c.args.taken.now.key s (known c.finish.new.pass) c.in_err-finish.ensures.sees)
 
 pub returns-in_err-progress : goal.returns-in_err-progress
 returns-in_err-progress g c =
@@ -25,8 +25,8 @@ returns-in_err-progress g c =
       free = λ e. absurd (not_over r is_err e);
       mine = λ _. c.step.ensures.key;
       advances =
-          fails r (λ x. Advances g.L.Looking.shows g.A.Api.answers c.args.key.now s z x) is_err
-          (not_taken g.L.Looking.shows g.A.Api.answers c.args.key.now s z c.in_err-progress.ensures.steps);
+          fails r (λ x. Advances g.L.Looking.shows g.A.Api.answers c.args.taken.now.handled c.args.taken.now.key s z x) is_err
+          (not_taken g.L.Looking.shows g.A.Api.answers c.args.taken.now.handled c.args.taken.now.key s z c.in_err-progress.ensures.steps);
     }
 
 pub returns : goal.returns
@@ -38,6 +38,6 @@ returns g c =
       free = c.go_on.ensures.free;
       mine = λ e. c.go_on.ensures.mine e ∙ c.step.ensures.key;
       advances =
-          advances g.L.Looking.shows g.A.Api.answers c.args.key.now s u c.in_ok-progress.progress (known c.go_on.new.pass) (course_of c.go_on.result) c.in_ok-progress.ensures.steps
+          advances g.L.Looking.shows g.A.Api.answers c.args.taken.now.handled c.args.taken.now.key s u c.in_ok-progress.progress (known c.go_on.new.pass) (course_of c.go_on.result) c.in_ok-progress.ensures.steps
           c.go_on.ensures.follows;
     }

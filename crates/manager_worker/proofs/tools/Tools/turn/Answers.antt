@@ -1,7 +1,7 @@
 -- Each round goes on by a step that comes next, and has the same key until the turn is over.
 use Rattle.std.proofs.Common.{◌∙◌, inl, inr, refl}
 use Rattle.control_desk.specs.Desks.{known}
-use Rattle.manager_worker.proofs.Untouched.{untouched_at_read}
+use Rattle.manager_worker.proofs.Untouched.{untouched_where_given_up}
 use Rattle.manager_worker.proofs.Ways.{joined}
 use Rattle.manager_worker.specs.Patience.{heard}
 use Rattle.manager_worker.specs.Stepping.{in_turn, none}
@@ -14,7 +14,7 @@ pub loop-preserved : goal.loop-preserved
 loop-preserved g c =
     let stays = c.loop.invariant in
     let went = c.in-GoesOn.ensures in
-    (tt, tt, went.pass, went.mine refl ∙ stays.3, joined g.L.Looking.shows g.A.Api.answers stays.4 went.advances)
+    (tt, tt, went.pass, went.mine refl ∙ stays.3, joined g.L.Looking.shows g.A.Api.answers c.args.taken.now.handled stays.4 went.advances)
 
 pub returns-then-is_stopped-clause-cut : goal.returns-then-is_stopped-clause-cut
 returns-then-is_stopped-clause-cut g c =
@@ -38,7 +38,7 @@ returns-in-Over-clause-over g c =
       left_at = c.advance_or_rest.new.turn;
       patience = c.advance_or_rest.new.patience;
       over = c.in-Over.ensures.advances;
-      untouched = untouched_at_read g.L.Looking.shows g.A.Api.answers s last c.loop.invariant.4;
+      untouched = untouched_where_given_up g.L.Looking.shows g.A.Api.answers c.args.taken.now.handled s last c.loop.invariant.4;
     }
 
 pub returns-in-CutShort-clause-cut : goal.returns-in-CutShort-clause-cut

@@ -1,0 +1,3 @@
+mod NotedOnce
+mod AnyMapped
+mod OwedWithin

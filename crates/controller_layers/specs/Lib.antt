@@ -1,0 +1,4 @@
+-- The definitions, in reading order.
+pub mod Within
+pub mod Scoped
+pub mod KeyNotes

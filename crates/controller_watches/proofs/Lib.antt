@@ -1,0 +1,4 @@
+mod Scopes
+mod JointOf
+mod NothingMissed
+pub mod JointRefused
