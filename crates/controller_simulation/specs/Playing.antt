@@ -82,8 +82,8 @@ Firsts before k r came after = Plays (PageLine k r) ⊥ before came after
 abbrev pub Exchanges : Playback → exchange.Exchange → Playback → Type 0
 Exchanges before (exchange.list k came) after = Lists before k came after
 Exchanges before (exchange.first k r came) after = Firsts before k r came after
-Exchanges before (exchange.watch k r opened) after = after ≡ before
-Exchanges before (exchange.stream k opened) after = after ≡ before
+Exchanges before (exchange.watch k r _) after = after ≡ before
+Exchanges before (exchange.stream k _) after = after ≡ before
 Exchanges before (exchange.read more buffer) after = after ≡ before
 Exchanges before exchange.understood after = after ≡ before
 Exchanges before (exchange.not_understood bytes) after = after ≡ before
