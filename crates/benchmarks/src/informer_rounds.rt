@@ -1,9 +1,10 @@
 //! What is measured of an indexed copy and of an informer, so many times.
 use crate::informer_bench::What;
 use crate::informer_pods::{PODS, SETS, pod, set, uid};
+use event_handlers::keys_of;
 use indexer::Indexed;
 use object_keys::PerKind;
-use plain_informer::{PlainInformer, keys_of};
+use plain_informer::PlainInformer;
 use reflector::{Delta, SharedObject};
 use spec_api::kinds::Kind;
 use std::alloc::{AllocError, Global};

@@ -2,9 +2,9 @@
 use crate::assertions::assert_text;
 use crate::fixtures::{POD, RELEASED, WEB, shared};
 use crate::written::tell;
+use event_handlers::keys_of;
 use indexer::Indexed;
 use object_keys::{PerKind, WorkKey};
-use plain_informer::keys_of;
 use reflector::{Delta, SharedObject};
 use spec_api::kinds::Kind;
 use spec_client_go::controller::Controller;

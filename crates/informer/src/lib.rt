@@ -39,7 +39,7 @@ pub use indexer::{Indexed, Shift};
 pub use informers::Informer;
 pub use kind_listers::Listers;
 pub use listers::{Lister, Look};
-pub use plain_informer::{PlainInformer, Publishing, keys_of};
+pub use plain_informer::{PlainInformer, Publishing};
 pub use reconcile_types::{Command, Entry, Hand, Plan, Seen};
 pub use shared::SharedInformer;
 pub use shared_informers::{listers_of, open_informers};

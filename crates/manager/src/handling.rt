@@ -16,10 +16,10 @@ ghost use Rattle.manager.specs.Handled.{step_of, HasWaited, Handles, StopsAt, Ad
 use crate::origins::Origin;
 use crate::relisting::keys_again;
 use control_desk::{ControlDesk, WorkPass};
+use event_handlers::{keys_of, object_in, observations};
 use indexer::{Indexed, Shift};
 use list_and_watch::Cause;
 use object_keys::{PerKind, WorkKey};
-use plain_informer::{keys_of, object_in, observations};
 use std::alloc::{AllocError, Global};
 use std::sync::Wait;
 use work_board::Observation;

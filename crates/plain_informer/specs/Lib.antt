@@ -1,3 +1,1 @@
-pub mod Owed
 pub mod Appended
-pub mod Changes

@@ -7,10 +7,10 @@ ghost use Rattle.object_keys.specs.WorkKeys.{work_key_of};
 ghost use Rattle.world.specs.StoredStates.{owed};
 
 use crate::outcomes::Outcome;
+use event_handlers::{keys_of, object_in, observations};
 use indexer::Indexed;
 use line_session::JournalEntry;
 use object_keys::WorkKey;
-use plain_informer::{keys_of, object_in, observations};
 use sim_cluster::Cluster;
 use sim_followers::Notification;
 use sim_manager::{Manager, ToldOutcome, WorkOutcome};

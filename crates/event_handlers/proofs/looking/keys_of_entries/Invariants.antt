@@ -1,0 +1,11 @@
+use Rattle.std.proofs.Common.{◌≡◌, ◌++◌, map}
+use Rattle.serde_json.specs.Data.{Data}
+use Rattle.spec_api.specs.Keys.{Key as Name}
+use Rattle.object_keys.specs.Keys.{key_of}
+use Rattle.reconcile_types.specs.Entries.{entry_of}
+use Rattle.event_handlers.proofs.looking.keys_of_entries.Given as goal
+
+-- those copied and those still to be copied are all
+abbrev pub invariant-loop-entry : goal.invariant-loop-entry
+invariant-loop-entry l =
+    map key_of l.keys.items ++ map (λ (m : Name × Data). m.0) (map entry_of l.entry-iterator.rest.items) ≡ map (λ (m : Name × Data). m.0) (map entry_of l.fn.entries.items)

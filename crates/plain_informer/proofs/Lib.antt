@@ -1,2 +1,0 @@
-pub mod SeenTasks
-pub mod Deletions
