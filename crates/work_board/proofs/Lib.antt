@@ -1,2 +1,3 @@
-pub mod Failures
+pub mod DueTold
+pub mod Instance
 pub mod Later

@@ -1,6 +1,6 @@
 //! The board of work keys that workers share, whose calls are its steps.
 ghost use Rattle.std.specs.Prelude.{◌≡◌, ◌+◌, ◌≤◌, IfOk, OnOk, OnErr, length, map, option_map, string_bytes};
-ghost use Rattle.spec_client_go.specs.Boards.{begun, taken, finished, requeued, observed, expecting_creations, expecting_deletions, is_satisfied, forgotten, lowered, all_lowered, may_tick, ticked, last_moment};
+ghost use Rattle.spec_client_go.specs.Boards.{begun, taken, finished, requeued, observed, expecting_creations, expecting_deletions, is_satisfied, forgotten, may_tick, ticked, last_moment};
 ghost use Rattle.spec_client_go.specs.WorkQueues.{handed};
 ghost use Rattle.work_board.specs.Aged.{HaveAgedOut};
 ghost use Rattle.work_board.specs.Due.{until_due};
@@ -10,13 +10,12 @@ ghost use Rattle.object_keys.specs.Keys.{key_of};
 ghost use Rattle.object_keys.specs.WorkKeys.{work_key_of};
 
 use crate::aged_out::AgedOut;
+use crate::expected::Expected;
 use crate::observation::{Observation, Owner};
-use backoff::{Backoff, Delayed};
-use expectations::Table;
+use boards::Outcome;
 use object_keys::{Key, WorkKey};
 use std::alloc::{AllocError, Global};
 use std::marker::Model;
-use workqueue::Queue;
 
 /// The last moment of a board, in milliseconds: 2^53 - 1, the greatest number that every JSON reader represents exactly.
 const LAST_MOMENT: u64 = 9_007_199_254_740_991;
@@ -24,39 +23,30 @@ const LAST_MOMENT: u64 = 9_007_199_254_740_991;
 /// The keys that wait and those in workers' hands, the keys with a delay, the failures in a row, what is expected, and the
 /// time in milliseconds.
 pub struct Board {
-    queue: Queue,
-    delayed: Delayed,
-    backoff: Backoff,
-    expectations: Table,
-    time: u64,
+    keys: boards::Board<WorkKey, Expected>,
 }
 
 impl Drop for Board {
     // Called where one is dropped; a derived drop is proved anew at each such place.
     fn drop(self) {
-        let Board {
-            queue: _queue,
-            delayed: _delayed,
-            backoff: _backoff,
-            expectations: _expectations,
-            time: _time,
-        } = self;
+        let Board { keys: _keys } = self;
     }
 }
 
 impl Model for Board {
     ghost use Rattle.std.specs.Prelude.{◌≤◌};
-    ghost use Rattle.spec_client_go.specs.Boards as boards;
+    ghost use Rattle.spec_client_go.specs.Boards as works;
     ghost use Rattle.spec_client_go.specs.Boards.{last_moment};
+    ghost use Rattle.work_board.specs.Instance.{board_of};
     ghost use Rattle.work_board.specs.Seen.{board_code};
 
-    ghost Value = { boards.Board };
+    ghost Value = { works.Board };
 
     ghost coded = { board_code };
 
-    ghost view = { λ b. record { work = b.queue; delays = b.delayed; failures = b.backoff; expected = b.expectations; time = b.time } };
+    ghost view = { λ b. board_of b.keys };
 
-    ghost invariant = { λ b. b.time ≤ last_moment };
+    ghost invariant = { λ b. b.keys.time ≤ last_moment };
 }
 
 impl Board {
@@ -65,11 +55,7 @@ impl Board {
         ensures { result ≡ begun }
     {
         Board {
-            queue: Queue::new(alloc),
-            delayed: Delayed::new(alloc),
-            backoff: Backoff::new(alloc),
-            expectations: Table::new(alloc),
-            time: 0,
+            keys: boards::Board::new(alloc),
         }
     }
 
@@ -77,7 +63,7 @@ impl Board {
     pub fn first(&self) -> Option<&WorkKey>
         ensures { option_map (λ k. work_key_of k.now) result ≡ handed self.now.work }
     {
-        self.queue.first()
+        self.keys.first()
     }
 
     /// Hands the key that waits longest to a worker, if one waits. The error is running out of memory, and then nothing has
@@ -87,15 +73,14 @@ impl Board {
         ensures key { IfOk result (λ k. option_map work_key_of k ≡ handed self.old.work) }
         ensures err { OnErr result (self.new ≡ self.old) }
     {
-        self.queue.get()
+        self.keys.take()
     }
 
     /// Takes a key back from its worker, and forgets its failures.
     pub fn done(&mut self, key: &WorkKey)
         ensures { self.new ≡ finished (work_key_of key.now) self.old }
     {
-        self.queue.done(key);
-        self.backoff.forget(key);
+        self.keys.done(key);
     }
 
     /// Takes a key that failed back from its worker: it waits for its delay, and what was not done is expected no longer. The
@@ -119,17 +104,9 @@ impl Board {
         ensures ok { OnOk result (self.new ≡ requeued_after (work_key_of key.now) (map observation_of undone.now) least self.old) }
         ensures err { OnErr result (self.new ≡ self.old) }
     {
-        let again = key.try_copy()?;
-        let before = self.backoff.failures(key);
-        let delay = self.backoff.delay(key)?;
-        let wait = delay.max(u64::from(least));
-        if let Err(refused) = self.delayed.add_after(again, self.time + wait) {
-            self.backoff.restore(key, before);
-            return Err(refused);
-        }
-        self.queue.done(key);
-        lower_all(&mut self.expectations, undone);
-        Ok(())
+        let at_least = u64::from(least);
+        self.keys
+            .finish_noting(key, Outcome::Failed { at_least }, undone)
     }
 
     /// Notes what a change shows of the pods that are expected, and adds the keys that it owes. The error is running out of
@@ -142,9 +119,7 @@ impl Board {
         ensures ok { OnOk result (self.new ≡ observed (map observation_of observations.now) (map work_key_of keys.now) self.old) }
         ensures err { OnErr result (self.new ≡ self.old) }
     {
-        self.queue.add_all(keys)?;
-        lower_all(&mut self.expectations, observations);
-        Ok(())
+        self.keys.add_noting(keys, observations)
     }
 
     /// Sets that a ReplicaSet expects so many pods to be created, from now on, and nothing else. The error is running out of
@@ -153,8 +128,11 @@ impl Board {
         ensures ok { OnOk result (self.new ≡ expecting_creations (owner_of owner.now) creations self.old) }
         ensures err { OnErr result (self.new ≡ self.old) }
     {
-        self.expectations
-            .expect_creations(&owner.key, owner.uid.as_str(), creations, self.time)
+        let now = self.keys.time();
+        self.keys
+            .side_mut()
+            .table_mut()
+            .expect_creations(&owner.key, owner.uid.as_str(), creations, now)
     }
 
     /// Sets that a ReplicaSet expects the pods of these uids to be deleted, from now on, and nothing else. The error is running
@@ -163,16 +141,22 @@ impl Board {
         ensures ok { OnOk result (self.new ≡ expecting_deletions (owner_of owner.now) (map string_bytes pods.items) self.old) }
         ensures err { OnErr result (self.new ≡ self.old) }
     {
-        self.expectations
-            .expect_deletions(&owner.key, owner.uid.as_str(), pods, self.time)
+        let now = self.keys.time();
+        self.keys
+            .side_mut()
+            .table_mut()
+            .expect_deletions(&owner.key, owner.uid.as_str(), pods, now)
     }
 
     /// Returns whether a ReplicaSet expects nothing: nothing was set, nothing is left, or more than five minutes have passed.
     pub fn satisfied(&self, owner: &Owner) -> bool
         ensures { result ≡ is_satisfied (owner_of owner.now) self.now }
     {
-        self.expectations
-            .satisfied(&owner.key, owner.uid.as_str(), self.time)
+        let now = self.keys.time();
+        self.keys
+            .side()
+            .table()
+            .satisfied(&owner.key, owner.uid.as_str(), now)
     }
 
     /// Returns the keys of the ReplicaSets that expected something at the moment `before`, and by its age no longer do, with the present
@@ -180,9 +164,10 @@ impl Board {
     pub fn aged_out(&self, before: u64) -> Result<AgedOut, AllocError>
         ensures { IfOk result (λ a. HaveAgedOut before a.moment (map work_key_of a.keys.items) self.now) }
     {
+        let moment = self.keys.time();
         Ok(AgedOut {
-            keys: self.expectations.aged_out(before, self.time)?,
-            moment: self.time,
+            keys: self.keys.side().table().aged_out(before, moment)?,
+            moment,
         })
     }
 
@@ -190,7 +175,7 @@ impl Board {
     pub fn forget(&mut self, key: &Key)
         ensures { self.new ≡ forgotten (key_of key.now) self.old }
     {
-        self.expectations.forget(key);
+        self.keys.side_mut().table_mut().forget(key);
     }
 
     /// Lets so many milliseconds pass, adds the keys whose moment has come, and returns true. Beyond the last moment, 2^53 - 1,
@@ -200,14 +185,11 @@ impl Board {
         ensures open { IfOk result (λ b. b ≡ may_tick milliseconds self.old) }
         ensures err { OnErr result (self.new ≡ self.old) }
     {
-        if milliseconds > LAST_MOMENT - self.time {
+        let before = self.keys.time();
+        if milliseconds > LAST_MOMENT - before {
             return Ok(false);
         }
-        let now = self.time + milliseconds;
-        let keys = self.delayed.due_keys(now)?;
-        self.queue.add_all(&keys)?;
-        self.delayed.drop_due(now);
-        self.time = now;
+        self.keys.tick(before + milliseconds)?;
         Ok(true)
     }
 
@@ -215,42 +197,20 @@ impl Board {
     pub fn until_due(&self) -> Option<u64>
         ensures { result ≡ until_due self.now }
     {
-        let moment = self.delayed.next_moment()?;
-        Some(moment.saturating_sub(self.time))
+        self.keys.until_due()
     }
 
     /// Returns the time, in milliseconds.
     pub fn time(&self) -> u64
         ensures { result ≡ self.now.time }
     {
-        self.time
+        self.keys.time()
     }
 
     /// Returns how many keys wait.
     pub fn len(&self) -> usize
         ensures { result ≡ length self.now.work.queue }
     {
-        self.queue.len()
-    }
-}
-
-/// Notes what is expected no longer.
-fn lower_all(table: &mut Table, observations: &[Observation])
-    ensures { table.new ≡ all_lowered (map observation_of observations.now) table.old }
-{
-    for observation in observations {
-        lower(table, observation);
-    }
-}
-
-/// Notes one creation or deletion that is expected no longer.
-fn lower(table: &mut Table, observation: &Observation)
-    ensures { table.new ≡ lowered (observation_of observation.now) table.old }
-{
-    match observation {
-        Observation::CreationObserved { owner } => table.created(&owner.key, owner.uid.as_str()),
-        Observation::DeletionObserved { owner, pod } => {
-            table.deleted(&owner.key, owner.uid.as_str(), pod.as_str());
-        }
+        self.keys.len()
     }
 }

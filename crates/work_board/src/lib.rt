@@ -4,6 +4,7 @@
 
 mod aged_out;
 mod board;
+mod expected;
 pub mod laws;
 mod observation;
 

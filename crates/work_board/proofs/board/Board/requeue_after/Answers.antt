@@ -1,14 +1,25 @@
-use Rattle.std.proofs.Common.{◌∙◌}
+use Rattle.std.proofs.Common.{ap, ◌∙◌, map, arith}
+use Rattle.std.proofs.lemmas.Result.{on_ok_weaker}
+use Rattle.spec_client_go.specs.WorkQueues.{work_key_cmp}
 use Rattle.object_keys.specs.WorkKeys.{work_key_of}
-use Rattle.work_board.proofs.Failures.{has_failed, restored_failed}
+use Rattle.boards.specs.Boards.{with_notes, finished}
+use Rattle.boards.specs.Said.{said}
+use Rattle.boards.specs.declared.outcome.Outcome.TheVariants.{Failed}
+use Rattle.work_board.specs.Instance.{work_board}
+use Rattle.work_board.specs.Later.{requeued_after}
+use Rattle.work_board.specs.Seen.{observation_of}
+use Rattle.work_board.proofs.Instance.{noted, requeues}
 use Rattle.work_board.proofs.board.Board.requeue_after.Goals as goal
 
-pub restore-requires : goal.restore-requires
-restore-requires c = has_failed (work_key_of c.args.key.now) c.self.inside.backoff c.delay.new.self c.in_ok-delay.ensures.ok
-
-pub returns-in-Err-clause-err : goal.returns-in-Err-clause-err
-returns-in-Err-clause-err c =
-    let later = c.in-Err.ensures.err in
-    let back = c.restore.ensures ∙ restored_failed (work_key_of c.args.key.now) c.self.inside.backoff c.delay.new.self c.failures-before.result c.in_ok-delay.ensures.ok c.failures-before.ensures in
-    (λ i. record { work = c.self.inside.queue; delays = later i; failures = back i; expected = c.self.inside.expectations; time = c.self.inside.time })
-    ∙ c.self.view_is
+pub returns-clause-ok : goal.returns-clause-ok
+returns-clause-ok c =
+    let ss = c.args.undone.now in
+    let k = work_key_of c.args.key.now in
+    let b = said work_key_cmp work_key_of c.self.inside.keys in
+    on_ok_weaker c.finish_noting.result
+    (λ e.
+    ap work_board e
+    ∙ ap (λ least. work_board (with_notes noted ss (finished k (Failed least) b))) c.from-at_least.ensures
+    ∙ requeues k ss c.args.least b c.self.invariant (grind arith)
+    ∙ ap (requeued_after k (map observation_of ss) c.args.least) c.self.view_is)
+    c.finish_noting.ensures.ok

@@ -1,0 +1,10 @@
+use Rattle.std.proofs.Common.{◌∙◌, ap, sym, map}
+use Rattle.keyed_queues.specs.Lists as queues
+use Rattle.boards.proofs.Shutting.{all_added_shut}
+use Rattle.boards.proofs.board.Board.tick.Goals as goal
+
+pub invariant_of-self-2 : goal.invariant_of-self-2
+invariant_of-self-2 g c =
+    let R = g.K.Named.order in
+    let say = g.K.Named.says in
+    c.self.invariant ∙ sym (ap (λ w. w.is_shut) c.in_ok-add_all.ensures.ok ∙ all_added_shut R (map say c.deref.result.now) (queues.said R say c.self.inside.queue))
