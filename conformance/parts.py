@@ -65,7 +65,7 @@ PROGRAM = {
     # (what follows from one change has to be there within a second where nothing runs beside it, and within 20 in the gate)
     "own-controller": Part("conformance/following/controllers.py", {**KCP, **CONTROLLER}, "--within 20", "`controller_example` at `kcp serve` and `kcp all`: changes, conflicts, refusals, a server that is started anew"),
     "recorded": Part("conformance/recorded/run.py", FOLLOWER, "", "a follower over what a real API server wrote"),
-    "controllers": Part("conformance/controllers/run.py", KCP, "--short", "the controllers over HTTP, 35 scenarios in about a minute; whole, a quarter of an hour"),
+    "controllers": Part("conformance/controllers/run.py", KCP, "--short", "the controllers over HTTP, 40 scenarios in about a minute; whole, a quarter of an hour"),
     "arguments": Part("conformance/arguments.py", KCP, "", "how the program says it is used, and which fault ended it"),
     "readme": Part("conformance/readme.py", KCP, "", "what README.md shows, and the request lines of docs/API.md"),
     "benchmarks": Part("conformance/benchmarks.py", BENCHMARKS, "", "each part of the program of benchmarks once, on little"),

@@ -21,7 +21,6 @@ KNOWN = {
     "controller_runtime::run_at_board": "as run_at, over a board that the caller keeps",
     "controller_runtime::run_workers": "as run_at, over maps that the caller keeps",
     "http_watch::serve_watch": "serves a watch alone; programs take what it is made of piece by piece",
-    "controller_simulation::owe_again": "a step of a simulated run of a controller of one's own, which no program takes so far",
     "shared_keyed_board::gather": "reads the history of a board that only threads of a caller's own have",
 }
 FUNCTION = re.compile(r"(?m)^( *)(pub |pub\(crate\) )?(?:const )?fn (\w+)")

@@ -12,7 +12,7 @@ from clients import Client
 from losing import await_all
 from objects import replica_set, staying
 from programs import Ending, control, server
-from refusing import RefusingProxy
+from refusing import NO_MEMORY, RefusingProxy
 from restarting import settle
 from streaming import PLURALS
 from understanding import ALL_ANSWERED_SECONDS, check_silent, check_told, reply
@@ -43,15 +43,15 @@ def owner(request):
 
 
 class CreatesRefused(RefusingProxy):
-    """Answers creates by itself, all or those for one set, until it is told not to, and notes when each came, by the name of the set."""
+    """Answers creates by itself, all or those for some sets, until it is told not to, and notes when each came, by the name of the set."""
 
-    def __init__(self, port, answer, name=None):
-        self.answer_all, self.name, self.refuses = answer, name, True
+    def __init__(self, port, answer, names=None):
+        self.answer_all, self.names, self.refuses = answer, names, True
         self.moments, self.relays = collections.defaultdict(list), threading.Event()
         super().__init__(port)
 
     def refusal(self, request):
-        if not request.startswith(b"POST ") or self.name not in (None, it := owner(request)):
+        if not request.startswith(b"POST ") or (it := owner(request)) not in (self.names or [it]):
             return None
         with self.lock:
             if self.refuses:
@@ -126,7 +126,7 @@ def is_left_alone(proxy):
 def one_key_left_alone(program):
     """The creates for one set are answered 429, with a time: other sets get their pods meanwhile."""
     serving = server(program)
-    proxy = CreatesRefused(serving.port, asking("429 Too Many Requests", 429), HELD)
+    proxy = CreatesRefused(serving.port, asking("429 Too Many Requests", 429), [HELD])
     with Ending(serving, control(program, proxy.port, WORKERS)):
         client, others = Client(serving.port), [f"web-{number}" for number in range(SETS)]
         client.create("replicasets", replica_set(HELD, 1))
@@ -140,6 +140,26 @@ def one_key_left_alone(program):
         await_all(client, [HELD], more=0)
         proxy.close()
         return f"{is_left_alone(proxy)}, other sets made meanwhile, as declared {time.monotonic() - began:.1f} s after"
+
+
+def unserved(program):
+    """The creates for as many sets as there are workers are answered 503, with no time: none of them holds a worker, so other sets get their pods."""
+    serving, held = server(program), [f"{HELD}-{number}" for number in range(WORKERS)]
+    proxy = CreatesRefused(serving.port, NO_MEMORY, held)
+    with Ending(serving, control(program, proxy.port, WORKERS)):
+        client, others = Client(serving.port), [f"web-{number}" for number in range(SETS)]
+        for it in held:
+            client.create("replicasets", replica_set(it, 1))
+        until(lambda: proxy.fewest(held) >= TIMES, "a set that is refused was not tried again")
+        began = time.monotonic()
+        for it in others:
+            client.create("replicasets", replica_set(it, 1))
+        await_all(client, others, more=0)
+        meanwhile = time.monotonic() - began
+        proxy.mend()
+        await_all(client, held, more=0)
+        proxy.close()
+        return f"{WORKERS} sets refused at {WORKERS} workers, other sets made meanwhile after {meanwhile:.1f} s, and those as declared in the end"
 
 
 def all_left_alone(program):

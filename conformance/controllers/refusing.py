@@ -14,7 +14,7 @@ from restarting import settle
 from understanding import ALL_ANSWERED_SECONDS, check_silent, check_told, reply
 from waiting import check, until
 
-REFUSED, REPLICAS, WORKERS = 12, 5, 4
+REFUSED, REPLICAS, WORKERS = 8, 5, 4
 NO_MEMORY = reply("503 Service Unavailable", b'{"kind":"Status","apiVersion":"v1","status":"Failure","code":503}')
 CONFLICTS, SETS = 60, 20
 CONFLICT = reply("409 Conflict", b'{"kind":"Status","apiVersion":"v1","status":"Failure","reason":"Conflict","code":409}')
@@ -29,6 +29,8 @@ UNSAID = [
     reply("200 OK", b"{}"),
 ]
 HELD, HELD_REPLICAS = "held", 2
+# A reply that ends before it is whole says nothing of what it is to.
+CUT_SHORT, CUT_READS = reply("200 OK", b"{}")[:-1], 3
 
 
 class RefusingProxy(LosingProxy):
@@ -116,6 +118,36 @@ def refused_for_now(program):
         check(proxy.refusals == 0, f"{proxy.refusals} of {REFUSED} commands were never refused")
         proxy.close()
         return f"{REFUSED} commands refused for now, as declared after {time.monotonic() - began:.1f} s"
+
+
+class ReadsCutShort(RefusingProxy):
+    """Cuts the replies to the first reads short of what is there under the name of a set."""
+
+    def __init__(self, port, name):
+        self.is_read, self.to_cut = asks(b"GET ", f"/replicasets/{name} ".encode()), CUT_READS
+        super().__init__(port)
+
+    def refusal(self, request):
+        with self.lock:
+            if not self.to_cut or not self.is_read(request):
+                return None
+            self.to_cut -= 1
+            return CUT_SHORT
+
+
+def reads_cut_short(program):
+    """The first live reads of a set have no whole reply: its worker makes each again in its turn, and the pod is adopted that it is read for."""
+    serving = server(program)
+    proxy = ReadsCutShort(serving.port, HELD)
+    with Ending(serving, control(program, proxy.port, workers=1)):
+        client, began = Client(serving.port), time.monotonic()
+        client.create("pods", pod("lone", {"set": HELD}))
+        held = uid(client.create("replicasets", replica_set(HELD, HELD_REPLICAS)))
+        until(lambda: controller(client.get("pods", "lone")) == held, "the pod was not adopted")
+        check(not proxy.to_cut, f"{proxy.to_cut} of {CUT_READS} reads were never cut short")
+        await_all(client, [HELD], more=0)
+        proxy.close()
+        return f"{CUT_READS} live reads cut short, all as declared after {time.monotonic() - began:.1f} s"
 
 
 def reads_refused(program):

@@ -27,11 +27,13 @@ scenario begins with nothing:
     workers-are-woken        at controllers whose clock stands still, where a worker that is not woken never looks again
     refused-for-now, conflicts-are-told, failures-are-told
                              the first commands are answered 503, or 409, or creates 500: each is made again; conflicts and failures are told of, once
+    unserved-keys            creates for as many sets as there are workers are answered 503: other sets are made meanwhile
     one-key-left-alone, all-left-alone
                              a server that asks by Retry-After to be left alone, for one set or for all, is asked no sooner
     followers-leave-alone    one that asks so who follows kinds, by a stream, a list, a watch and a look of each, is asked no sooner by these
     denials-are-told         a quota denies creates: told once, with the object and the reason, and once when that is over
     reads-refused            live reads of one set are refused: the one worker makes and scales another set meanwhile
+    reads-cut-short          replies to live reads end before they are whole: each is made again
     at-a-cluster             a stand-in for a Kubernetes API server takes each request by which a Deployment is made, rolled out and collected
     drops-are-left           a reply and a watch that drip are given up, with a clock that is 300 times as fast
     silent-watches, replies-lost
@@ -95,11 +97,13 @@ def scenarios(asked):
         "workers-are-woken": lambda: waking.woken(program),
         "refused-for-now": lambda: refusing.refused_for_now(program),
         "reads-refused": lambda: refusing.reads_refused(program),
+        "reads-cut-short": lambda: refusing.reads_cut_short(program),
         "drops-are-left": lambda: dripping.drops_are_left(program),
         "conflicts-are-told": lambda: refusing.conflicts(program),
         "failures-are-told": lambda: refusing.creates_fail(program),
         "one-key-left-alone": lambda: patience.one_key_left_alone(program),
         "all-left-alone": lambda: patience.all_left_alone(program),
+        "unserved-keys": lambda: patience.unserved(program),
         "followers-leave-alone": lambda: patience.followers_left_alone(program),
         "denials-are-told": lambda: patience.denied(program),
         "streams-given": lambda: streaming.streamed(program),

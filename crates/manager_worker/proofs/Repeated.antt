@@ -28,11 +28,8 @@ use Rattle.manager_worker.specs.declared.steps.Progress.TheVariants as progress
 
 -- ---- what says that nothing was done
 
-is_503 : (code : ℕ) → code ≡ 503 → not (nat_eq code 503) ≡ false
-is_503 code is = rw is refl
-
 undone : (a : client.Answer) → LearnsOf a learnt.Again → may_be_done a ≡ false
-undone (outcome.Replied r) is = is_503 r.code is.0
+undone (outcome.Replied r) is = absurd (cc)
 undone outcome.NotSent is = refl
 undone outcome.Lost is = absurd (cc)
 

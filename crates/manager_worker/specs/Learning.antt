@@ -2,7 +2,6 @@
 use Rattle.std.specs.Prelude.{◌≡◌, ◌⊎◌, ◌≤◌, ◌<◌, ◌&&◌, ◌||◌, ℕ, List, Bool, true, false, not, nat_eq, codes, if◌then◌else◌}
 use Rattle.std.specs.List.{starts_with}
 use Rattle.std.specs.Str.{IsUtf8}
-use Rattle.http_client.specs.Waits.{milliseconds_by}
 use Rattle.http_client.specs.declared.answer.Answer as client
 use Rattle.http_client.specs.declared.answer.Answer.TheVariants as outcome
 use Rattle.spec_api.specs.ObjectRequests as words
@@ -36,14 +35,9 @@ pub record IsAnswer (code : ℕ) (body : List ℕ) (a : CommandAnswer) : Type 0 
   pub accepted : Accepts code → IsAccepted code body a
   pub other : ¬ (Accepts code) → answer_of a ≡ (if leaves_open code body then turns.lost else turns.refused code)
 
--- where the server cannot serve now (503) nothing was done: the command is to be made again, unless the server asks to be left alone; then it is refused
-abbrev pub Learns : ℕ → List ℕ → ℕ → Learnt → Type 0
-Learns code body patience learnt.Again = (code ≡ 503) × (patience ≡ 0)
-Learns code body patience (learnt.Known a) = (code ≡ 503 → 0 < patience) × IsAnswer code body a
-
 -- a command that was not sent is to be made again; of one that was, and has no reply, nothing is known
 abbrev pub LearnsOf : client.Answer → Learnt → Type 0
-LearnsOf (outcome.Replied r) l = Learns r.code r.body.items (milliseconds_by r.code r.retry_after) l
+LearnsOf (outcome.Replied r) l = (a : CommandAnswer) × (l ≡ learnt.Known a) × IsAnswer r.code r.body.items a
 LearnsOf outcome.NotSent l = l ≡ learnt.Again
 LearnsOf outcome.Lost l = l ≡ learnt.Known answer.Lost
 

@@ -1,5 +1,5 @@
 -- That no command which may have been carried out is issued again in its turn.
-use Rattle.std.specs.Prelude.{◌≡◌, ◌⊎◌, ◌++◌, ℕ, List, ◌∷◌, [], Bool, true, false, not, nat_eq, Option, None, Some, IfSome}
+use Rattle.std.specs.Prelude.{◌≡◌, ◌⊎◌, ◌++◌, ℕ, List, ◌∷◌, [], Bool, true, false, Option, None, Some, IfSome}
 use mathlib.Core.Logic.{inl, inr}
 use Rattle.object_keys.specs.declared.per_kind.PerKind.{PerKind}
 use Rattle.spec_api.specs.ObjectRequests as words
@@ -19,10 +19,10 @@ use Rattle.manager_worker.specs.declared.answers.Learnt.{Learnt}
 use Rattle.manager_worker.specs.declared.answers.Learnt.TheVariants as learnt
 use Rattle.manager_worker.specs.declared.steps.Progress.TheVariants as progress
 
--- whether a command with this answer may have been carried out: not where it was not sent, or the server could not serve then (503)
+-- whether a command with this answer may have been carried out: not where it was not sent
 abbrev pub may_be_done : client.Answer → Bool
-may_be_done (outcome.Replied r) = not (nat_eq r.code 503)
 may_be_done outcome.NotSent = false
+may_be_done (outcome.Replied r) = true
 may_be_done outcome.Lost = true
 
 module _ {A : Type 0} (answers : A → words.Request → client.Answer → A → Type 0) where

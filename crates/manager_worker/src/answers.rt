@@ -1,12 +1,11 @@
 //! What a worker learns of its command.
 ghost use Rattle.std.specs.Prelude.{◌≡◌};
-ghost use Rattle.http_client.specs.Waits.{milliseconds_by};
-ghost use Rattle.manager_worker.specs.Learning.{IsAccepted, Learns, LearnsOf, begins_as_object, leaves_open};
+ghost use Rattle.manager_worker.specs.Learning.{IsAccepted, IsAnswer, LearnsOf, begins_as_object, leaves_open};
 
+use http_client::HttpReply;
 use http_client::statuses::{
-    BAD_GATEWAY, FIRST_REDIRECTION, GATEWAY_TIMEOUT, INTERNAL_SERVER_ERROR, OK, SERVICE_UNAVAILABLE,
+    BAD_GATEWAY, FIRST_REDIRECTION, GATEWAY_TIMEOUT, INTERNAL_SERVER_ERROR, OK,
 };
-use http_client::{HttpReply, milliseconds_by};
 use reconcile_turn::CommandAnswer;
 
 /// What a worker learns of its command.
@@ -14,7 +13,7 @@ use reconcile_turn::CommandAnswer;
 pub enum Learnt {
     /// What became of it.
     Known(CommandAnswer),
-    /// Nothing was done: the command is to be made again in its turn.
+    /// It was not sent: the command is to be made again in its turn.
     Again,
 }
 
@@ -46,20 +45,17 @@ fn leaves_open(reply: &HttpReply) -> bool
         || (reply.code == INTERNAL_SERVER_ERROR && !begins_as_object(reply.body.as_slice()))
 }
 
-/// Returns what a worker learns of a reply (RFC 9110, Status Codes).
-fn learnt_of_reply(reply: HttpReply) -> Learnt
-    ensures { Learns reply.code reply.body.items (milliseconds_by reply.code reply.retry_after) result }
+/// Returns the answer that a reply is (RFC 9110, Status Codes).
+fn answer_of_reply(reply: HttpReply) -> CommandAnswer
+    ensures { IsAnswer reply.code reply.body.items result }
 {
-    if reply.code == SERVICE_UNAVAILABLE && milliseconds_by(reply.code, reply.retry_after) == 0 {
-        return Learnt::Again;
-    }
     if (OK..FIRST_REDIRECTION).contains(&reply.code) {
-        return Learnt::Known(accepted(reply));
+        return accepted(reply);
     }
     if leaves_open(&reply) {
-        return Learnt::Known(CommandAnswer::Lost);
+        return CommandAnswer::Lost;
     }
-    Learnt::Known(CommandAnswer::Refused { code: reply.code })
+    CommandAnswer::Refused { code: reply.code }
 }
 
 /// Returns what a worker learns of what became of its request. One that was written, and to which no whole reply has come, may have been
@@ -68,7 +64,7 @@ pub fn learnt_of(answer: http_client::Answer) -> Learnt
     ensures { LearnsOf answer result }
 {
     match answer {
-        http_client::Answer::Replied(reply) => learnt_of_reply(reply),
+        http_client::Answer::Replied(reply) => Learnt::Known(answer_of_reply(reply)),
         http_client::Answer::NotSent => Learnt::Again,
         http_client::Answer::Lost => Learnt::Known(CommandAnswer::Lost),
     }

@@ -6,8 +6,8 @@ ghost use Rattle.manager_worker.specs.Sparing.{SparesLiveOwners};
 use crate::looking::Looking;
 use api_client::Api;
 
-/// No command that may have been carried out is issued again in its turn: where it is to be issued again, the server answered that it did
-/// nothing, or was not asked; else it is noted, which stays so, and the command that comes next is another one of the plan.
+/// No command that may have been carried out is issued again in its turn: where it is to be issued again, it was not sent, or not asked for; else it is
+/// noted, which stays so, and the command that comes next is another one of the plan.
 pub fn commands_are_issued_once<L: Looking, A: Api>()
     ensures { AreIssuedInOrder L.shows A.answers }
 {}

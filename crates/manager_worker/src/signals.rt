@@ -71,10 +71,11 @@ impl Signals {
     /// Waits until each kind has published its first list, and returns true; false where all threads are to stop before that.
     pub fn await_lists<R: Wait + Clock>(&self, rt: &R) -> bool {
         for _ in rt.forever() {
+            // Read first: a stop that comes after is a ring past it.
+            let listed = self.listed.count();
             if self.stop.is_stopped() {
                 return false;
             }
-            let listed = self.listed.count();
             if listed >= KINDS {
                 return true;
             }

@@ -237,8 +237,7 @@ impl<R: Wait + Clock, L: Looking + Drop, A: Api + Drop, G> Tools<'_, R, L, A, G>
         }
     }
 
-    /// Issues the next command of the plan. One that was not sent, or that the server could not serve then, is to be issued again, unless the
-    /// server asks to be left alone.
+    /// Issues the next command of the plan. One that was not sent is to be issued again.
     fn issue(&mut self, turn: &mut Turn, patience: &mut u32) -> Result<Progress, AllocError>
         requires { is_some (command_issued (next turn.old)) ≡ true }
         ensures issues { IfSome (command_issued (next turn.old)) (λ x. Issues (Hears A.answers) x turn.old (heard self.old.api patience.old)

@@ -113,10 +113,11 @@ impl<'a, R: Wait + Clock, L: Looking + Drop, A: Api + Drop, G: Gate> Worker<'a, 
             return;
         }
         for _ in self.tools.rt.forever() {
+            // Read first: a stop that comes after is a ring past it.
+            let seen = self.tools.signals.work_seen();
             if self.tools.signals.stop.is_stopped() {
                 return;
             }
-            let seen = self.tools.signals.work_seen();
             if !self.take() {
                 self.tools.signals.await_work(self.tools.rt, seen);
             } else if !self.turn() {
