@@ -1,3 +1,4 @@
 mod Ended
 mod Lifted
+mod Placed
 mod Replayed

@@ -1,5 +1,8 @@
 -- The turns of workers, each with a key.
 use Rattle.std.specs.Prelude.{◌≡◌, ℕ, List, Bool, true, false, ◌&&◌, Option, Some, None, slice_get, ⊤}
+use Rattle.spec_api.specs.declared.kinds.Kind.{Kind}
+use Rattle.spec_server.specs.Snapshots.{Snapshot}
+use Rattle.object_keys.specs.PerKind.{with_kind}
 use Rattle.object_keys.specs.declared.per_kind.PerKind.{PerKind}
 use Rattle.keyed_board.specs.declared.outcome.Outcome.{Outcome}
 use Rattle.controller_simulation.specs.declared.playback.Reached.{Reached}
@@ -11,6 +14,10 @@ use Rattle.controller_simulation.specs.declared.turns.Next.TheVariants.{Asks, En
 -- each kind was looked at
 abbrev pub has_looked : PerKind Bool → Bool
 has_looked l = l.config_maps && (l.pods && (l.replica_sets && l.deployments))
+
+-- a turn goes on that is shown this of a kind from now on
+abbrev pub HasLooked : {K : Type 0} → Kind → Snapshot → ControllerTurn K → ControllerTurn K → Type 0
+HasLooked k s t u = (u.key ≡ t.key) × (u.shown ≡ with_kind k s t.shown) × (u.looked ≡ with_kind k true t.looked) × (u.past.items ≡ t.past.items)
 
 -- where a reconcile ends, it ends so
 abbrev pub EndsBy : (Outcome → Type 0) → Next → Type 0

@@ -1,5 +1,5 @@
 -- What the steps of a world make of its cluster and of its board.
-use Rattle.std.specs.Prelude.{◌≡◌, ℕ, List, map, Option, Some, slice_get, ⊤}
+use Rattle.std.specs.Prelude.{◌≡◌, ℕ, List, map, length, replicate, Option, Some, None, true, false, slice_get, slice_set, ⊤}
 use Rattle.std.specs.declared.cmp.Ordering.{Ordering}
 use Rattle.spec_api.specs.declared.kinds.Kind.{Kind}
 use Rattle.spec_client_go.specs.Shifts.{Shift}
@@ -9,6 +9,8 @@ use Rattle.spec_sim.specs.Followers.{Notification}
 use Rattle.object_keys.specs.PerKind.{each_kind}
 use Rattle.object_keys.specs.declared.per_kind.PerKind.{PerKind}
 use Rattle.keyed_board.specs.Boards.{KeyBoard, begun, with_keys, taken, finished, ticked}
+use Rattle.keyed_board.specs.Said.{said}
+use Rattle.keyed_queues.specs.Queues.{handed}
 use Rattle.keyed_board.specs.declared.outcome.Outcome.{Outcome}
 use Rattle.reconciler.specs.Owing.{AreOwed}
 use Rattle.reconciler.specs.Unchanged.{all_unchanged}
@@ -16,10 +18,13 @@ use Rattle.sim_cluster.specs.Changes.{without_oldest}
 use Rattle.sim_cluster.specs.ClusterStates.{ClusterState, follower, published, step}
 use Rattle.sim_followers.specs.Outcomes.{outcome_of}
 use Rattle.controller_simulation.specs.Requests.{MayAsk}
-use Rattle.controller_simulation.specs.Turns.{turn_of}
+use Rattle.controller_simulation.specs.Acting.{Begins, GoesOn, HasAsked, Starts}
+use Rattle.controller_simulation.specs.Turns.{HasLooked, turn_of}
 use Rattle.controller_simulation.specs.declared.events.WorldEvent.{WorldEvent}
 use Rattle.controller_simulation.specs.declared.events.WorldEvent.TheVariants.{NoStep, InCluster, Restarted, Handled, OwedAgain, Took, Looked, Asked, Finished, Differs, Time}
+use Rattle.controller_simulation.specs.declared.fates.Fate.{Fate}
 use Rattle.controller_simulation.specs.declared.turns.ControllerTurn.{ControllerTurn}
+use Rattle.controller_simulation.specs.declared.worlds.ControllerWorld.{ControllerWorld}
 
 -- what is published of each kind
 abbrev pub shown_in : ClusterState → PerKind Snapshot
@@ -60,6 +65,23 @@ board_after says (Asked worker) b = b
 board_after says (Finished worker key outcome) b = finished (says key) outcome b
 board_after says (Differs worker) b = b
 board_after says (Time now) b = ticked now b
+
+-- ---- turns
+
+-- at most the turn of the worker changes that is told; after a restart no worker is in one
+abbrev pub TurnsAfter : {K N : Type 0} (R : N → N → Ordering) → (K → N) → WorldEvent K → ControllerWorld K → ControllerWorld K → Type 0
+TurnsAfter R says NoStep w v = v.turns.items ≡ w.turns.items
+TurnsAfter R says (InCluster o) w v = v.turns.items ≡ w.turns.items
+TurnsAfter R says Restarted w v = v.turns.items ≡ replicate (length w.turns.items) None
+TurnsAfter R says (Handled k keys) w v = v.turns.items ≡ w.turns.items
+TurnsAfter R says (OwedAgain keys) w v = v.turns.items ≡ w.turns.items
+TurnsAfter R says (Took worker false) w v = (v.turns.items ≡ w.turns.items) × (handed (said R says w.board).work ≡ None)
+TurnsAfter R says (Took worker true) w v = Starts (Begins says (said R says w.board)) worker w.turns.items v.turns.items
+TurnsAfter R says (Looked worker k) w v = GoesOn (HasLooked k (published k w.cluster)) worker w.turns.items v.turns.items
+TurnsAfter R says (Asked worker) w v = (f : Fate) × (line : List ℕ) × GoesOn (HasAsked f line w.cluster v.cluster) worker w.turns.items v.turns.items
+TurnsAfter R says (Finished worker key outcome) w v = v.turns.items ≡ slice_set w.turns.items worker None
+TurnsAfter R says (Differs worker) w v = v.turns.items ≡ w.turns.items
+TurnsAfter R says (Time now) w v = v.turns.items ≡ w.turns.items
 
 -- ---- what the controller allows
 

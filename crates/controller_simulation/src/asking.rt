@@ -2,8 +2,9 @@
 ghost use Rattle.std.specs.Prelude.{◌≡◌, ◌++◌, ◌∷◌, None, IfOk, IfSome, OnErr, OnOk, decimal};
 ghost use Rattle.sim_followers.specs.Outcomes.{outcome_of};
 ghost use Rattle.controller_simulation.specs.Answers.{came_of};
-ghost use Rattle.controller_simulation.specs.Requests.{Comes, IsReply, IsSaid, after_request};
+ghost use Rattle.controller_simulation.specs.Requests.{Comes, ComesOfSent, IsReply, IsSaid, after_request, after_sent, refusal_of};
 
+use crate::fates::Fate;
 use http_client::{Answer, HttpReply};
 use sim_cluster::Cluster;
 use sim_followers::ClusterOutcome;
@@ -56,16 +57,15 @@ fn reply_of(alloc: Global, told: &ClusterOutcome) -> Answer
     }
 }
 
-/// Asks the server a line, and has it come through or not. What came of it is what the server replied, or nothing where the reply is lost, or there is no
-/// memory for it; what is dropped was not sent, and the server has nothing of it. The error is running out of memory, and changes nothing.
-pub fn asked(
+/// Sends the server a line, and has it come through or not. The error is running out of memory, and changes nothing.
+fn sent(
     alloc: Global,
     cluster: &mut Cluster,
     line: &[u8],
     delivery: Delivery,
 ) -> Result<Answer, AllocError>
-    ensures cluster { OnOk result (cluster.new ≡ after_request delivery line.now cluster.old) }
-    ensures came { IfOk result (λ answer. Comes delivery line.now cluster.old (came_of answer)) }
+    ensures cluster { OnOk result (cluster.new ≡ after_sent delivery line.now cluster.old) }
+    ensures came { IfOk result (λ answer. ComesOfSent delivery line.now cluster.old (came_of answer)) }
     ensures err { OnErr result (cluster.new ≡ cluster.old) }
 {
     match delivery {
@@ -78,5 +78,37 @@ pub fn asked(
             Ok(Answer::Lost)
         }
         Delivery::Dropped => Ok(Answer::NotSent),
+    }
+}
+
+/// Returns the answer that refuses a request with a status code. The error is running out of memory.
+fn refused(alloc: Global, code: u16) -> Result<Answer, AllocError>
+    ensures { IfOk result (λ answer. came_of answer ≡ refusal_of code) }
+{
+    let mut body = Vec::new(alloc);
+    body.extend_from_slice(b"{}")?;
+    Ok(Answer::Replied(HttpReply {
+        code,
+        retry_after: None,
+        body,
+    }))
+}
+
+/// Asks the server a line, which comes through or not, or is refused. What came of it is what the server replied, or nothing where the reply is lost, or
+/// there is no memory for it; what is dropped was not sent, and what is refused was answered so, and the server has nothing of it. The error is running
+/// out of memory, and changes nothing.
+pub fn asked(
+    alloc: Global,
+    cluster: &mut Cluster,
+    line: &[u8],
+    fate: Fate,
+) -> Result<Answer, AllocError>
+    ensures cluster { OnOk result (cluster.new ≡ after_request fate line.now cluster.old) }
+    ensures came { IfOk result (λ answer. Comes fate line.now cluster.old (came_of answer)) }
+    ensures err { OnErr result (cluster.new ≡ cluster.old) }
+{
+    match fate {
+        Fate::Sent(delivery) => sent(alloc, cluster, line, delivery),
+        Fate::Refused(code) => refused(alloc, code),
     }
 }

@@ -23,6 +23,7 @@ impl<K: Named> ControllerWorld<K> {
         kind: Kind,
     ) -> Result<Option<Vec<K>>, AllocError>
         ensures handled { IfOk result (Handles K.order K.says C.owes kind self.old self.new) }
+        ensures turns { self.new.turns ≡ self.old.turns }
         ensures err { OnErr result (self.new.cluster ≡ self.old.cluster) }
         ensures err_board { OnErr result (said K.order K.says self.new.board ≡ said K.order K.says self.old.board) }
     {
@@ -44,6 +45,7 @@ impl<K: Named> ControllerWorld<K> {
         controller: &C,
     ) -> Result<Vec<K>, AllocError>
         ensures cluster { self.new.cluster ≡ self.old.cluster }
+        ensures turns { self.new.turns ≡ self.old.turns }
         ensures board { IfOk result (λ keys. said K.order K.says self.new.board ≡ with_keys (map K.says keys.items) (said K.order K.says self.old.board)) }
         ensures owed { IfOk result (λ keys. AreOwed (C.owes (shown_in self.old.cluster)) (all_unchanged (shown_in self.old.cluster)) keys.items) }
         ensures err { OnErr result (said K.order K.says self.new.board ≡ said K.order K.says self.old.board) }

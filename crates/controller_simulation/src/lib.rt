@@ -3,7 +3,9 @@
 #![tactic(auto)]
 
 pub mod asking;
+pub mod clients;
 pub mod events;
+pub mod fates;
 pub mod handling;
 pub mod past;
 pub mod places;
@@ -14,8 +16,10 @@ pub mod working;
 pub mod worlds;
 
 pub use events::WorldEvent;
+pub use fates::Fate;
 pub use past::PastRequest;
 pub use playback::{Playback, Reached};
+pub use steps::WorldStep;
 pub use turns::{ControllerTurn, Next};
 pub use working::{Issued, Taking};
 pub use worlds::ControllerWorld;

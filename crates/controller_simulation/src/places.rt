@@ -1,5 +1,5 @@
 //! The places of workers, each with its turn.
-ghost use Rattle.std.specs.Prelude.{◌≡◌, IfOk, None, option_map, replicate};
+ghost use Rattle.std.specs.Prelude.{◌≡◌, IfOk, None, Some, option_map, replicate, slice_set};
 ghost use Rattle.controller_simulation.specs.Turns.{is_idle, turn_of};
 
 use crate::turns::ControllerTurn;
@@ -44,25 +44,31 @@ pub fn turn_of<K: Named>(
 }
 
 /// Takes the turn that a worker is in out of its place, if there is such a worker and it is in one. It takes no memory.
+#[tactic(auto, using(crate::proofs::Placed::past_turn, crate::proofs::Placed::past_left, crate::proofs::Placed::here_turn))]
 pub fn taken_out<K: Named>(
-    places: &mut [Option<ControllerTurn<K>>],
+    places: &mut Vec<Option<ControllerTurn<K>>>,
     worker: u64,
 ) -> Option<ControllerTurn<K>>
-    ensures { result ≡ turn_of worker places.old }
+    ensures turn { result ≡ turn_of worker places.old.items }
+    ensures left { places.new.items ≡ slice_set places.old.items worker None }
 {
-    match places.get_mut(worker as usize) {
-        Some(place) => place.take(),
-        None => None,
+    if worker as usize >= places.len() {
+        return None;
     }
+    places[worker as usize].take()
 }
 
 /// Puts a turn into the place of a worker; where there is no such worker, it is let go. It takes no memory.
+#[tactic(auto, using(crate::proofs::Placed::past_left))]
 pub fn put<K: Named>(
-    places: &mut [Option<ControllerTurn<K>>],
+    places: &mut Vec<Option<ControllerTurn<K>>>,
     worker: u64,
     turn: ControllerTurn<K>,
-) {
-    if let Some(place) = places.get_mut(worker as usize) {
-        *place = Some(turn);
+)
+    ensures { places.new.items ≡ slice_set places.old.items worker (Some turn) }
+{
+    if worker as usize >= places.len() {
+        return;
     }
+    places[worker as usize] = Some(turn);
 }

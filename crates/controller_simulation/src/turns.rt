@@ -1,11 +1,12 @@
 //! A worker's turn with a key.
-ghost use Rattle.std.specs.Prelude.{◌≡◌, false, true, [], IfOk, OnOk, OnErr};
-ghost use Rattle.object_keys.specs.PerKind.{each_kind, with_kind};
-ghost use Rattle.controller_simulation.specs.Requests.{MayAsk};
-ghost use Rattle.controller_simulation.specs.Turns.{EndsBy, IsNext, has_looked};
-ghost use Rattle.controller_simulation.specs.Replayed.{EndsAsNoted};
+ghost use Rattle.std.specs.Prelude.{◌≡◌, false, true, not, [], IfOk, OnOk, OnErr, string_bytes};
+ghost use Rattle.object_keys.specs.PerKind.{each_kind, of_kind, with_kind};
+ghost use Rattle.controller_simulation.specs.Acting.{HasAsked};
+ghost use Rattle.controller_simulation.specs.Turns.{EndsBy, HasLooked, IsNext, has_looked};
+ghost use Rattle.controller_simulation.specs.Replayed.{ActsAsNoted};
 
 use crate::asking::asked;
+use crate::fates::Fate;
 use crate::past::PastRequest;
 use crate::playback::{Playback, Reached};
 use indexer::Indexed;
@@ -13,7 +14,6 @@ use keyed_queues::Named;
 use object_keys::PerKind;
 use reconciler::{Outcome, Reconciler};
 use sim_cluster::Cluster;
-use sim_steps::Delivery;
 use spec_api::kinds::Kind;
 use std::alloc::{AllocError, Global};
 
@@ -106,7 +106,7 @@ impl<K: Named> ControllerTurn<K> {
     /// The error is running out of memory.
     pub fn next<C: Reconciler<K>>(&self, alloc: Global, controller: &C) -> Result<Next, AllocError>
         ensures ends { IfOk result (EndsBy (C.ends self.now.key self.now.shown)) }
-        ensures acts { IfOk result (EndsAsNoted C.says_acts C.acts self.now.key self.now.shown self.now.past.items) }
+        ensures acts { IfOk result (ActsAsNoted C.says_acts C.acts self.now.key self.now.shown self.now.past.items) }
     {
         let mut api = Playback::new(self.past.as_slice());
         let outcome = controller.reconcile(alloc, &self.key, &self.shown, &mut api);
@@ -123,7 +123,11 @@ impl<K: Named> ControllerTurn<K> {
     }
 
     /// Returns the turn once a kind was looked at, and whether it was not before: what was shown stays.
-    pub(crate) fn looked_at(self, kind: Kind, published: Indexed) -> (ControllerTurn<K>, bool) {
+    pub(crate) fn looked_at(self, kind: Kind, published: Indexed) -> (ControllerTurn<K>, bool)
+        ensures looks { result.1 ≡ not (of_kind kind self.looked) }
+        ensures shown { result.1 ≡ true → HasLooked kind published self result.0 }
+        ensures same { result.1 ≡ false → result.0 ≡ self }
+    {
         let mut turn = self;
         if *turn.looked.get(kind) {
             return (turn, false);
@@ -138,13 +142,13 @@ impl<K: Named> ControllerTurn<K> {
         alloc: Global,
         cluster: &mut Cluster,
         line: String,
-        delivery: Delivery,
+        fate: Fate,
     ) -> Result<(), AllocError>
-        ensures cluster { OnOk result (MayAsk cluster.old cluster.new) }
+        ensures asked { OnOk result (HasAsked fate (string_bytes line) cluster.old cluster.new self.old self.new) }
         ensures err { OnErr result (cluster.new ≡ cluster.old) }
     {
         self.past.reserve(1)?;
-        let answer = asked(alloc, cluster, line.as_str().as_bytes(), delivery)?;
+        let answer = asked(alloc, cluster, line.as_str().as_bytes(), fate)?;
         self.past.push_reserved(PastRequest { line, answer });
         Ok(())
     }
@@ -155,13 +159,13 @@ impl<K: Named> ControllerTurn<K> {
         alloc: Global,
         cluster: &mut Cluster,
         line: String,
-        delivery: Delivery,
+        fate: Fate,
     ) -> (ControllerTurn<K>, Result<(), AllocError>)
-        ensures cluster { OnOk result.1 (MayAsk cluster.old cluster.new) }
+        ensures asked { OnOk result.1 (HasAsked fate (string_bytes line) cluster.old cluster.new self result.0) }
         ensures err { OnErr result.1 (cluster.new ≡ cluster.old) }
     {
         let mut turn = self;
-        let asked = turn.ask(alloc, cluster, line, delivery);
+        let asked = turn.ask(alloc, cluster, line, fate);
         (turn, asked)
     }
 }

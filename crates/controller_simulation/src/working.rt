@@ -1,11 +1,11 @@
 //! What workers do: they take keys, look, ask one request after another, and give their keys back.
+use crate::fates::Fate;
 use crate::places::{is_idle, put, taken_out, turn_of};
 use crate::turns::{ControllerTurn, Next};
 use crate::worlds::ControllerWorld;
 use keyed_board::Outcome;
 use keyed_queues::Named;
 use reconciler::Reconciler;
-use sim_steps::Delivery;
 use spec_api::kinds::Kind;
 use std::alloc::{AllocError, Global};
 
@@ -32,45 +32,54 @@ pub enum Issued {
 }
 
 impl<K: Named> ControllerWorld<K> {
-    ghost use Rattle.std.specs.Prelude.{◌≡◌, IfOk, IfSome, OnErr, OnOk};
+    ghost use Rattle.std.specs.Prelude.{◌≡◌, IfOk, IfSome, OnErr, OnOk, is_some, true};
     ghost use Rattle.keyed_board.specs.Said.{said};
-    ghost use Rattle.controller_simulation.specs.Requests.{MayAsk};
     ghost use Rattle.controller_simulation.specs.declared.turns.Next.TheVariants.{Ends};
-    ghost use Rattle.controller_simulation.specs.Working.{ComesNext, EndsFor, Issues, Takes};
+    ghost use Rattle.keyed_queues.specs.Queues.{handed};
+    ghost use Rattle.sim_cluster.specs.ClusterStates.{published};
+    ghost use Rattle.controller_simulation.specs.Turns.{turn_of};
+    ghost use Rattle.controller_simulation.specs.Working.{AsksBy, BeginsTurn, ComesNext, EndsFor, Issues, LooksAt, Takes, can_take, looks_now, taking_of};
+
+    /// Returns whether a worker may take a key. It takes no memory.
+    fn can_take(&self, worker: u64) -> bool
+        ensures { result ≡ can_take worker self.now.turns.items self.now.cluster }
+    {
+        is_idle(self.turns.as_slice(), worker) && self.cluster.has_synced()
+    }
 
     /// Has a worker that is in no turn take the key that waits longest, once the first list of each kind was published.
     /// The error is running out of memory, and changes nothing.
     pub fn take(&mut self, alloc: Global, worker: u64) -> Result<Taking, AllocError>
         ensures cluster { self.new.cluster ≡ self.old.cluster }
         ensures takes { IfOk result (λ took. Takes K.order K.says self.old self.new took) }
+        ensures turns { IfOk result (λ took. BeginsTurn K.order K.says worker self.old self.new took) }
+        ensures taking { IfOk result (λ took. took ≡ taking_of (can_take worker self.old.turns.items self.old.cluster) (handed (said K.order K.says self.old.board).work)) }
         ensures err { OnErr result (said K.order K.says self.new.board ≡ said K.order K.says self.old.board) }
     {
-        if !is_idle(self.turns.as_slice(), worker) || !self.cluster.has_synced() {
+        if !self.can_take(worker) {
             return Ok(Taking::NotOpen);
         }
         let Some(key) = self.board.take()? else {
             return Ok(Taking::NoneWaits);
         };
-        put(
-            self.turns.as_mut_slice(),
-            worker,
-            ControllerTurn::begun(alloc, key),
-        );
+        put(&mut self.turns, worker, ControllerTurn::begun(alloc, key));
         Ok(Taking::Took)
     }
 
-    /// Has a worker look at what is published of a kind, if it is in a turn and has not looked at that kind yet, and returns whether it did. The error is
-    /// running out of memory.
+    /// Has a worker look at what is published of a kind, if it is in a turn and has not looked at that kind yet, and returns whether it did: its turn is
+    /// shown that from then on. The error is running out of memory.
     pub fn look(&mut self, worker: u64, kind: Kind) -> Result<bool, AllocError>
         ensures cluster { self.new.cluster ≡ self.old.cluster }
         ensures board { said K.order K.says self.new.board ≡ said K.order K.says self.old.board }
+        ensures looks { IfOk result (λ looks. looks ≡ looks_now worker kind self.old.turns.items) }
+        ensures turns { IfOk result (λ looks. LooksAt worker kind (published kind self.old.cluster) self.old.turns.items self.new.turns.items looks) }
     {
         let published = self.cluster.published(kind).try_copy()?;
-        match taken_out(self.turns.as_mut_slice(), worker) {
+        match taken_out(&mut self.turns, worker) {
             None => Ok(false),
             Some(turn) => {
                 let (turn, looks) = turn.looked_at(kind, published);
-                put(self.turns.as_mut_slice(), worker, turn);
+                put(&mut self.turns, worker, turn);
                 Ok(looks)
             }
         }
@@ -98,17 +107,18 @@ impl<K: Named> ControllerWorld<K> {
         alloc: Global,
         worker: u64,
         line: String,
-        delivery: Delivery,
+        fate: Fate,
     ) -> Result<(), AllocError>
-        ensures cluster { OnOk result (MayAsk self.old.cluster self.new.cluster) }
+        requires { is_some (turn_of worker self.old.turns.items) ≡ true }
+        ensures asked { OnOk result (AsksBy fate worker self.old self.new) }
         ensures board { said K.order K.says self.new.board ≡ said K.order K.says self.old.board }
         ensures err { OnErr result (self.new.cluster ≡ self.old.cluster) }
     {
-        match taken_out(self.turns.as_mut_slice(), worker) {
+        match taken_out(&mut self.turns, worker) {
             None => Ok(()),
             Some(turn) => {
-                let (turn, asked) = turn.asks(alloc, &mut self.cluster, line, delivery);
-                put(self.turns.as_mut_slice(), worker, turn);
+                let (turn, asked) = turn.asks(alloc, &mut self.cluster, line, fate);
+                put(&mut self.turns, worker, turn);
                 asked
             }
         }
@@ -121,15 +131,15 @@ impl<K: Named> ControllerWorld<K> {
         alloc: Global,
         controller: &C,
         worker: u64,
-        delivery: Delivery,
+        fate: Fate,
     ) -> Result<Issued, AllocError>
-        ensures issues { IfOk result (Issues self.old.cluster self.new.cluster) }
+        ensures issues { IfOk result (Issues fate worker self.old self.new) }
         ensures board { said K.order K.says self.new.board ≡ said K.order K.says self.old.board }
         ensures err { OnErr result (self.new.cluster ≡ self.old.cluster) }
     {
         match self.next(alloc, controller, worker)? {
             Some(Next::Asks(line)) => {
-                self.ask(alloc, worker, line, delivery)?;
+                self.ask(alloc, worker, line, fate)?;
                 Ok(Issued::Made)
             }
             Some(Next::Differs) => Ok(Issued::Differs),
@@ -150,13 +160,13 @@ impl<K: Named> ControllerWorld<K> {
         ensures ends { IfOk result (EndsFor K.order K.says C.ends worker self.old self.new) }
         ensures err { OnErr result (said K.order K.says self.new.board ≡ said K.order K.says self.old.board) }
     {
-        let Some(turn) = taken_out(self.turns.as_mut_slice(), worker) else {
+        let Some(turn) = taken_out(&mut self.turns, worker) else {
             return Ok(None);
         };
         match self.board.finish(&turn.key, outcome) {
             Ok(()) => Ok(Some((turn.into_key(), outcome))),
             Err(refused) => {
-                put(self.turns.as_mut_slice(), worker, turn);
+                put(&mut self.turns, worker, turn);
                 Err(refused)
             }
         }

@@ -22,15 +22,8 @@ pub struct ControllerWorld<K: Named> {
     pub time: u64,
 }
 
-/// Lets go of all turns. It takes no memory.
-fn end_all<K: Named>(turns: &mut [Option<ControllerTurn<K>>]) {
-    for turn in turns.iter_mut() {
-        *turn = None;
-    }
-}
-
 impl<K: Named> ControllerWorld<K> {
-    ghost use Rattle.std.specs.Prelude.{◌≡◌, ◌+◌, ◌^◌, ◌-◌, IfOk, OnErr, OnOk, None, min, replicate};
+    ghost use Rattle.std.specs.Prelude.{◌≡◌, ◌+◌, ◌^◌, ◌-◌, IfOk, OnErr, OnOk, None, length, min, replicate};
     ghost use Rattle.keyed_board.specs.Boards.{begun, ticked};
     ghost use Rattle.keyed_board.specs.Said.{said};
     ghost use Rattle.sim_cluster.specs.ClusterStates.{opened, step};
@@ -76,6 +69,7 @@ impl<K: Named> ControllerWorld<K> {
         ensures cluster { OnOk result (self.new.cluster ≡ (step self.old.cluster (step_of wanted.entry)).cluster) }
         ensures outcome { IfOk result (λ o. outcome_of o ≡ (step self.old.cluster (step_of wanted.entry)).outcome) }
         ensures board { said K.order K.says self.new.board ≡ said K.order K.says self.old.board }
+        ensures turns { self.new.turns ≡ self.old.turns }
         ensures err { OnErr result (self.new.cluster ≡ self.old.cluster) }
     {
         self.cluster.step(alloc, wanted)
@@ -86,13 +80,15 @@ impl<K: Named> ControllerWorld<K> {
     pub fn restart(&mut self, alloc: Global) -> Result<(), AllocError>
         ensures cluster { OnOk result (self.new.cluster ≡ (step self.old.cluster restart).cluster) }
         ensures board { OnOk result (said K.order K.says self.new.board ≡ begun) }
+        ensures turns { OnOk result (self.new.turns.items ≡ replicate (length self.old.turns.items) None) }
         ensures time { OnOk result (self.new.time ≡ 0) }
         ensures err { OnErr result (self.new.cluster ≡ self.old.cluster) }
         ensures err_board { OnErr result (said K.order K.says self.new.board ≡ said K.order K.says self.old.board) }
     {
+        let turns = empty(alloc, self.turns.len())?;
         self.cluster.step(alloc, Step::Restart)?;
         self.board = KeyedBoard::new(alloc);
-        end_all(self.turns.as_mut_slice());
+        self.turns = turns;
         self.time = 0;
         Ok(())
     }
@@ -102,6 +98,7 @@ impl<K: Named> ControllerWorld<K> {
     pub fn tick(&mut self, milliseconds: u64) -> Result<u64, AllocError>
         ensures cluster { self.new.cluster ≡ self.old.cluster }
         ensures board { IfOk result (λ now. said K.order K.says self.new.board ≡ ticked now (said K.order K.says self.old.board)) }
+        ensures turns { self.new.turns ≡ self.old.turns }
         ensures time { IfOk result (λ now. (now ≡ min (self.old.time + milliseconds) (2 ^ 64 - 1)) × (self.new.time ≡ now)) }
         ensures err { OnErr result (said K.order K.says self.new.board ≡ said K.order K.says self.old.board) }
     {
